@@ -70,7 +70,8 @@ impl ProofState {
         let size = clause.size();
         let is_empty = clause.literals().is_empty();
         place_steps(&mut self.steps, &self.register, lines);
-        self.register.push(clause, hash, self.steps.len() as u64 - 1);
+        self.register
+            .push(clause, hash, self.steps.len() as u64 - 1);
         self.queue.push(number, size).unwrap();
         if is_empty {
             self.ended = Some(Outcome::Refuted);

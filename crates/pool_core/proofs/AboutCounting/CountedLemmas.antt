@@ -51,7 +51,7 @@ use Rattle.pool_core.proofs.AboutBounds.JobLemmas.{Rising}
 use Rattle.pool_core.proofs.AboutLines.JoinedLemmas.{by-test, get-left}
 use Rattle.pool_core.proofs.AboutRecords.PlaceLemmas.{has-left, has-right, has-first, has-each, all-kept}
 use Rattle.pool_core.proofs.AboutBounds.TimeLemmas.{event-moves}
-use Rattle.pool_core.proofs.AboutCounting.CountedRecords.{Accounts, AreNew, IsInferred, IsMet, IsTally, Longer, Lookup, Tallied, TellsBefore, each-weaker, front, front-taken, has-kept, never-both, number-passes, tallied-longer, tallied-registers, tells-longer, tells-now}
+use Rattle.pool_core.proofs.AboutCounting.CountedRecords.{all-proposed-tallied, counts-tallied, Accounts, AreNew, IsInferred, IsMet, IsTally, Longer, Lookup, Tallied, TellsBefore, each-weaker, front, front-taken, has-kept, inferred-told, never-both, no-replaced, number-passes, removed-tallied, tallied-longer, tallied-registers, tells-longer, tells-now}
 
 -- ---- right batches
 

@@ -309,7 +309,7 @@ module _ (is_predicate : ℕ → Bool) (mode : SelectionMode) where
     spends-tallied (Some lines) r tallied =
         tallied-registers r (result_comes options.split r lines) (result-registers options.split r lines) tallied
 
-    counts-tallied :
+    pub counts-tallied :
         (keys : List Key) (results : List (List Line)) (r : PoolRecord) → AreNew r keys → Tallied r → Tallied (counts options keys results r)
     counts-tallied keys results r new tallied =
         let s : PoolRecord = with_keys keys r in
@@ -320,7 +320,7 @@ module _ (is_predicate : ℕ → Bool) (mode : SelectionMode) where
 
     -- ---- a clause that dies
 
-    no-replaced : (registered : List Registered) (n : ℕ) (key : Key) → IsInferred registered key → key ≡ Replaced n → ⊥
+    pub no-replaced : (registered : List Registered) (n : ℕ) (key : Key) → IsInferred registered key → key ≡ Replaced n → ⊥
     no-replaced registered n key is same = (subst (IsInferred registered) same is).1
 
     same-replaced : (n m : ℕ) → Replaced n ≡ Replaced m → n ≡ m
@@ -360,7 +360,7 @@ module _ (is_predicate : ℕ → Bool) (mode : SelectionMode) where
       deaths = (record { victim = victim; event = r.events; justifiers = justifiers } ∷ [], refl);
     }
 
-    removed-tallied : (m : Removal) (r : PoolRecord) → lives r m.victim ≡ true → Tallied r → Tallied (removed options m r)
+    pub removed-tallied : (m : Removal) (r : PoolRecord) → lives r m.victim ≡ true → Tallied r → Tallied (removed options m r)
     removed-tallied m r alive tallied = by m.fate
       where
         dead : Tallied (dies m.victim m.justifiers r)
@@ -372,7 +372,7 @@ module _ (is_predicate : ℕ → Bool) (mode : SelectionMode) where
         by (Dropped redundancy) = dead
         by Heavy = dead
 
-    all-proposed-tallied : (ms : List Removal) (r : PoolRecord) → Tallied r → Tallied (fold (proposed options) r ms)
+    pub all-proposed-tallied : (ms : List Removal) (r : PoolRecord) → Tallied r → Tallied (fold (proposed options) r ms)
     all-proposed-tallied [] r tallied = tallied
     all-proposed-tallied (m ∷ ms) r tallied =
         all-proposed-tallied ms (proposed options r m)
@@ -406,7 +406,7 @@ module _ (is_predicate : ℕ → Bool) (mode : SelectionMode) where
         by true h = h
         by false h = absurd (none-some c h)
 
-    inferred-told :
+    pub inferred-told :
         (j : GivenJob) (registered : List Registered) (key : Key) (c : TreeClause) (heavy : Bool)
         → IsSizedInference is_predicate mode (among (is_told j) (Lookup registered)) key c heavy → IsInferred registered key
     inferred-told j registered key c heavy is = (

@@ -69,15 +69,15 @@ clean-puts κ v = by (is_truth (κ v)) refl
     by true is = refl
     by false is = is
 
-arguments : Tree → Trees
+abbrev arguments : Tree → Trees
 arguments (variable v) = no_trees
 arguments (application f ts) = ts
 
-first-of : Trees → Tree
+abbrev first-of : Trees → Tree
 first-of no_trees = variable 0
 first-of (tree_then t ts) = t
 
-others-of : Trees → Trees
+abbrev others-of : Trees → Trees
 others-of no_trees = no_trees
 others-of (tree_then t ts) = ts
 
