@@ -1,26 +1,25 @@
 -- A pool after a claim.
-use Rattle.std.proofs.Common.{◌≡◌, ℕ, zero, suc, ◌+◌, ◌-◌, ◌%◌, ◌<◌, ◌≤◌, Bool, true, false, not, ◌&&◌, ◌||◌, ◌==◌, List, [], ◌∷◌, ◌++◌, map, length, append-nil, refl, ap, ap₂, sym, ◌∙◌, subst, inl, inr, ⊎_elim, arith}
-use Rattle.std.specs.Prelude.{Option, None, Some, cond, nat_lt, if◌then◌else◌, find, filter, position, slice_get, is_some, option_map, unwrap_or, vec_len, vec_capacity, All, Contains, IsFalse}
-use Rattle.std.specs.List.{range_with_len, position_or_len}
+use Rattle.std.proofs.Common.{◌≡◌, ℕ, suc, ◌+◌, ◌-◌, ◌%◌, ◌<◌, ◌≤◌, Bool, true, false, not, ◌&&◌, ◌||◌, ◌==◌, List, [], ◌∷◌, ◌++◌, map, length, append-nil, refl, ap, ap₂, sym, ◌∙◌, subst, ⊎_elim, arith}
+use Rattle.std.specs.Prelude.{Option, None, Some, cond, if◌then◌else◌, position, slice_get, is_some, option_map, unwrap_or, vec_len, vec_capacity, All, Contains, IsFalse}
+use Rattle.std.specs.List.{position_or_len}
 use Rattle.std.specs.Ordering.{nat_cmp}
 use Rattle.std.specs.BTreeMap.{insert_entry}
 use Rattle.std.proofs.Math.ListN.{set}
-use Rattle.std.proofs.Math.Seq.{map-set_same, drop-append_seam, drop-length}
-use Rattle.std.proofs.lemmas.Bool.{true≢false, and_parts, and_from, le-ltb, eq-eqb, ne_eqb, eqb-false, cond-true, cond-false, or_parts, or_left, or_right}
+use Rattle.std.proofs.Math.Seq.{map-set_same}
+use Rattle.std.proofs.lemmas.Bool.{true≢false, and_from, eq-eqb, ne_eqb, eqb-false, cond-true, cond-false, or_left, or_right}
 use Rattle.std.proofs.lemmas.List.{length-append, map-append}
 use Rattle.std.proofs.lemmas.List.Elements.{All-set, All-push, All-weaker}
 use Rattle.std.proofs.lemmas.List.Folds.{list_any-append, position_or_len_push}
 use Rattle.std.proofs.lemmas.Option.{none-some, get_or_from_slice_get, slice_get_within}
-use Rattle.fol_base.specs.Clause.{clause_size}
 use Rattle.kernel_steps.specs.Conclusion.{empty_clause}
 use Rattle.kernel_steps.specs.Split.{has_number}
 use Rattle.term_bank.specs.declared.table.Table.{Table}
 use Rattle.bank_clause.specs.Clause.{clause_at}
 use Rattle.clause_queue.specs.Pairs.{without, numbers}
 use Rattle.pool_core.specs.CountedList.{keys_in}
-use Rattle.pool_core.specs.Record.{PoolRecord, Registered, Death, GivenJob, clauses_of, clause_numbered, numbers_of, lives, is_out, waits, is_awake, position_of, given_job, jobs_out}
-use Rattle.pool_core.specs.Claiming.{ready, next_given, can_give, new_job, given_out, claimed_by}
-use Rattle.pool_core.specs.Replay.{Origin, with_events, after, replay}
+use Rattle.pool_core.specs.Record.{PoolRecord, Registered, GivenJob, clauses_of, clause_numbered, position_of, given_job, jobs_out}
+use Rattle.pool_core.specs.Claiming.{ready, next_given, can_give, new_job}
+use Rattle.pool_core.specs.Replay.{Origin, after, replay}
 use Rattle.pool_core.specs.News.{TreeChange, changes_between, news_since}
 use Rattle.pool_core.specs.Noted.{IsNoted, IsNextTicket, clause_in, change_at, first_told}
 use Rattle.pool_core.specs.Answers.{IsTicket}
@@ -30,7 +29,7 @@ use Rattle.pool_core.specs.Outcomes.{outcome_of, outcome_by, heavy_or_saturated,
 use Rattle.pool_core.specs.Events.{events_of}
 use Rattle.pool_core.specs.Register.{at_position}
 use Rattle.pool_core.specs.Started.{registered_at, IsOfTable}
-use Rattle.pool_core.specs.State.{origin_of, IsRegistration, AreOfRegistered, IsStateOf, IsPool, job_entry, pair_of}
+use Rattle.pool_core.specs.State.{origin_of, IsRegistration, AreOfRegistered, IsStateOf, IsPool, job_entry}
 use Rattle.pool_core.specs.declared.options.Options.{Options}
 use Rattle.pool_core.specs.declared.outcome.Outcome.{Outcome}
 use Rattle.pool_core.specs.declared.event.Event.{Event}
@@ -41,13 +40,13 @@ use Rattle.pool_core.specs.declared.pool.Note.TheVariants.{Activated}
 use Rattle.pool_core.specs.declared.pool.Pool.TheInside.{Inside}
 use Rattle.pool_core.specs.declared.register.Registration.{Registration}
 use Rattle.pool_core.specs.declared.ticket.Ticket.{Ticket}
-use Rattle.pool_core.proofs.AboutRecords.EditLemmas.{at-set, filter-less, filter-pairs, RisingBy, insert-last}
+use Rattle.pool_core.proofs.AboutRecords.EditLemmas.{at-set, insert-last}
 use Rattle.pool_core.proofs.AboutRecords.FrameLemmas.{by-if}
 use Rattle.pool_core.proofs.AboutClaims.HistoryLemmas.{event-count, replay-end, news-end}
-use Rattle.pool_core.proofs.AboutBounds.JobLemmas.{Rising, rising-bound}
-use Rattle.pool_core.proofs.AboutClaims.PickLemmas.{In, given-in, number-in}
+use Rattle.pool_core.proofs.AboutBounds.JobLemmas.{Rising}
+use Rattle.pool_core.proofs.AboutClaims.PickLemmas.{given-in, number-in}
 use Rattle.pool_core.proofs.AboutBeginnings.StartLemmas.{all-at}
-use Rattle.pool_core.proofs.AboutRecords.RegisterLemmas.{none-place, found-place, position-end-new, position-end-old}
+use Rattle.pool_core.proofs.AboutRecords.RegisterLemmas.{found-place, position-end-new, position-end-old}
 use Rattle.pool_core.proofs.AboutClaims.StateLemmas.{clause-in, record_of, pool-rises, one-more-event, clause-there, clause-numbered, registered-count, given-count}
 use Rattle.pool_core.proofs.AboutClaims.ClaimedRecords.{absent-place, absent-position, after-claim, changes-claimed, claim_after, find-last, given-waits, has-no-position, has-position, positions_with, present-place, ready-claimed, rising-by, told-first}
 

@@ -1,14 +1,13 @@
 -- Records in which no key stands twice among the counted ones, and what their jobs are told.
-use Rattle.std.proofs.Common.{◌≡◌, ◌≢◌, ℕ, zero, suc, ◌+◌, ◌≤◌, ◌⊎◌, Bool, true, false, not, ◌&&◌, ◌||◌, ◌==◌, List, [], ◌∷◌, ◌++◌, map, length, take, append-nil, refl, ap, sym, ◌∙◌, inl, inr, ⊎_elim, subst, arith}
+use Rattle.std.proofs.Common.{◌≡◌, ◌≢◌, ℕ, zero, suc, ◌+◌, ◌⊎◌, Bool, true, false, not, ◌&&◌, ◌||◌, ◌==◌, List, [], ◌∷◌, ◌++◌, length, take, append-nil, refl, ap, sym, ◌∙◌, inl, inr, ⊎_elim, subst, arith}
 use Rattle.std.specs.Prelude.{Option, None, Some, cond, is_none, nat_le, nat_lt, fold, find, filter, take_while, slice_get, option_map, All, AllPairs, if◌then◌else◌}
 use Rattle.std.specs.List.{prefix_len, list_all, AllByRecursion}
-use Rattle.std.proofs.lemmas.Bool.{true≢false, and_parts, and_from, or_cases, or_left, or_right, not-true, eqb-true, eq-eqb, ne_eqb}
-use Rattle.std.proofs.lemmas.List.Elements.{All-nil, All-cons, All-head, All-tail, All-append, All-weaker, All-from_recursion, recursion_from_All}
+use Rattle.std.proofs.lemmas.Bool.{true≢false, and_parts, or_cases, or_left, or_right, not-true, eqb-true, eq-eqb}
+use Rattle.std.proofs.lemmas.List.Elements.{All-nil, All-cons, All-head, All-tail, All-append, All-weaker}
 use Rattle.std.proofs.lemmas.List.Folds.{list_any-append}
 use Rattle.std.proofs.lemmas.List.Kept.{AllPairs-cons}
-use Rattle.std.proofs.lemmas.Option.{none-some, same_Some}
+use Rattle.std.proofs.lemmas.Option.{none-some}
 use Rattle.fol_base.specs.Clause.{TreeClause}
-use Rattle.fol_base.specs.Literal.{clause_of}
 use Rattle.fol_base.specs.Selection.{SelectionMode}
 use Rattle.fol_base.proofs.WorkedExamples.TestLemmas.{option_map-some}
 use Rattle.kernel_steps.specs.Named.{IsInference}
@@ -17,40 +16,21 @@ use Rattle.kernel_steps.specs.Split.{has_number}
 use Rattle.kernel_steps.specs.declared.key.Key.{Key}
 use Rattle.kernel_steps.specs.declared.key.Key.TheVariants.{Para, Refl, Factor, Replaced}
 use Rattle.kernel_steps.specs.declared.step.Line.{Line}
-use Rattle.literal_selection.specs.Mode.{mode_of}
 use Rattle.calculus.specs.Lifting.{among}
-use Rattle.sat_core.specs.declared.answer.Chain as log
-use Rattle.pool_core.specs.Record.{PoolRecord, Registered, Death, GivenJob, SolverJob, clauses_of, has_died, lives, told_now, given_job, without_job, nothing_registered}
-use Rattle.pool_core.specs.Counting.{keys_of, lines_of_entries, refutes, result_comes, spends, counts}
-use Rattle.pool_core.specs.Returning.{dies, replaced, removed, takes_effect, proposed, becomes_active, sets_aside, worked, returns_to}
-use Rattle.pool_core.specs.Solving.{modelled_by, refuted_by}
-use Rattle.pool_core.specs.Claiming.{new_job, next_given, claimed_by}
+use Rattle.pool_core.specs.Record.{PoolRecord, Registered, Death, GivenJob, has_died, lives, told_now}
+use Rattle.pool_core.specs.Counting.{refutes, result_comes, spends, counts}
+use Rattle.pool_core.specs.Returning.{dies, replaced, removed, takes_effect, proposed}
 use Rattle.pool_core.specs.Outcomes.{premises}
-use Rattle.pool_core.specs.Batches.{is_told, told_before, IsRightFate, IsRightWork, is_to_meet}
-use Rattle.pool_core.specs.Replay.{Origin, retold, after, start, replay}
-use Rattle.pool_core.specs.Lawful.{IsAllowed, IsLawfulFrom}
-use Rattle.pool_core.specs.Laws.{IsCounted, CountedOnce}
-use Rattle.pool_core.specs.Told.{GivenAreTold}
+use Rattle.pool_core.specs.Batches.{is_told}
 use Rattle.pool_core.specs.declared.options.Options.{Options}
-use Rattle.pool_core.specs.declared.batch.Batch.{Batch}
-use Rattle.pool_core.specs.declared.batch.Entry.{Entry}
 use Rattle.pool_core.specs.declared.batch.Fate.{Fate}
 use Rattle.pool_core.specs.declared.batch.Fate.TheVariants.{Kept, Dropped, Heavy}
 use Rattle.pool_core.specs.declared.batch.Removal.{Removal}
-use Rattle.pool_core.specs.declared.batch.Work.{Work}
-use Rattle.pool_core.specs.declared.batch.Work.TheVariants.{Gone, Met}
-use Rattle.pool_core.specs.declared.event.Event.{Event}
-use Rattle.pool_core.specs.declared.event.Event.TheVariants.{Claim, Return, Stale, Void, ClaimSolve, ReturnModel, ReturnRefuted, Abandon}
-use Rattle.pool_core.proofs.AboutClaims.ClaimedRecords.{after-claim, given-waits, positions_with}
-use Rattle.pool_core.proofs.AboutCounting.DeathLemmas.{all-weaker}
 use Rattle.pool_core.proofs.AboutRecords.EditLemmas.{eq-sym}
-use Rattle.pool_core.proofs.AboutRecords.FrameLemmas.{Registers, by-if, inputs-register, result-registers, results-register}
-use Rattle.pool_core.proofs.AboutRecords.GrowthLemmas.{Grows, registers-grows, removed-grows, met-grows, waiting-parts}
-use Rattle.pool_core.proofs.AboutClaims.HandLemmas.{AreInHand, all-filter, all-end, all-found, after-in-hand, same-in-hand}
-use Rattle.pool_core.proofs.AboutBounds.JobLemmas.{Rising}
+use Rattle.pool_core.proofs.AboutRecords.FrameLemmas.{Registers, by-if, result-registers, results-register}
+use Rattle.pool_core.proofs.AboutRecords.GrowthLemmas.{Grows, registers-grows}
 use Rattle.pool_core.proofs.AboutLines.JoinedLemmas.{by-test, get-left}
-use Rattle.pool_core.proofs.AboutRecords.PlaceLemmas.{has-left, has-right, has-first, has-each, all-kept}
-use Rattle.pool_core.proofs.AboutBounds.TimeLemmas.{event-moves}
+use Rattle.pool_core.proofs.AboutRecords.PlaceLemmas.{has-left, has-each, all-kept}
 
 -- ---- lists
 

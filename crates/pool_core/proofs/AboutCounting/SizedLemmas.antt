@@ -1,6 +1,6 @@
 -- An inference is heavy or it isn't: all most general unifiers give clauses of one size.
-use Rattle.std.proofs.Common.{◌≡◌, ℕ, ◌+◌, ◌≤◌, Bool, true, false, ◌||◌, List, [], ◌∷◌, if◌then◌else◌, refl, ap, ap₂, sym, ◌∙◌, subst, arith}
-use Rattle.std.specs.Prelude.{Option, Some, nat_lt, sum_by}
+use Rattle.std.proofs.Common.{◌≡◌, ℕ, ◌≤◌, Bool, true, false, ◌||◌, List, [], ◌∷◌, if◌then◌else◌, refl, ap, ap₂, sym, ◌∙◌, subst, arith}
+use Rattle.std.specs.Prelude.{nat_lt, sum_by}
 use Rattle.std.proofs.lemmas.List.Sums.{sum_by-cons}
 use Rattle.std.proofs.lemmas.Option.{same_Some}
 use Rattle.fol_base.specs.Tree.{Tree, variable, application, Trees, no_trees, tree_then, tree_size, trees_size, is_truth}
@@ -11,13 +11,11 @@ use Rattle.fol_base.specs.Place.{subterm}
 use Rattle.fol_base.specs.InstanceLaws.{PutsNoTruth}
 use Rattle.fol_base.specs.Selection.{SelectionMode}
 use Rattle.fol_base.specs.Sides.{side_of}
-use Rattle.fol_base.specs.Unifier.{IsUnifier, IsUnifierApart}
+use Rattle.fol_base.specs.Unifier.{IsUnifier}
 use Rattle.fol_base.specs.declared.clause.Side.{Side}
 use Rattle.fol_base.specs.declared.limits.TheConstants.{MOST_SYMBOLS}
 use Rattle.calculus.proofs.AboutLifting.LiftLemmas.{Goes, literals-again, resolved_again, factored_again, superposed_again}
-use Rattle.kernel_steps.specs.Named.{OfOne, OfTwo}
-use Rattle.kernel_steps.specs.Sized.{SizedSuperposition, SizedResolution, SizedFactoring, IsSizedInference}
-use Rattle.kernel_steps.specs.declared.key.Key.{Key}
+use Rattle.kernel_steps.specs.Sized.{SizedSuperposition, SizedResolution, SizedFactoring}
 use Rattle.kernel_steps.specs.declared.key.Key.TheVariants.{Para, Refl, Factor, Replaced}
 use Rattle.pool_core.specs.Laws.{HeavyOrNot}
 

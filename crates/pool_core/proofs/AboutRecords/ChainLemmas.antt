@@ -1,6 +1,6 @@
 -- The chains of a register: a walk down one finds the living copy of a clause exactly where there is one.
-use Rattle.std.proofs.Common.{◌≡◌, ℕ, zero, suc, ◌+◌, ◌<◌, ◌≤◌, Bool, true, false, ◌&&◌, List, [], ◌∷◌, ◌++◌, map, length, get_or, nat_eq, ◌⊎◌, inl, inr, ⊎_elim, if◌then◌else◌, refl, ap, sym, ◌∙◌, subst, true≢false, arith}
-use Rattle.std.specs.Prelude.{Option, None, Some, cond, fold, is_none, position, slice_get}
+use Rattle.std.proofs.Common.{◌≡◌, ℕ, zero, suc, ◌+◌, ◌<◌, ◌≤◌, Bool, true, false, List, [], ◌∷◌, ◌++◌, length, get_or, nat_eq, ◌⊎◌, inl, inr, ⊎_elim, if◌then◌else◌, refl, ap, sym, ◌∙◌, subst, true≢false, arith}
+use Rattle.std.specs.Prelude.{None, Some, cond, fold, is_none, position, slice_get}
 use Rattle.std.specs.Option.{unwrap_or}
 use Rattle.std.proofs.Math.ListN.{set}
 use Rattle.std.proofs.lemmas.Bool.{eqb-true, eq-eqb, and_parts, false_from_ne_true, cases_lt}

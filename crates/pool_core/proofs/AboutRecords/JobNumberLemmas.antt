@@ -1,39 +1,26 @@
 -- Numbers of positions and jobs in lawful histories.
-use Rattle.std.proofs.Common.{◌≡◌, ◌≢◌, ℕ, suc, ◌+◌, ◌-◌, ◌<◌, ◌≤◌, Bool, true, false, ◌&&◌, ◌==◌, List, [], ◌∷◌, ◌++◌, map, length, append-nil, refl, ap, ap₂, sym, ◌∙◌, subst, ⊎_elim, arith}
-use Rattle.std.specs.Prelude.{Option, None, Some, cond, is_none, is_some, nat_le, nat_lt, fold, find, filter, All, AllPairs, sum_by, if◌then◌else◌}
-use Rattle.std.specs.List.{list_any, list_all, range_with_len, cons_option}
-use Rattle.std.proofs.lemmas.Bool.{true≢false, and_parts, or_cases, leb-false, ltb-true, eqb-true}
-use Rattle.std.proofs.lemmas.Bool.Decides.{Decides-eqb}
-use Rattle.std.proofs.lemmas.List.{length-append}
+use Rattle.std.proofs.Common.{◌≡◌, ℕ, suc, ◌+◌, ◌≤◌, Bool, true, false, ◌==◌, List, [], ◌∷◌, ◌++◌, map, length, append-nil, refl, ap, ap₂, sym, ◌∙◌, subst, ⊎_elim, arith}
+use Rattle.std.specs.Prelude.{Option, None, Some, cond, is_none, is_some, nat_le, fold, find, filter, All}
+use Rattle.std.specs.List.{range_with_len}
+use Rattle.std.proofs.lemmas.Bool.{true≢false, eqb-true}
 use Rattle.std.proofs.lemmas.List.Elements.{All-nil, All-cons}
-use Rattle.std.proofs.lemmas.Map.Made.{IsDistinct-from_AllPairs}
-use Rattle.std.proofs.lemmas.Map.Steps.{length-le_from_distinct_below}
-use Rattle.std.proofs.lemmas.Option.{none-some, same_Some}
-use Rattle.plain_types.specs.declared.limits.TheConstants.{MOST_INFERENCES}
-use Rattle.fol_base.specs.Clause.{TreeClause, clause_size}
-use Rattle.fol_base.specs.declared.limits.TheConstants.{MOST_FORM_SYMBOLS}
+use Rattle.std.proofs.lemmas.Option.{none-some}
 use Rattle.kernel_steps.specs.Split.{has_number}
 use Rattle.kernel_steps.specs.declared.key.Key.{Key}
 use Rattle.kernel_steps.specs.declared.key.Key.TheVariants.{Replaced}
-use Rattle.kernel_steps.specs.declared.step.Step.TheVariants.{Clausify}
 use Rattle.kernel_steps.specs.declared.step.Line.{Line}
 use Rattle.sat_core.specs.declared.answer.Chain as log
-use Rattle.pool_core.specs.Record.{PoolRecord, Registered, GivenJob, SolverJob, has_living, lives, given_job, without_job, nothing_registered}
-use Rattle.pool_core.specs.Lines.{line_of, with_lines, pool_line, result_of}
-use Rattle.pool_core.specs.Registering.{registered_last, has_none, empty_comes, comes, unless_ended, with_inputs}
-use Rattle.pool_core.specs.Counting.{lines_of_fate, lines_of_entries, keys_of, comes_by, result_comes, is_refuting, refutes, spends, counts}
+use Rattle.pool_core.specs.Record.{PoolRecord, GivenJob, SolverJob, given_job, without_job, nothing_registered}
+use Rattle.pool_core.specs.Counting.{lines_of_entries, keys_of, result_comes, refutes, spends, counts}
 use Rattle.pool_core.specs.Returning.{dies, replaced, removed, takes_effect, proposed, becomes_active, sets_aside, worked, returns_to}
 use Rattle.pool_core.specs.Solving.{modelled_by, refuted_by}
 use Rattle.pool_core.specs.Claiming.{next_given, given_out, claimed_by}
 use Rattle.pool_core.specs.Events.{job_of}
 use Rattle.pool_core.specs.Lawful.{IsAllowed, IsLawfulFrom}
-use Rattle.pool_core.specs.Laws.{is_given, JobsAreCounted, JobsWereGiven, PositionsStay, NumbersFit}
+use Rattle.pool_core.specs.Laws.{is_given, JobsAreCounted, JobsWereGiven, PositionsStay}
 use Rattle.pool_core.specs.Replay.{without_solver, after, start, replay}
 use Rattle.pool_core.specs.declared.options.Options.{Options}
-use Rattle.pool_core.specs.declared.outcome.Outcome.{Outcome}
-use Rattle.pool_core.specs.declared.outcome.Outcome.TheVariants.{Refuted, Spent}
 use Rattle.pool_core.specs.declared.batch.Batch.{Batch}
-use Rattle.pool_core.specs.declared.batch.Entry.{Entry}
 use Rattle.pool_core.specs.declared.batch.Fate.{Fate}
 use Rattle.pool_core.specs.declared.batch.Fate.TheVariants.{Kept, Dropped, Heavy}
 use Rattle.pool_core.specs.declared.batch.Removal.{Removal}
@@ -45,9 +32,6 @@ use Rattle.pool_core.proofs.AboutRecords.FrameLemmas.{by-if, inputs-register, re
 use Rattle.pool_core.proofs.AboutRecords.GrowthLemmas.{more-then, removed-grows, met-grows, registers-grows}
 use Rattle.pool_core.proofs.AboutClaims.HistoryLemmas.{later-append}
 use Rattle.pool_core.proofs.AboutBounds.JobLemmas.{Rising, rising-bound}
-use Rattle.pool_core.proofs.AboutLines.JoinedLemmas.{by-test}
-use Rattle.pool_core.proofs.AboutRecords.PlaceLemmas.{positions_are_registered}
-use Rattle.pool_core.proofs.AboutLines.SoundLemmas.{open-is}
 use Rattle.pool_core.proofs.AboutBounds.TimeLemmas.{event-moves}
 
 -- ---- positions stay

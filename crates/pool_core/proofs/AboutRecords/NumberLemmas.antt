@@ -1,11 +1,10 @@
 -- Numbers: few clauses are registered, so clauses and positions have 32 bits; positions stay; and jobs are counted.
-use Rattle.std.proofs.Common.{◌≡◌, ◌≢◌, ℕ, suc, ◌+◌, ◌-◌, ◌<◌, ◌≤◌, Bool, true, false, ◌&&◌, ◌==◌, List, [], ◌∷◌, ◌++◌, map, length, append-nil, refl, ap, ap₂, sym, ◌∙◌, subst, ⊎_elim, arith}
-use Rattle.std.specs.Prelude.{Option, None, Some, cond, is_none, is_some, nat_le, nat_lt, fold, find, filter, All, AllPairs, sum_by, if◌then◌else◌}
-use Rattle.std.specs.List.{list_any, list_all, range_with_len, cons_option}
+use Rattle.std.proofs.Common.{◌≡◌, ◌≢◌, ℕ, suc, ◌+◌, ◌-◌, ◌<◌, ◌≤◌, Bool, true, false, ◌&&◌, ◌==◌, List, [], ◌∷◌, ◌++◌, map, length, refl, ap, sym, ◌∙◌, subst, ⊎_elim, arith}
+use Rattle.std.specs.Prelude.{Option, None, Some, cond, is_none, nat_le, nat_lt, fold, find, AllPairs, sum_by, if◌then◌else◌}
+use Rattle.std.specs.List.{list_any, list_all, cons_option}
 use Rattle.std.proofs.lemmas.Bool.{true≢false, and_parts, or_cases, leb-false, ltb-true, eqb-true}
 use Rattle.std.proofs.lemmas.Bool.Decides.{Decides-eqb}
 use Rattle.std.proofs.lemmas.List.{length-append}
-use Rattle.std.proofs.lemmas.List.Elements.{All-nil, All-cons}
 use Rattle.std.proofs.lemmas.Map.Made.{IsDistinct-from_AllPairs}
 use Rattle.std.proofs.lemmas.Map.Steps.{length-le_from_distinct_below}
 use Rattle.std.proofs.lemmas.Option.{none-some, same_Some}
@@ -25,10 +24,8 @@ use Rattle.pool_core.specs.Counting.{lines_of_fate, lines_of_entries, keys_of, c
 use Rattle.pool_core.specs.Returning.{dies, replaced, removed, takes_effect, proposed, becomes_active, sets_aside, worked, returns_to}
 use Rattle.pool_core.specs.Solving.{modelled_by, refuted_by}
 use Rattle.pool_core.specs.Claiming.{next_given, given_out, claimed_by}
-use Rattle.pool_core.specs.Events.{job_of}
-use Rattle.pool_core.specs.Lawful.{IsAllowed, IsLawfulFrom}
-use Rattle.pool_core.specs.Laws.{is_given, JobsAreCounted, JobsWereGiven, PositionsStay, NumbersFit}
-use Rattle.pool_core.specs.Replay.{without_solver, after, start, replay}
+use Rattle.pool_core.specs.Laws.{NumbersFit}
+use Rattle.pool_core.specs.Replay.{after, start, replay}
 use Rattle.pool_core.specs.declared.options.Options.{Options}
 use Rattle.pool_core.specs.declared.outcome.Outcome.{Outcome}
 use Rattle.pool_core.specs.declared.outcome.Outcome.TheVariants.{Refuted, Spent}
@@ -41,14 +38,10 @@ use Rattle.pool_core.specs.declared.batch.Work.{Work}
 use Rattle.pool_core.specs.declared.batch.Work.TheVariants.{Gone, Met}
 use Rattle.pool_core.specs.declared.event.Event.{Event}
 use Rattle.pool_core.specs.declared.event.Event.TheVariants.{Claim, Return, Stale, Void, ClaimSolve, ReturnModel, ReturnRefuted, Abandon}
-use Rattle.pool_core.proofs.AboutRecords.FrameLemmas.{by-if, inputs-register, result-registers, results-register}
-use Rattle.pool_core.proofs.AboutRecords.GrowthLemmas.{more-then, removed-grows, met-grows, registers-grows}
-use Rattle.pool_core.proofs.AboutClaims.HistoryLemmas.{later-append}
-use Rattle.pool_core.proofs.AboutBounds.JobLemmas.{Rising, rising-bound}
+use Rattle.pool_core.proofs.AboutRecords.FrameLemmas.{by-if, inputs-register, results-register}
 use Rattle.pool_core.proofs.AboutLines.JoinedLemmas.{by-test}
 use Rattle.pool_core.proofs.AboutRecords.PlaceLemmas.{positions_are_registered}
 use Rattle.pool_core.proofs.AboutLines.SoundLemmas.{open-is}
-use Rattle.pool_core.proofs.AboutBounds.TimeLemmas.{event-moves}
 
 -- ---- few clauses
 

@@ -1,21 +1,18 @@
 -- The fields after a clause has come.
-use Rattle.std.proofs.Common.{◌≡◌, ℕ, zero, suc, ◌+◌, ◌-◌, ◌<◌, ◌≤◌, Bool, true, false, not, ◌&&◌, ◌||◌, ◌==◌, List, [], ◌∷◌, ◌++◌, map, length, refl, ap, ap₂, sym, ◌∙◌, subst, ⊎_elim, arith}
-use Rattle.std.specs.Prelude.{Option, None, Some, cond, nat_lt, find, filter, is_none, position, slice_get, unwrap_or, option_map, option_and_then, if◌then◌else◌, All, Contains}
+use Rattle.std.proofs.Common.{◌≡◌, ℕ, zero, suc, ◌+◌, ◌-◌, ◌<◌, ◌≤◌, Bool, true, false, not, ◌&&◌, ◌==◌, List, [], ◌∷◌, ◌++◌, map, length, refl, ap, ap₂, sym, ◌∙◌, subst, ⊎_elim, arith}
+use Rattle.std.specs.Prelude.{Option, None, Some, cond, nat_lt, filter, is_none, position, slice_get, unwrap_or, option_map, if◌then◌else◌, All, Contains}
 use Rattle.std.specs.List.{list_any, range_with_len}
-use Rattle.std.proofs.Math.ListN.{set}
-use Rattle.std.proofs.Math.Seq.{map-set_same}
-use Rattle.std.proofs.lemmas.Bool.{true≢false, and_parts, and_from, or_parts, or_from, or_left, or_right, lt-ltb, le-ltb, eq-eqb, ne_eqb, cond-true, cond-false, not_from_false, not-true, false_from_ne_true}
-use Rattle.std.proofs.lemmas.List.{length-append, length-map, map-append}
-use Rattle.std.proofs.lemmas.List.Elements.{All-set, All-push, All-weaker}
-use Rattle.std.proofs.lemmas.List.Folds.{list_any-append}
-use Rattle.std.proofs.lemmas.Option.{none-some, same_Some, get_or_from_slice_get, slice_get_within, slice_get-map}
+use Rattle.std.proofs.lemmas.Bool.{true≢false, and_parts, and_from, or_parts, or_from, lt-ltb, cond-true, not_from_false, false_from_ne_true}
+use Rattle.std.proofs.lemmas.List.{length-append, map-append}
+use Rattle.std.proofs.lemmas.List.Elements.{All-push, All-weaker}
+use Rattle.std.proofs.lemmas.Option.{none-some, same_Some}
 use Rattle.fol_base.specs.Clause.{TreeClause, clause_eq, clause_size}
 use Rattle.fol_base.specs.Literal.{clause_of}
 use Rattle.kernel_steps.specs.Conclusion.{empty_clause}
 use Rattle.kernel_steps.specs.Split.{has_number}
 use Rattle.kernel_steps.specs.declared.step.Step.{Step}
 use Rattle.kernel_steps.specs.declared.step.Line.{Line}
-use Rattle.clause_queue.specs.Pairs.{with_pair, without, numbers, IsAbsent}
+use Rattle.clause_queue.specs.Pairs.{with_pair, numbers, IsAbsent}
 use Rattle.clause_queue.proofs.Numbers.{lacks_from}
 use Rattle.term_bank.specs.Literal.{AreLiteralsOf}
 use Rattle.term_bank.specs.declared.bank.Bank.{Bank}
@@ -23,26 +20,21 @@ use Rattle.term_bank.specs.declared.table.Table.{Table}
 use Rattle.bank_clause.specs.Clause.{clause_at, IsKnown, equal_by_numbers}
 use Rattle.bank_clause.specs.declared.clause.BankClause.{BankClause}
 use Rattle.bank_clause.proofs.EqualityLemmas.{same-are-equal}
-use Rattle.pool_core.specs.Record.{PoolRecord, Registered, Death, GivenJob, clause_numbered, numbers_of, has_died, lives, is_out, waits, is_awake, has_living}
+use Rattle.pool_core.specs.Record.{PoolRecord, Registered, Death, GivenJob, clause_numbered, has_died, lives, is_out, waits, is_awake, has_living}
 use Rattle.pool_core.specs.Claiming.{ready}
 use Rattle.pool_core.specs.Lines.{with_parents, line_number, pool_line, result_of, with_lines}
 use Rattle.pool_core.specs.Registering.{comes, empty_comes, registered_last, with_propositional, with_refutation, has_none}
 use Rattle.pool_core.specs.Counting.{comes_by, result_comes, refutes}
-use Rattle.pool_core.specs.Returning.{dies, becomes_active}
 use Rattle.pool_core.specs.Tags.{line_names}
-use Rattle.pool_core.specs.Answers.{death_of}
-use Rattle.pool_core.specs.Register.{is_living_copy, death_at, is_living_at, dead_in, made_active}
+use Rattle.pool_core.specs.Register.{is_living_copy}
 use Rattle.pool_core.specs.Started.{registered_at, IsOfTable}
 use Rattle.pool_core.specs.State.{IsRegistration, IsProofStateOf, AreOfRegistered, pair_of}
-use Rattle.pool_core.specs.Placing.{with_queue}
 use Rattle.pool_core.specs.declared.outcome.Outcome.{Outcome}
 use Rattle.pool_core.specs.declared.outcome.Outcome.TheVariants.{Refuted}
 use Rattle.pool_core.specs.declared.pool.ProofState.{ProofState}
 use Rattle.pool_core.specs.declared.register.Registration.{Registration}
 use Rattle.pool_core.proofs.AboutBeginnings.BegunLemmas.{awake-without, numbered}
-use Rattle.pool_core.proofs.AboutRecords.EditLemmas.{at-set, get-end, filter-less, filter-pairs, filter-more}
-use Rattle.pool_core.proofs.AboutBeginnings.LivingLemmas.{no-death}
-use Rattle.pool_core.proofs.AboutRecords.RegisterLemmas.{no-place}
+use Rattle.pool_core.proofs.AboutRecords.EditLemmas.{get-end, filter-more}
 use Rattle.pool_core.proofs.AboutBeginnings.StartLemmas.{all-at, any-by-place, none-passes, clause_eq-refl, clause_eq-says, any-at, steps-of}
 use Rattle.pool_core.proofs.AboutReturns.ProofStateLemmas.{count-of, get-front, get-last, lives-here, map-filter-within, no-death-of, no-position, not-active, not-dead, not-out, registered-at, with_pair-above}
 

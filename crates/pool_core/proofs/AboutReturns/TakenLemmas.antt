@@ -1,38 +1,32 @@
 -- A pool after a batch was taken.
-use Rattle.std.proofs.Common.{◌≡◌, ℕ, suc, ◌+◌, ◌<◌, ◌≤◌, ◌%◌, Bool, true, false, not, List, [], ◌∷◌, ◌++◌, map, length, drop, append-nil, refl, ap, ap₂, sym, ◌∙◌, subst, arith}
-use Rattle.std.specs.Prelude.{Option, None, Some, cond, is_none, is_some, nat_lt, nat_le, slice_get, option_map, unwrap_or, find, fold, vec_len, vec_capacity, All, IsTrue, if◌then◌else◌}
-use Rattle.std.specs.List.{list_all}
+use Rattle.std.proofs.Common.{◌≡◌, ℕ, suc, ◌+◌, ◌<◌, ◌≤◌, ◌%◌, List, [], ◌∷◌, ◌++◌, map, length, drop, append-nil, refl, ap, ap₂, sym, ◌∙◌, subst, arith}
+use Rattle.std.specs.Prelude.{Option, None, Some, nat_le, slice_get, option_map, unwrap_or, find, fold, vec_len, vec_capacity, All}
 use Rattle.std.specs.Ordering.{nat_cmp}
 use Rattle.std.specs.BTreeMap.{is_at}
 use Rattle.std.specs.Map.{remove_entry}
 use Rattle.std.proofs.Math.Seq.{drop-length, drop-append_seam}
-use Rattle.std.proofs.lemmas.Bool.{and_parts, and_from, true≢false, ltb-true}
 use Rattle.std.proofs.lemmas.List.{length-append, length-map}
 use Rattle.std.proofs.lemmas.List.Elements.{All-append, All-map, All-weaker}
-use Rattle.std.proofs.lemmas.Option.{none-some, same_Some}
 use Rattle.fol_base.specs.Clause.{TreeClause}
-use Rattle.fol_base.specs.WellFormed.{SymbolUse, WellFormed}
+use Rattle.fol_base.specs.WellFormed.{SymbolUse}
 use Rattle.kernel_steps.specs.Conclusion.{empty_clause}
 use Rattle.kernel_steps.specs.declared.key.Key.{Key}
 use Rattle.kernel_steps.specs.declared.key.Key.TheVariants.{Replaced}
 use Rattle.kernel_steps.specs.declared.step.Line.{Line}
 use Rattle.term_bank.specs.declared.bank.Bank.{Bank}
 use Rattle.term_bank.specs.declared.table.Table.{Table}
-use Rattle.clause_queue.specs.Pairs.{without as without_pair}
 use Rattle.pool_core.specs.CountedList.{keys_in}
-use Rattle.pool_core.specs.Answers.{dead_justifier}
-use Rattle.pool_core.specs.Batches.{IsRightWork}
 use Rattle.pool_core.specs.Claiming.{ready}
 use Rattle.pool_core.specs.Counting.{result_comes, refutes, spends, counts, keys_of, lines_of_entries}
 use Rattle.pool_core.specs.Events.{events_of}
 use Rattle.pool_core.specs.Inputs.{IsUseOf}
-use Rattle.pool_core.specs.Lawful.{IsAllowed, IsGivenOut, justifiers_live}
+use Rattle.pool_core.specs.Lawful.{IsAllowed}
 use Rattle.pool_core.specs.News.{TreeChange, changes_between}
 use Rattle.pool_core.specs.Noted.{IsNoted, change_at}
-use Rattle.pool_core.specs.Placing.{KnowsMore, NotesDeaths, IsFitWork, IsInBank, IsTakeable, IsWorkOf, IsLiving, IsOfGiven, HasRoom, entries_of, with_queue}
-use Rattle.pool_core.specs.Record.{PoolRecord, Registered, GivenJob, Death, clauses_of, clause_numbered, is_dead, lives, given_job, without_job}
+use Rattle.pool_core.specs.Placing.{KnowsMore, NotesDeaths, entries_of, with_queue}
+use Rattle.pool_core.specs.Record.{PoolRecord, Registered, GivenJob, Death, clause_numbered, given_job, without_job}
 use Rattle.pool_core.specs.Replay.{after, with_events}
-use Rattle.pool_core.specs.Returning.{dies, replaced, removed, takes_effect, proposed, becomes_active, heavy_entries, sets_aside, worked, returns_to}
+use Rattle.pool_core.specs.Returning.{dies, replaced, removed, takes_effect, proposed, becomes_active, heavy_entries, sets_aside, worked}
 use Rattle.pool_core.specs.Started.{registered_at, IsOfTable}
 use Rattle.pool_core.specs.State.{origin_of, IsProofStateOf, IsStateOf, IsPool, pair_of, job_entry}
 use Rattle.pool_core.specs.declared.batch.Batch.{Batch}
@@ -42,9 +36,7 @@ use Rattle.pool_core.specs.declared.batch.Removal.{Removal}
 use Rattle.pool_core.specs.declared.batch.Work.{Work}
 use Rattle.pool_core.specs.declared.batch.Work.TheVariants.{Gone, Met}
 use Rattle.pool_core.specs.declared.event.Event.TheVariants.{Return}
-use Rattle.pool_core.specs.declared.interning.Prepared.{Prepared}
 use Rattle.pool_core.specs.declared.options.Options.{Options}
-use Rattle.pool_core.specs.declared.outcome.Outcome.{Outcome}
 use Rattle.pool_core.specs.declared.pool.Note.{Note}
 use Rattle.pool_core.specs.declared.pool.Note.TheVariants.{Activated, Died}
 use Rattle.pool_core.specs.declared.pool.OutJob.{OutJob}
@@ -56,15 +48,10 @@ use Rattle.pool_core.proofs.AboutClaims.ClaimedRecords.{rising-by}
 use Rattle.pool_core.proofs.AboutCounting.CountedRecords.{lookup-more}
 use Rattle.pool_core.proofs.AboutRecords.EditLemmas.{remove-filter}
 use Rattle.pool_core.proofs.AboutRecords.FrameLemmas.{Registers, by-if, result-registers, results-register}
-use Rattle.pool_core.proofs.AboutClaims.GiveUpLemmas.{length-without, told-without, ready-given_up}
+use Rattle.pool_core.proofs.AboutClaims.GiveUpLemmas.{length-without, told-without}
 use Rattle.pool_core.proofs.AboutRecords.GrowthLemmas.{removed-grows, met-grows}
-use Rattle.pool_core.proofs.AboutReturns.ProofStateLemmas.{lives-here}
-use Rattle.pool_core.proofs.AboutReturns.RightBatchLemmas.{fit-work, justifiers-known}
-use Rattle.pool_core.proofs.AboutBeginnings.BeginningLemmas.{registered_are_whole}
-use Rattle.pool_core.proofs.AboutCounting.DeathLemmas.{below-count}
-use Rattle.pool_core.specs.Wholeness.{IsWhole}
 use Rattle.pool_core.proofs.AboutBeginnings.StartLemmas.{all-at}
-use Rattle.pool_core.proofs.AboutClaims.StateLemmas.{clause-in, record_of, pool-rises, event-added, registered-count, item-at, learned-all}
+use Rattle.pool_core.proofs.AboutClaims.StateLemmas.{clause-in, record_of, pool-rises, event-added, item-at, learned-all}
 
 -- ---- what the work of a batch leaves
 
