@@ -47,7 +47,7 @@ pub record OneFault (faults others : Faults) : Type 0 where
 
 -- ---- includes
 
-include-next : (tokens : List Lexeme) (first : ℕ) (f : Word) (ns : List NamePhrase) (n : ℕ) → IsInclude tokens first f ns n → n ≡ first + width ns
+pub include-next : (tokens : List Lexeme) (first : ℕ) (f : Word) (ns : List NamePhrase) (n : ℕ) → IsInclude tokens first f ns n → n ≡ first + width ns
 include-next tokens first f ns n h =
     let long : length tokens - first ≡ width ns + length (drop n tokens) =
     sym (length-drop first tokens) ∙ ap length h.spelled ∙ include-length f ns (drop n tokens) in
@@ -69,10 +69,10 @@ names-one tokens end at (n ∷ ns) (m ∷ ms) h k =
     sym (name-name n) ∙ ap (λ (l : Lexeme). token_name l.kind l.bytes) head ∙ name-name m in
     ap₂ (λ x xs. x ∷ xs) name (names-one tokens end (at + 2) ns ms (next-names tokens end at n ns h) (next-names tokens end at m ms k))
 
-record SameInclude (f g : Word) (ns ms : List NamePhrase) (n m : ℕ) : Type 0 where
-  file : name_of f ≡ name_of g
-  names : names_meant ns ≡ names_meant ms
-  next : n ≡ m
+pub record SameInclude (f g : Word) (ns ms : List NamePhrase) (n m : ℕ) : Type 0 where
+  pub file : name_of f ≡ name_of g
+  pub names : names_meant ns ≡ names_meant ms
+  pub next : n ≡ m
 
 whole-same : (m n : ℕ) → Whole m ≡ Whole n → m ≡ n
 whole-same m n e = cc
@@ -140,7 +140,7 @@ step-by-one base reads file first progress true s t one h k = include-step-one b
 step-by-one base reads file first progress false s t one h k = formula-one file first progress s t h k
 
 -- nothing goes on from there
-pub Stuck : List ℕ → Reads → LoadedFile → ℕ → Progress → Type 0
+unfoldable pub Stuck : List ℕ → Reads → LoadedFile → ℕ → Progress → Type 0
 Stuck base reads file first progress = (s : Step) → IsStep base reads file first progress s → ⊥
 
 pub steps-one :
