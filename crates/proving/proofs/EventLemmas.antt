@@ -15,10 +15,10 @@ use Rattle.pool_core.specs.Replay.{Origin, after, start, replay}
 use Rattle.pool_core.specs.declared.options.Options.{Options}
 use Rattle.pool_core.specs.declared.event.Event.{Event}
 use Rattle.pool_core.specs.declared.event.Event.TheVariants.{Claim, Return, Stale, Void, ClaimSolve, ReturnModel, ReturnRefuted, Abandon}
-use Rattle.pool_core.proofs.AboutClaims.ClaimLemmas.{after-claim, given-waits, claim_after}
+use Rattle.pool_core.proofs.AboutClaims.ClaimedRecords.{after-claim, given-waits, claim_after}
 use Rattle.pool_core.proofs.AboutRecords.GrowthLemmas.{living-not-dead, waiting-parts}
 use Rattle.pool_core.proofs.AboutRecords.NewsLemmas.{Adds, new-deaths, event-adds, living-kept, start-is}
-use Rattle.pool_core.proofs.AboutRecords.NumberLemmas.{returned-positions, modelled-positions, refuted-positions}
+use Rattle.pool_core.proofs.AboutRecords.JobNumberLemmas.{returned-positions, modelled-positions, refuted-positions}
 use Rattle.pool_core.proofs.AboutRecords.PlaceLemmas.{Placed, after-placed, start-placed}
 use Rattle.proving.proofs.ToldLemmas.{filter-twice, filter-every, neither, told_by, told_all, AreNewNumbers, new-append, told-both, new-both}
 

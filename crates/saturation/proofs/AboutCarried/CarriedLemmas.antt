@@ -17,7 +17,7 @@ use Rattle.kernel_steps.specs.declared.key.Key.{Key}
 use Rattle.kernel_steps.specs.declared.key.Key.TheVariants.{Para, Refl, Factor, Replaced}
 use Rattle.pool_core.specs.Record.{PoolRecord, Registered, Death, has_died, lives, clause_numbered, numbers_of, has_living}
 use Rattle.pool_core.specs.Registering.{has_none}
-use Rattle.pool_core.proofs.AboutCounting.CountedLemmas.{Lookup, lookup-more}
+use Rattle.pool_core.proofs.AboutCounting.CountedRecords.{Lookup, lookup-more}
 use Rattle.pool_core.proofs.AboutRecords.EditLemmas.{get-end, get-middle}
 use Rattle.pool_core.proofs.AboutBeginnings.StartLemmas.{clause_eq-says}
 use Rattle.pool_core.proofs.AboutClaims.StateLemmas.{clause-numbered, item-at}

@@ -30,7 +30,7 @@ use Rattle.pool_core.specs.declared.batch.Fate.{Fate}
 use Rattle.pool_core.specs.declared.batch.Fate.TheVariants.{Kept, Dropped, Heavy}
 use Rattle.pool_core.specs.declared.batch.Redundancy.{Redundancy}
 use Rattle.pool_core.specs.declared.batch.Redundancy.TheVariants.{Tautology, Subsumed}
-use Rattle.pool_core.proofs.AboutCounting.CountedLemmas.{Lookup}
+use Rattle.pool_core.proofs.AboutCounting.CountedRecords.{Lookup}
 use Rattle.pool_core.proofs.AboutLines.FormedLemmas.{IsFormed}
 use Rattle.calculus.specs.Coverage.{CoversEach}
 use Rattle.saturation.proofs.AboutClosing.ConclusionLemmas.{inferences_keep_symbols}

@@ -29,7 +29,7 @@ use Rattle.pool_core.specs.declared.batch.Fate.TheVariants.{Kept, Dropped, Heavy
 use Rattle.pool_core.specs.declared.batch.Redundancy.{Redundancy}
 use Rattle.pool_core.specs.declared.batch.Redundancy.TheVariants.{Tautology, Subsumed}
 use Rattle.pool_core.specs.declared.batch.Removal.{Removal}
-use Rattle.pool_core.proofs.AboutCounting.CountedLemmas.{Lookup, lookup-more}
+use Rattle.pool_core.proofs.AboutCounting.CountedRecords.{Lookup, lookup-more}
 use Rattle.pool_core.proofs.AboutCounting.DeathLemmas.{among-pass}
 use Rattle.pool_core.proofs.AboutLines.FormedLemmas.{IsFormed, result-formed}
 use Rattle.pool_core.proofs.AboutRecords.GrowthLemmas.{all-proposed-grows}

@@ -24,7 +24,7 @@ use Rattle.pool_core.specs.declared.batch.Entry.{Entry}
 use Rattle.pool_core.specs.declared.batch.Removal.{Removal}
 use Rattle.pool_core.specs.declared.batch.Work.{Work}
 use Rattle.pool_core.specs.declared.batch.Work.TheVariants.{Gone, Met}
-use Rattle.pool_core.proofs.AboutCounting.CountedLemmas.{Lookup, lookup-more}
+use Rattle.pool_core.proofs.AboutCounting.CountedRecords.{Lookup, lookup-more}
 use Rattle.pool_core.proofs.AboutCounting.DeathLemmas.{counts-keeps}
 use Rattle.pool_core.proofs.AboutRecords.GrowthLemmas.{counts-grows}
 use Rattle.pool_core.proofs.AboutLines.JoinedLemmas.{by-test}

@@ -22,7 +22,7 @@ use Rattle.pool_core.specs.Lawful.{IsLawful}
 use Rattle.pool_core.specs.Replay.{Origin, start, replay}
 use Rattle.pool_core.specs.declared.event.Event.{Event}
 use Rattle.pool_core.proofs.AboutBeginnings.BeginningLemmas.{replay-sound}
-use Rattle.pool_core.proofs.AboutCounting.CountedLemmas.{Lookup}
+use Rattle.pool_core.proofs.AboutCounting.CountedRecords.{Lookup}
 use Rattle.pool_core.proofs.AboutRecords.PlaceLemmas.{start-placed}
 use Rattle.calculus.specs.Coverage.{CoversEach}
 use Rattle.saturation.specs.Carried.{IsHeld}

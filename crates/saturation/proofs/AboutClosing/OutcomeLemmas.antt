@@ -36,8 +36,8 @@ use Rattle.pool_core.specs.Tags.{name_of_tag}
 use Rattle.pool_core.specs.declared.options.Options.{Options}
 use Rattle.pool_core.specs.declared.outcome.Outcome.{Outcome}
 use Rattle.pool_core.specs.declared.outcome.Outcome.TheVariants.{Refuted, Saturated, Spent, Heavy}
-use Rattle.pool_core.proofs.AboutClaims.ClaimLemmas.{in-filter}
-use Rattle.pool_core.proofs.AboutCounting.CountedLemmas.{Lookup}
+use Rattle.pool_core.proofs.AboutClaims.ClaimedRecords.{in-filter}
+use Rattle.pool_core.proofs.AboutCounting.CountedRecords.{Lookup}
 use Rattle.pool_core.proofs.AboutRecords.GrowthLemmas.{waiting-from}
 use Rattle.pool_core.proofs.AboutRecords.PlaceLemmas.{has-first}
 use Rattle.pool_core.proofs.AboutBeginnings.StartLemmas.{all-at, none-passes, passes-at}
