@@ -1,5 +1,6 @@
 pub mod View
 pub mod Learning
+pub mod Learned
 pub mod Store
 pub mod Occurring
 pub mod Sets

@@ -5,6 +5,7 @@ mod entries;
 mod going;
 mod index;
 mod inferences;
+pub mod laws;
 mod learning;
 mod occurring;
 mod removing;
