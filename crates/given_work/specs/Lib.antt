@@ -9,6 +9,7 @@ pub mod Index
 pub mod Telling
 pub mod Going
 pub mod Meeting
+pub mod Dropped
 pub mod Removing
 pub mod Working
 pub mod Laws

@@ -1,6 +1,7 @@
 // The work on one given clause: what a worker was told, and the batch that it hands back.
 #![tactic(auto)]
 
+mod dropped;
 mod entries;
 mod going;
 mod index;

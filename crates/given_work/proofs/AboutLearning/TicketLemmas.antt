@@ -119,7 +119,7 @@ pub tickets_are_learned : TicketsAreLearned
 tickets_are_learned pool index ticket has is = (
   news-are-new pool index ticket.news has is.news,
   subst (λ (n : ℕ). HasLearned pool (record { options = index.options; told = n; members = learned index.members ticket.news }))
-  (sym is.as_of.1) (index-learned pool index ticket.news has is.news),
+      (sym is.as_of.1) (index-learned pool index ticket.news has is.news),
 )
 
 pub learned_are_told_for : LearnedAreToldFor
