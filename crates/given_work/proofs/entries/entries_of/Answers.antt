@@ -5,7 +5,7 @@ use Rattle.given_work.proofs.entries.entries_of.Goals as goal
 pub loop-inference-init : goal.loop-inference-init
 loop-inference-init c = record {
   entered = search rules;
-  dropped = c.new-2.ensures c.args.by.now.equations.now c.args.by.now.units.now c.args.by.now.members.now;
+  dropped = c.new-dropped.ensures c.args.by.now.equations.now c.args.by.now.units.now c.args.by.now.members.now;
 }
 
 pub loop-inference-preserved : goal.loop-inference-preserved
