@@ -1,5 +1,5 @@
 -- An index that learned what a ticket tells: it knows the clauses of the ticket's job.
-use Rattle.std.proofs.Common.{◌≡◌, ℕ, length, ap, sym, ◌∙◌, subst}
+use Rattle.std.proofs.Common.{◌≡◌, length, ap, sym, ◌∙◌, subst}
 use Rattle.term_bank.specs.declared.bank.Bank.{Bank}
 use Rattle.bank_clause.specs.Clause.{AreMembersOf}
 use Rattle.pool_core.specs.View.{PoolView}

@@ -1,5 +1,5 @@
 -- A batch that is held while another job is claimed or given back.
-use Rattle.std.proofs.Common.{◌≡◌, ◌==◌, false, List, ◌++◌, sym, subst}
+use Rattle.std.proofs.Common.{◌≡◌, ◌==◌, List, ◌++◌, sym, subst}
 use Rattle.std.specs.Prelude.{IsFalse}
 use Rattle.std.specs.List.{list_any}
 use Rattle.pool_core.specs.Events.{job_of}

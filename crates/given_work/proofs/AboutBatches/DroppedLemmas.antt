@@ -1,5 +1,5 @@
 -- What is known of dropped conclusions.
-use Rattle.std.proofs.Common.{◌≡◌, ℕ, Bool, true, false, List, [], Option, None, Some, cond, nat_eq, refl, ap, sym, ◌∙◌, subst}
+use Rattle.std.proofs.Common.{◌≡◌, Bool, true, false, List, [], Option, None, Some, cond, nat_eq, refl, sym, ◌∙◌, subst}
 use Rattle.std.specs.Prelude.{option_and_then, if◌then◌else◌}
 use Rattle.std.proofs.lemmas.Option.{none-some, same_Some}
 use Rattle.indexmap.specs.IndexMap.{get}
@@ -9,7 +9,6 @@ use Rattle.fol_base.specs.declared.clause.Clause.{Clause}
 use Rattle.kernel_steps.specs.declared.step.Step.{Step}
 use Rattle.bank_clause.specs.declared.member.Member.{Member}
 use Rattle.simplification.specs.Simplified.{IsSimplified}
-use Rattle.pool_core.specs.declared.batch.Fate.{Fate}
 use Rattle.pool_core.specs.declared.batch.Fate.TheVariants.{Dropped as IsDropped}
 use Rattle.pool_core.specs.declared.batch.Redundancy.{Redundancy}
 use Rattle.pool_core.specs.declared.batch.Redundancy.TheVariants.{Tautology, Subsumed}
