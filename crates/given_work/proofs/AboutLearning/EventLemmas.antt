@@ -20,7 +20,7 @@ use Rattle.pool_core.proofs.AboutRecords.GrowthLemmas.{living-not-dead, waiting-
 use Rattle.pool_core.proofs.AboutRecords.NewsLemmas.{Adds, new-deaths, event-adds, living-kept, start-is}
 use Rattle.pool_core.proofs.AboutRecords.JobNumberLemmas.{returned-positions, modelled-positions, refuted-positions}
 use Rattle.pool_core.proofs.AboutRecords.PlaceLemmas.{Placed, after-placed, start-placed}
-use Rattle.proving.proofs.ToldLemmas.{filter-twice, filter-every, neither, told_by, told_all, AreNewNumbers, new-append, told-both, new-both}
+use Rattle.given_work.proofs.AboutLearning.ToldLemmas.{filter-twice, filter-every, neither, told_by, told_all, AreNewNumbers, new-append, told-both, new-both}
 
 -- the clauses that an event activates didn't die before
 record Activates (r s : PoolRecord) : Type 0 where

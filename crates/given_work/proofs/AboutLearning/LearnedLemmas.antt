@@ -14,7 +14,7 @@ use Rattle.pool_core.specs.News.{TreeChange, activated, died, change_of}
 use Rattle.pool_core.specs.declared.ticket.Change.{Change}
 use Rattle.pool_core.specs.declared.ticket.Change.TheVariants.{Activated, Died}
 use Rattle.given_work.specs.Learning.{learns, learned, IsNew, AreNews}
-use Rattle.proving.proofs.ToldLemmas.{told_by, told_all, IsNewNumber, AreNewNumbers}
+use Rattle.given_work.proofs.AboutLearning.ToldLemmas.{told_by, told_all, IsNewNumber, AreNewNumbers}
 
 -- ---- numbers
 
