@@ -1,0 +1,2 @@
+-- The truth of formulas under values of names.
+pub mod NameLemmas

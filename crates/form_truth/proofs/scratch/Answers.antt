@@ -1,0 +1,11 @@
+use Rattle.std.proofs.Common.{refl}
+use Rattle.form_truth.proofs.AboutStructures.Search.{assigned-in_order}
+use Rattle.form_truth.proofs.AboutStructures.Structures.{all_hold-pairs}
+use Rattle.form_truth.proofs.AboutFormulas.NameLemmas.{formula-depends}
+use Rattle.form_truth.proofs.AboutWork.Extending.{sound-weaker}
+use Rattle.form_truth.proofs.AboutWork.Scopes.{skolem-open}
+use Rattle.form_truth.proofs.AboutWork.Products.{product-outcome}
+use Rattle.form_truth.proofs.scratch.Goals as goal
+
+pub returns : goal.returns
+returns c = λ n. refl
