@@ -47,6 +47,9 @@ old-later n m later g h (inr k) = inr (k.0, omega (arith, k.1, h.naming))
 pub agree-before : (n : SymbolNumbers) (m later : Made) (s u : Structure) → Grows m later → Agree n later s u → Agree n m s u
 agree-before n m later s u h a = record { at = λ g old. a.at g (old-later n m later g h old) }
 
+pub agree-back : (n : SymbolNumbers) (m : Made) (s u : Structure) → Agree n m s u → Agree n m u s
+agree-back n m s u a = record { at = λ g old. sym (a.at g old) }
+
 pub agree-further :
     (n : SymbolNumbers) (m later : Made) (s u v : Structure) → Grows m later → Agree n m s u → Agree n later u v → Agree n m s v
 agree-further n m later s u v h a b = record { at = λ g old. a.at g old ∙ b.at g (old-later n m later g h old) }

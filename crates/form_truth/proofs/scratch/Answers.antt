@@ -5,6 +5,9 @@ use Rattle.form_truth.proofs.AboutFormulas.NameLemmas.{formula-depends}
 use Rattle.form_truth.proofs.AboutWork.Extending.{sound-weaker}
 use Rattle.form_truth.proofs.AboutWork.Scopes.{skolem-open}
 use Rattle.form_truth.proofs.AboutWork.Products.{product-outcome}
+use Rattle.form_truth.proofs.AboutFormulas.SignLemmas.{signed}
+use Rattle.form_truth.proofs.AboutWork.Atoms.{equation-sound}
+use Rattle.form_truth.proofs.AboutWork.Works.{formula-sound}
 use Rattle.form_truth.proofs.scratch.Goals as goal
 
 pub returns : goal.returns
