@@ -5,3 +5,5 @@ pub mod AboutStructures
 pub mod AboutFormulas
 -- AboutWork: the work on formulas makes clauses that are true where the formulas are.
 pub mod AboutWork
+-- AboutForms: the clausal form of a problem, and the interpretations that make it true.
+pub mod AboutForms

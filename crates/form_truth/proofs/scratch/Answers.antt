@@ -8,6 +8,7 @@ use Rattle.form_truth.proofs.AboutWork.Products.{product-outcome}
 use Rattle.form_truth.proofs.AboutFormulas.SignLemmas.{signed}
 use Rattle.form_truth.proofs.AboutWork.Atoms.{equation-sound}
 use Rattle.form_truth.proofs.AboutWork.Works.{formula-sound}
+use Rattle.form_truth.proofs.AboutForms.FormedLemmas.{formed-raw}
 use Rattle.form_truth.proofs.scratch.Goals as goal
 
 pub returns : goal.returns

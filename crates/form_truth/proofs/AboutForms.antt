@@ -1,0 +1,2 @@
+-- The clausal form of a problem, and the interpretations that make it true.
+pub mod FormedLemmas
