@@ -9,6 +9,7 @@ use Rattle.form_truth.proofs.AboutFormulas.SignLemmas.{signed}
 use Rattle.form_truth.proofs.AboutWork.Atoms.{equation-sound}
 use Rattle.form_truth.proofs.AboutWork.Works.{formula-sound}
 use Rattle.form_truth.proofs.AboutForms.FormedLemmas.{formed-raw}
+use Rattle.form_truth.proofs.AboutForms.TableLemmas.{table-proper}
 use Rattle.form_truth.proofs.scratch.Goals as goal
 
 pub returns : goal.returns
