@@ -10,6 +10,7 @@ use Rattle.form_truth.proofs.AboutWork.Atoms.{equation-sound}
 use Rattle.form_truth.proofs.AboutWork.Works.{formula-sound}
 use Rattle.form_truth.proofs.AboutForms.FormedLemmas.{formed-raw}
 use Rattle.form_truth.proofs.AboutForms.TableLemmas.{table-proper}
+use Rattle.form_truth.proofs.AboutForms.TermLemmas.{clause-same}
 use Rattle.form_truth.proofs.scratch.Goals as goal
 
 pub returns : goal.returns
