@@ -1,1 +1,2 @@
-pub mod Scratch
+pub mod Meaning
+pub mod Laws

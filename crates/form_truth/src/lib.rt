@@ -1,10 +1,4 @@
-// Laws of what the clausal form means, proved on the definitions alone.
+// Laws of what a clausal form means in finite interpretations, proved on the definitions alone.
 #![tactic(auto)]
 
-ghost use Rattle.std.specs.Prelude.{◌≡◌, ℕ};
-ghost use Rattle.form_truth.specs.Scratch.{Scratch};
-
-/// Scratch.
-pub fn scratch()
-    ensures { Scratch }
-{}
+pub mod laws;

@@ -38,7 +38,7 @@ as-signed false true e = e
 as-signed false false e = refl
 
 -- whatever is meant
-abbrev always : Assignment → Type 0
+abbrev pub always : Assignment → Type 0
 always ρ = Unit {0}
 
 -- a list of clauses, none of which needs the variables of a formula

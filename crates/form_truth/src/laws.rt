@@ -1,0 +1,8 @@
+// The laws: each is the contract of a function without arguments and with an empty body.
+
+mod meaning;
+
+pub use meaning::{
+    accepted_derivations_prove, models_extend, refuted_axioms_are_unsatisfiable,
+    refuted_conjectures_follow, refuted_problems_have_no_model,
+};
