@@ -7,3 +7,5 @@ pub mod AboutFormulas
 pub mod AboutWork
 -- AboutForms: the clausal form of a problem, and the interpretations that make it true.
 pub mod AboutForms
+-- AboutReturn: the way back, formulas are true where their clauses are.
+pub mod AboutReturn

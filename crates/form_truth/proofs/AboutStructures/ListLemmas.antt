@@ -147,7 +147,7 @@ listed-filtered p (w ∷ vs) v e l = by (p w) refl (listed-filtered p vs v e)
         (λ later. rest later)
         (or_cases (v == w) (is_listed vs v) l)
 
-passing : (q : ℕ → Bool) (ws : List ℕ) → AllByRecursion (λ w. q w ≡ true) (filter q ws)
+pub passing : (q : ℕ → Bool) (ws : List ℕ) → AllByRecursion (λ w. q w ≡ true) (filter q ws)
 passing q [] = tt
 passing q (w ∷ ws) = by (q w) refl (passing q ws)
   where

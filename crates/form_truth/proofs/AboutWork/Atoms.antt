@@ -49,32 +49,36 @@ module _ (n : SymbolNumbers) (i : Interpretation) (base : Base n i) where
   below : (s : Symbol) → has_symbol s n.symbols ≡ true → number s < n.first_skolem
   below s h = omega (arith, number-below n.symbols s h, base.known)
 
-  -- what the symbol gives in a structure that is ready
-  symbol-is : (m : Made) (s : Structure) (f : Symbol) → Ready n i m s → has_symbol f n.symbols ≡ true → s (number f) ≡ symbol_value i (number f)
-  symbol-is m s f r h = r.base (number f) (below f h)
+  -- a structure that has the interpretation's values at the problem's symbols
+  abbrev pub HasBase : Structure → Type 0
+  HasBase s = (g : ℕ) → g < n.first_skolem → s g ≡ symbol_value i g
+
+  -- what a symbol gives in such a structure
+  pub symbol-is : (s : Structure) (f : Symbol) → HasBase s → has_symbol f n.symbols ≡ true → s (number f) ≡ symbol_value i (number f)
+  symbol-is s f r h = r (number f) (below f h)
 
   symbol-kept : (m : Made) (s u : Structure) (f : Symbol) → Agree n m s u → has_symbol f n.symbols ≡ true → s (number f) ≡ u (number f)
   symbol-kept m s u f a h = a.at (number f) (inl (omega (arith, below f h)))
 
   mutual
-    term-is :
-        (m : Made) (s : Structure) (env : Environment) (ρ : Assignment) (V : Values) → Ready n i m s → (t : TermTree)
+    pub term-is :
+        (s : Structure) (env : Environment) (ρ : Assignment) (V : Values) → HasBase s → (t : TermTree)
         → AreKnown n (term_symbols t) → InForce s env (term_names t) ρ V → value s ρ (term_under n.symbols env t) ≡ term_value n.symbols i V t
-    term-is m s env ρ V r (named_variable x) k h = sym h.0
-    term-is m s env ρ V r (named_application f ts) k h =
+    term-is s env ρ V r (named_variable x) k h = sym h.0
+    term-is s env ρ V r (named_application f ts) k h =
         let parts = and_parts (has_symbol (function_symbol f (terms_count ts)) n.symbols) (list_all (λ u. has_symbol u n.symbols) (terms_symbols ts)) k in
         let g : ℕ = number (function_symbol f (terms_count ts)) in
-        ap (λ (given : List ℕ → ℕ). given (values s ρ (terms_under n.symbols env ts))) (symbol-is m s (function_symbol f (terms_count ts)) r parts.0)
-        ∙ ap (symbol_value i g) (terms-are m s env ρ V r ts parts.1 h)
+        ap (λ (given : List ℕ → ℕ). given (values s ρ (terms_under n.symbols env ts))) (symbol-is s (function_symbol f (terms_count ts)) r parts.0)
+        ∙ ap (symbol_value i g) (terms-are s env ρ V r ts parts.1 h)
 
-    terms-are :
-        (m : Made) (s : Structure) (env : Environment) (ρ : Assignment) (V : Values) → Ready n i m s → (ts : TermTrees)
+    pub terms-are :
+        (s : Structure) (env : Environment) (ρ : Assignment) (V : Values) → HasBase s → (ts : TermTrees)
         → AreKnown n (terms_symbols ts) → InForce s env (terms_names ts) ρ V → values s ρ (terms_under n.symbols env ts) ≡ terms_values n.symbols i V ts
-    terms-are m s env ρ V r no_terms k h = refl
-    terms-are m s env ρ V r (term_then t ts) k h =
+    terms-are s env ρ V r no_terms k h = refl
+    terms-are s env ρ V r (term_then t ts) k h =
         let known = known-parts n (term_symbols t) (terms_symbols ts) k in
         let parts = each-parts (λ x. value_in_force V x ≡ value s ρ (term_in_force env x)) (term_names t) (terms_names ts) h in
-        ap₂ ◌∷◌ (term-is m s env ρ V r t known.0 parts.0) (terms-are m s env ρ V r ts known.1 parts.1)
+        ap₂ ◌∷◌ (term-is s env ρ V r t known.0 parts.0) (terms-are s env ρ V r ts known.1 parts.1)
 
   mutual
     term-kept :
@@ -166,8 +170,8 @@ module _ (n : SymbolNumbers) (i : Interpretation) (base : Base n i) where
       (ap (λ (given : List ℕ → ℕ). given []) (a.at 0 (inl (omega (arith, base.first))))))
       (λ m s ρ V ready h.
       ap₂ (sides_true sign)
-      (ap (λ (given : List ℕ → ℕ). given (values s ρ (terms_under n.symbols env ts))) (symbol-is m s f ready parts.0)
-      ∙ ap (symbol_value i (number f)) (terms-are m s env ρ V ready ts parts.1 h))
+      (ap (λ (given : List ℕ → ℕ). given (values s ρ (terms_under n.symbols env ts))) (symbol-is s f ready.base parts.0)
+      ∙ ap (symbol_value i (number f)) (terms-are s env ρ V ready.base ts parts.1 h))
       (truth-value n i m s ρ base.first ready)
       ∙ atom-sign sign (symbol_value i (number f) (terms_values n.symbols i V ts)))
 
@@ -187,5 +191,5 @@ module _ (n : SymbolNumbers) (i : Interpretation) (base : Base n i) where
       ap₂ (sides_true (beq positive sign)) (term-kept m s u env ρ a t known.0 parts.0) (term-kept m s u env ρ a v known.1 parts.1))
       (λ m s ρ V ready h.
       let parts = each-parts (λ x. value_in_force V x ≡ value s ρ (term_in_force env x)) (term_names t) (term_names v) h in
-      ap₂ (sides_true (beq positive sign)) (term-is m s env ρ V ready t known.0 parts.0) (term-is m s env ρ V ready v known.1 parts.1)
+      ap₂ (sides_true (beq positive sign)) (term-is s env ρ V ready.base t known.0 parts.0) (term-is s env ρ V ready.base v known.1 parts.1)
       ∙ equation-sign sign positive (term_value n.symbols i V t) (term_value n.symbols i V v))

@@ -31,7 +31,7 @@ pub record Opened (n : SymbolNumbers) (i : Interpretation) (m : Made) (s : Struc
 
 -- ---- one name more in force
 
-in_force-bound :
+pub in_force-bound :
     (s : Structure) (env : Environment) (ρ : Assignment) (V : Values) (x : List ℕ) (t : Tree) (a : ℕ) (xs free : List (List ℕ))
     → a ≡ value s ρ t → InForce s env (without_names (x ∷ xs) free) ρ V → InForce s ((x, t) ∷ env) (without_names xs free) ρ ((x, a) ∷ V)
 in_force-bound s env ρ V x t a xs free e h =
@@ -54,7 +54,7 @@ force-bound n m later env x t xs free g new h =
 
 -- ---- new variables
 
-abbrev one_variable : Made → Made
+abbrev pub one_variable : Made → Made
 one_variable m =
     record { variables = m.variables + 1; skolem_arities = m.skolem_arities; naming_arities = m.naming_arities; defining = m.defining }
 
@@ -171,7 +171,7 @@ agree-forced s env σ ρ V W (y ∷ names) h k c = (h.0 ∙ sym (k.0 ∙ c.0), a
 
 -- ---- Skolem terms
 
-abbrev one_skolem : Made → ℕ → Made
+abbrev pub one_skolem : Made → ℕ → Made
 one_skolem m arity =
     record {
       variables = m.variables;
@@ -180,7 +180,7 @@ one_skolem m arity =
       defining = m.defining;
     }
 
-longer : (xs : List ℕ) (x : ℕ) → length (xs ++ x ∷ []) ≡ length xs + 1
+pub longer : (xs : List ℕ) (x : ℕ) → length (xs ++ x ∷ []) ≡ length xs + 1
 longer xs x = length-append xs (x ∷ [])
 
 one_skolem-grows : (m : Made) (arity : ℕ) → Grows m (one_skolem m arity)

@@ -1,0 +1,3 @@
+-- The way back: formulas are true where their clauses are.
+pub mod Openings
+pub mod Ranges
