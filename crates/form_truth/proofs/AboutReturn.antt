@@ -1,3 +1,4 @@
 -- The way back: formulas are true where their clauses are.
 pub mod Openings
 pub mod Ranges
+pub mod ReturnProducts

@@ -21,7 +21,7 @@ truth-value n i m s ρ first r = ap (λ (f : List ℕ → ℕ). f []) (r.base 0 
 
 -- ---- whether all clauses of a list are true, whatever values the later variables have
 
-abbrev occurring_in : List Literals → List ℕ
+abbrev pub occurring_in : List Literals → List ℕ
 occurring_in cs = flat_map (λ c. flat_map literal_variables c) cs
 
 module _ (size began : ℕ) (s : Structure) (cs : List Literals) where
@@ -69,6 +69,10 @@ module _ (size began : ℕ) (s : Structure) (cs : List Literals) where
       at τ v false e k = refl
 
 -- ---- one naming symbol more
+
+-- the name of a list
+abbrev pub named_tree : SymbolNumbers → ℕ → List Literals → Made → Tree
+named_tree n began cs m = applied (n.first_naming + length m.naming_arities) (made_in_order began (occurring_in cs))
 
 longer : {X : Type 0} (xs : List X) (x : X) → length (xs ++ x ∷ []) ≡ length xs + 1
 longer xs x = length-append xs (x ∷ [])
@@ -204,7 +208,7 @@ module _ (n : SymbolNumbers) (i : Interpretation) (began : ℕ) (cs : List Liter
 
 -- ---- products
 
-abbrev product_by : SymbolNumbers → ℕ → List Literals → List Literals → Made → Bool → Bool → Worked
+abbrev pub product_by : SymbolNumbers → ℕ → List Literals → List Literals → Made → Bool → Bool → Worked
 product_by n began first second m t u =
     if not t then record { clauses = all_pairs first second; made = m }
     else if u then (let w : Worked = named n began second m in record { clauses = all_pairs first w.clauses; made = w.made })
