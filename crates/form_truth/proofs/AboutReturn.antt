@@ -2,3 +2,4 @@
 pub mod Openings
 pub mod Ranges
 pub mod ReturnProducts
+pub mod ReturnWorks
