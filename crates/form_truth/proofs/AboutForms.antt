@@ -3,5 +3,6 @@ pub mod ConsequenceLemmas
 pub mod ExtendedLemmas
 pub mod FormedLemmas
 pub mod KindLemmas
+pub mod ReturnedLemmas
 pub mod TableLemmas
 pub mod TermLemmas

@@ -15,6 +15,12 @@ ModelsExtend =
     → IsTrue (are_closed fs) → InterpretsProblem fs i → IsTrue (is_model_of_problem i fs)
     → (j : Interpretation) × InterpretsForm fs j × Extends fs i j × FormTrue fs j
 
+-- And the way back: an interpretation that makes the clausal form true makes the axioms true and the conjecture false.
+abbrev pub FormsReturn : Type 0
+FormsReturn =
+    (fs : List Annotated) (j : Interpretation)
+    → IsTrue (are_closed fs) → InterpretsForm fs j → FormTrue fs j → IsTrue (is_model_of_problem j fs)
+
 -- So what is refuted by finitely many ground instances of its form has no finite model,
 abbrev pub RefutedProblemsHaveNoModel : Type 0
 RefutedProblemsHaveNoModel =

@@ -3,6 +3,6 @@
 mod meaning;
 
 pub use meaning::{
-    accepted_derivations_prove, models_extend, refuted_axioms_are_unsatisfiable,
+    accepted_derivations_prove, forms_return, models_extend, refuted_axioms_are_unsatisfiable,
     refuted_conjectures_follow, refuted_problems_have_no_model,
 };

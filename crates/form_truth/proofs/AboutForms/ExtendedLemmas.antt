@@ -36,7 +36,7 @@ use Rattle.form_truth.proofs.AboutForms.TermLemmas.{clause-same}
 -- ---- the formulas
 
 -- each formula's symbols are among the problem's
-each-known :
+pub each-known :
     (known : List Symbol) (fs : List Annotated)
     → AllByRecursion (λ (a : Annotated). list_all (λ s. has_symbol s (fold with_symbol known (flat_map annotated_symbols fs))) (annotated_symbols a) ≡ true) fs
 each-known known [] = tt
@@ -47,7 +47,7 @@ each-known known (b ∷ fs) = (
       (each-known (fold with_symbol known (annotated_symbols b)) fs),
 )
 
-none-left : {X : Type 0} (xs : List X) → (length xs == 0) ≡ true → xs ≡ []
+pub none-left : {X : Type 0} (xs : List X) → (length xs == 0) ≡ true → xs ≡ []
 none-left [] h = refl
 none-left (x ∷ xs) h = absurd (long (eqb-true (length (x ∷ xs)) 0 h))
   where

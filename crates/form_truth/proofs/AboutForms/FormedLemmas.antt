@@ -156,7 +156,7 @@ mutual
   values-instances s ρ σ no_trees = refl
   values-instances s ρ σ (tree_then t ts) = ap₂ ◌∷◌ (value-instance s ρ σ t) (values-instances s ρ σ ts)
 
-holds-instance :
+pub holds-instance :
     (s : Structure) (ρ : Assignment) (σ : Substitution) (c : Literals)
     → holds s ρ (map (literal_instance σ) c) ≡ holds s (λ v. value s ρ (σ v)) c
 holds-instance s ρ σ [] = refl

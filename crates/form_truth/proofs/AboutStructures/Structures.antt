@@ -52,7 +52,7 @@ literal-same s ρ τ l h =
     let parts = each-parts (λ v. ρ v ≡ τ v) (tree_variables l.left) (tree_variables l.right) h in
     ap₂ (sides_true l.positive) (value-same s ρ τ l.left parts.0) (value-same s ρ τ l.right parts.1)
 
-holds-same : (s : Structure) (ρ τ : Assignment) (c : Literals) → Same ρ τ (flat_map literal_variables c) → holds s ρ c ≡ holds s τ c
+pub holds-same : (s : Structure) (ρ τ : Assignment) (c : Literals) → Same ρ τ (flat_map literal_variables c) → holds s ρ c ≡ holds s τ c
 holds-same s ρ τ [] h = refl
 holds-same s ρ τ (l ∷ c) h =
     let parts = each-parts (λ v. ρ v ≡ τ v) (literal_variables l) (flat_map literal_variables c) h in

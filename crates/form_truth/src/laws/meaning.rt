@@ -2,6 +2,7 @@
 
 ghost use Rattle.form_truth.specs.Laws.{
   ModelsExtend,
+  FormsReturn,
   RefutedProblemsHaveNoModel,
   RefutedConjecturesFollow,
   RefutedAxiomsAreUnsatisfiable,
@@ -11,6 +12,11 @@ ghost use Rattle.form_truth.specs.Laws.{
 /// Where the formulas are true, the conjecture negated, the clausal form is true in an extended interpretation.
 pub fn models_extend()
     ensures { ModelsExtend }
+{}
+
+/// Where the clausal form is true, the formulas are, the conjecture negated.
+pub fn forms_return()
+    ensures { FormsReturn }
 {}
 
 /// A problem that is refuted by ground instances of its form has no finite model.

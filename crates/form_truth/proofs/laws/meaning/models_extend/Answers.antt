@@ -1,7 +1,4 @@
 use Rattle.form_truth.proofs.AboutForms.ExtendedLemmas.{models_extend}
-use Rattle.form_truth.proofs.AboutReturn.Openings.{skolem-close}
-use Rattle.form_truth.proofs.AboutReturn.ReturnWorks.{formula-back}
-use Rattle.form_truth.proofs.AboutReturn.ReturnProducts.{either-follows}
 use Rattle.form_truth.proofs.laws.meaning.models_extend.Goals as goal
 
 pub returns : goal.returns
