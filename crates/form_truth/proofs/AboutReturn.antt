@@ -2,4 +2,5 @@
 pub mod Openings
 pub mod Ranges
 pub mod ReturnProducts
+pub mod ReturnSteps
 pub mod ReturnWorks

@@ -11,3 +11,5 @@ pub mod AboutForms
 pub mod AboutReturn
 -- AboutReading: problems that are read have no free variables.
 pub mod AboutReading
+-- WorkedExamples: worked examples.
+pub mod WorkedExamples
