@@ -1,5 +1,5 @@
 -- The problems and interpretations of the worked examples.
-use Rattle.std.specs.Prelude.{List, [], ◌∷◌, codes}
+use Rattle.std.specs.Prelude.{List, [], ◌∷◌}
 use Rattle.tptp_tree.specs.Formula.{FormulaTree, for_all, exists_some, quantified}
 use Rattle.tptp_tree.specs.declared.problem.Annotated.{Annotated}
 use Rattle.fol_base.specs.Interpretation.{Interpretation}

@@ -1,5 +1,5 @@
 -- What a refutation of the clausal form says of the formulas.
-use Rattle.std.proofs.Common.{◌≡◌, ℕ, zero, suc, ◌<◌, ◌≤◌, Bool, true, false, not, ◌&&◌, ◌||◌, List, [], ◌∷◌, length, refl, ap, ap₂, sym, ◌∙◌, subst, arith, get_or}
+use Rattle.std.proofs.Common.{◌≡◌, ℕ, zero, suc, ◌<◌, Bool, true, false, not, ◌&&◌, ◌||◌, List, [], ◌∷◌, refl, ap, sym, ◌∙◌, subst, arith, get_or}
 use mathlib.Core.Bool.{beq}
 use Rattle.std.specs.Prelude.{All, Contains}
 use Rattle.std.specs.List.{AllByRecursion, list_any, list_all}
@@ -9,8 +9,8 @@ use Rattle.tptp_tree.specs.Entries.{is_conjecture}
 use Rattle.tptp_tree.specs.declared.problem.Annotated.{Annotated}
 use Rattle.fol_base.specs.Clause.{TreeClause}
 use Rattle.fol_base.specs.Covered.{InstanceOf}
-use Rattle.fol_base.specs.Ground.{GroundClause, literals_instance}
-use Rattle.fol_base.specs.Interpretation.{Interpretation, IsInterpretation, Assignment, tree_value, literals_true_under, no_values, clause_true, clauses_true}
+use Rattle.fol_base.specs.Ground.{GroundClause}
+use Rattle.fol_base.specs.Interpretation.{Interpretation, tree_value, no_values, clause_true, clauses_true}
 use Rattle.fol_base.proofs.AboutTerms.KindLemmas.{ground_trees_are_function_terms}
 use Rattle.fol_base.proofs.AboutClauses.MeaningLemmas.{truth_of_instances}
 use Rattle.kernel_steps.proofs.AboutSoundness.SoundLemmas.{function_term-value}
@@ -20,7 +20,7 @@ use Rattle.signature.specs.Form.{clausal_form}
 use Rattle.signature.specs.Truth.{annotated_true, is_model_of_problem, ClauseTrue}
 use Rattle.clausal_form.specs.FormFunctions.{is_predicate_in, IsHerbrandRefuted}
 use Rattle.clausal_form.proofs.AboutDerivations.RefutationLemmas.{accepted_derivations_refute}
-use Rattle.form_truth.specs.Meaning.{InterpretsForm, FormTrue, axioms_true, conjecture_true, has_conjecture}
+use Rattle.form_truth.specs.Meaning.{InterpretsForm, FormTrue, axioms_true, conjecture_true}
 use Rattle.form_truth.specs.Laws.{RefutedProblemsHaveNoModel, RefutedConjecturesFollow, RefutedAxiomsAreUnsatisfiable, AcceptedDerivationsProve}
 use Rattle.form_truth.proofs.AboutForms.ExtendedLemmas.{models_extend}
 

@@ -1,21 +1,21 @@
 -- An interpretation of a problem that makes its formulas true, the conjecture negated, is extended to one that makes its form true.
-use Rattle.std.proofs.Common.{◌≡◌, ℕ, zero, suc, ◌+◌, ◌<◌, ◌≤◌, ◌==◌, nat_lt, Bool, true, false, not, ◌&&◌, List, [], ◌∷◌, ◌++◌, length, map, flat_map, fold, ◌⊎◌, inl, inr, ⊎_elim, if◌then◌else◌, refl, ap, ap₂, sym, ◌∙◌, subst, arith}
+use Rattle.std.proofs.Common.{◌≡◌, ℕ, suc, ◌+◌, ◌<◌, ◌≤◌, ◌==◌, nat_lt, Bool, true, not, List, [], ◌∷◌, length, flat_map, fold, inl, inr, ⊎_elim, if◌then◌else◌, refl, ap, sym, ◌∙◌, subst, arith}
 use mathlib.Core.Bool.{beq}
 use Rattle.std.specs.List.{AllByRecursion, list_all}
-use Rattle.std.proofs.lemmas.Bool.{and_parts, eqb-true, lt-ltb, le-ltb, cases_lt, cond-true, cond-false, true≢false}
+use Rattle.std.proofs.lemmas.Bool.{and_parts, eqb-true, lt-ltb, le-ltb, cases_lt, cond-true, cond-false}
 use Rattle.std.proofs.lemmas.Option.{slice_get_within}
 use Rattle.tptp_tree.specs.Entries.{is_conjecture}
 use Rattle.tptp_tree.specs.declared.problem.Annotated.{Annotated}
 use Rattle.fol_base.specs.Clause.{TreeClause}
 use Rattle.fol_base.specs.WellFormed.{SymbolUse, are_literals_of}
-use Rattle.fol_base.specs.Interpretation.{Interpretation, IsInterpretation, Assignment, symbol_value, literals_true_under}
+use Rattle.fol_base.specs.Interpretation.{Interpretation, Assignment, symbol_value}
 use Rattle.signature.specs.declared.symbol.Symbol.{Symbol}
 use Rattle.signature.specs.Symbol.{true_symbol, has_symbol, with_symbol}
 use Rattle.signature.specs.Occurrences.{annotated_symbols, problem_symbols}
 use Rattle.signature.specs.Environment.{free_names, closed}
-use Rattle.signature.specs.Clausal.{SymbolNumbers, Made, Literals, begun, canonical_literals, formed}
+use Rattle.signature.specs.Clausal.{SymbolNumbers, Made, begun}
 use Rattle.signature.specs.Form.{symbol_numbers, problem_skolem_count, nothing_made, problem_form, clausal_form}
-use Rattle.signature.specs.Truth.{annotated_true, is_model_of_problem, IsAssignmentOf, ClauseTrue}
+use Rattle.signature.specs.Truth.{annotated_true, is_model_of_problem, ClauseTrue}
 use Rattle.clausal_form.specs.FormFunctions.{is_predicate_in}
 use Rattle.clausal_form.specs.FormLaws.{arity_in, use_of}
 use Rattle.clausal_form.proofs.AboutForms.FunctionLemmas.{first-folded}
@@ -24,7 +24,7 @@ use Rattle.clausal_form.proofs.AboutNaming.NameLemmas.{closed-known}
 use Rattle.clausal_form.proofs.AboutWriting.LoopLemmas.{all-come, fold-append}
 use Rattle.form_truth.specs.Meaning.{are_closed, InterpretsProblem, InterpretsForm, Extends, FormTrue}
 use Rattle.form_truth.specs.Laws.{ModelsExtend}
-use Rattle.form_truth.proofs.AboutStructures.Structures.{Structure, holds, all_hold}
+use Rattle.form_truth.proofs.AboutStructures.Structures.{Structure, holds}
 use Rattle.form_truth.proofs.AboutStructures.Search.{HasSize}
 use Rattle.form_truth.proofs.AboutWork.Extending.{IsOld, Agree, Base, Ready, Outcome}
 use Rattle.form_truth.proofs.AboutWork.Atoms.{AreKnown}
@@ -65,8 +65,7 @@ each-meant n i (a ∷ fs) c k h =
     let closed_ones = and_parts (length (free_names (closed a)) == 0) (list_all (λ (b : Annotated). length (free_names (closed b)) == 0) fs) c in
     let so =
     and_parts (beq (annotated_true n.symbols i a) (not (is_conjecture a.role)))
-    (list_all (λ (b : Annotated). beq (annotated_true n.symbols i b) (not (is_conjecture b.role))) fs) h in
-    (
+    (list_all (λ (b : Annotated). beq (annotated_true n.symbols i b) (not (is_conjecture b.role))) fs) h in (
       record {
         no_free = none-left (free_names (closed a)) closed_ones.0;
         known = closed-known n.symbols a k.0;
@@ -186,8 +185,7 @@ module _ (fs : List Annotated) (i : Interpretation) (closed_all : are_closed fs 
   clauses-true (c ∷ cs) w h =
       let right =
       and_parts (are_literals_of (use_of (clausal_form fs).symbols) c.literals)
-      (list_all (λ (d : TreeClause). are_literals_of (use_of (clausal_form fs).symbols) d.literals) cs) w in
-      (
+      (list_all (λ (d : TreeClause). are_literals_of (use_of (clausal_form fs).symbols) d.literals) cs) w in (
         λ ρ has.
             clause-same form_kinds (is_predicate_in (problem_symbols fs)) i last (arity_in (clausal_form fs).symbols) first count tabulates ρ has c.literals right.0
             ∙ (and_parts (holds last ρ c.literals) (list_all (λ (d : TreeClause). holds last ρ d.literals) cs) (h ρ has)).0,

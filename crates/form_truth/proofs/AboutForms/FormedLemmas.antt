@@ -1,27 +1,27 @@
 -- The clauses of a problem are true in a structure that is extended from an interpretation in which its formulas are true.
-use Rattle.std.proofs.Common.{◌≡◌, ℕ, suc, ◌+◌, ◌<◌, ◌≤◌, Bool, true, false, not, ◌&&◌, ◌||◌, List, [], ◌∷◌, ◌++◌, length, map, refl, ap, ap₂, sym, ◌∙◌, subst, arith}
+use Rattle.std.proofs.Common.{◌≡◌, ℕ, ◌+◌, ◌≤◌, Bool, true, false, not, ◌&&◌, ◌||◌, List, [], ◌∷◌, ◌++◌, length, map, refl, ap, ap₂, sym, ◌∙◌, subst, arith}
 use mathlib.Core.Bool.{beq}
-use Rattle.std.specs.List.{AllByRecursion, list_any, list_all}
+use Rattle.std.specs.List.{AllByRecursion, list_all}
 use Rattle.std.proofs.lemmas.Bool.{and_parts, and_from}
 use Rattle.std.proofs.lemmas.List.{map-append}
 use Rattle.tptp_tree.specs.Entries.{is_conjecture}
 use Rattle.tptp_tree.specs.declared.problem.Annotated.{Annotated}
 use Rattle.fol_base.specs.Tree.{Tree, variable, application, Trees, no_trees, tree_then}
 use Rattle.fol_base.specs.Instance.{Substitution, instance, instances}
-use Rattle.fol_base.specs.Clause.{TreeLiteral, TreeClause, literal_instance}
+use Rattle.fol_base.specs.Clause.{TreeClause, literal_instance}
 use Rattle.fol_base.specs.Canonical.{canonical_renaming}
 use Rattle.fol_base.specs.Interpretation.{Interpretation, Assignment, sides_true}
 use Rattle.signature.specs.Occurrences.{formula_symbols}
 use Rattle.signature.specs.Environment.{free_names, closed, term_in_force}
-use Rattle.signature.specs.Clausal.{SymbolNumbers, Made, Worked, Formed, Literals, clauses_of, begun, annotated_clauses, canonical_literals, formed}
+use Rattle.signature.specs.Clausal.{SymbolNumbers, Made, Worked, Literals, clauses_of, begun, annotated_clauses, canonical_literals, formed}
 use Rattle.signature.specs.Form.{skolem_count, problem_skolem_count}
-use Rattle.signature.specs.Truth.{Values, value_in_force, annotated_true}
-use Rattle.form_truth.proofs.AboutStructures.Structures.{Structure, value, values, literal_holds, holds, all_hold, all_hold-joined}
+use Rattle.signature.specs.Truth.{value_in_force, annotated_true}
+use Rattle.form_truth.proofs.AboutStructures.Structures.{Structure, value, values, holds, all_hold, all_hold-joined}
 use Rattle.form_truth.proofs.AboutStructures.Search.{HasSize}
 use Rattle.form_truth.proofs.AboutFormulas.SignLemmas.{signed}
-use Rattle.form_truth.proofs.AboutWork.Extending.{Agree, Grows, grows-itself, grows-further, agree-itself, agree-before, agree-further, KeptTerm, KeptClauses, clauses-later, Base, Ready, Outcome, Meant}
+use Rattle.form_truth.proofs.AboutWork.Extending.{grows-itself, grows-further, agree-itself, agree-before, agree-further, KeptTerm, KeptClauses, Base, Ready, Outcome}
 use Rattle.form_truth.proofs.AboutWork.Atoms.{AreKnown}
-use Rattle.form_truth.proofs.AboutWork.Works.{formula-sound, signed_true}
+use Rattle.form_truth.proofs.AboutWork.Works.{formula-sound}
 
 -- ---- one formula
 

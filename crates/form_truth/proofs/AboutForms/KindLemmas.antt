@@ -1,12 +1,9 @@
 -- The kinds of the symbols of a form: the problem's as they are, then Skolem symbols, which are functions, and names, which are
 -- predicates.
-use Rattle.std.proofs.Common.{◌≡◌, ℕ, zero, suc, ◌+◌, ◌-◌, ◌<◌, ◌≤◌, Bool, true, false, List, [], ◌∷◌, ◌++◌, length, length-append, refl, ap, sym, ◌∙◌, subst, arith}
-use Rattle.std.specs.Prelude.{slice_get, unwrap_or, option_map, codes}
-use Rattle.std.specs.Fmt.{decimal}
-use Rattle.tptp_tree.specs.declared.problem.Annotated.{Annotated}
+use Rattle.std.proofs.Common.{◌≡◌, ℕ, zero, suc, ◌+◌, ◌-◌, ◌<◌, ◌≤◌, true, false, List, [], ◌∷◌, ◌++◌, length, length-append, refl, ap, ◌∙◌, arith}
+use Rattle.std.specs.Prelude.{codes}
 use Rattle.signature.specs.declared.symbol.Symbol.{Symbol}
-use Rattle.signature.specs.Symbol.{is_predicate_kind, predicate_symbol, function_symbol}
-use Rattle.signature.specs.Occurrences.{problem_symbols}
+use Rattle.signature.specs.Symbol.{predicate_symbol, function_symbol}
 use Rattle.signature.specs.Prefix.{fresh_prefix_of}
 use Rattle.signature.specs.Clausal.{Made}
 use Rattle.signature.specs.Form.{numbered_symbols, spare_constant, with_skolem, with_naming, form_symbols}

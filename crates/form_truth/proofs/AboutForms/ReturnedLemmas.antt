@@ -1,9 +1,9 @@
 -- An interpretation that makes a clausal form true makes its problem's formulas true, the conjecture negated.
-use Rattle.std.proofs.Common.{◌≡◌, ℕ, zero, suc, ◌+◌, ◌<◌, ◌≤◌, ◌==◌, nat_lt, Bool, true, false, not, ◌&&◌, ◌||◌, List, [], ◌∷◌, ◌++◌, length, map, flat_map, filter, get_or, Some, ⊎_elim, if◌then◌else◌, refl, ap, ap₂, sym, ◌∙◌, subst, arith}
+use Rattle.std.proofs.Common.{◌≡◌, ℕ, suc, ◌+◌, ◌<◌, ◌≤◌, ◌==◌, nat_lt, Bool, true, false, not, ◌||◌, List, [], ◌∷◌, ◌++◌, length, map, flat_map, filter, get_or, Some, if◌then◌else◌, refl, ap, ap₂, sym, ◌∙◌, subst, arith}
 use Rattle.std.specs.Prelude.{option_map, unwrap_or}
 use mathlib.Core.Bool.{beq}
-use Rattle.std.specs.List.{AllByRecursion, list_any, list_all}
-use Rattle.std.proofs.lemmas.Bool.{and_parts, and_from, or_cases, or_left, or_right, eqb-true, eq-eqb, ltb-true, cond-false, cond_both, cases_Bool, true≢false}
+use Rattle.std.specs.List.{AllByRecursion, list_all}
+use Rattle.std.proofs.lemmas.Bool.{and_parts, and_from, eqb-true, ltb-true, cond-false, cond_both, true≢false}
 use Rattle.std.proofs.lemmas.Option.{slice_get_within}
 use Rattle.tptp_tree.specs.Entries.{is_conjecture}
 use Rattle.tptp_tree.specs.declared.problem.Annotated.{Annotated}
@@ -11,18 +11,17 @@ use Rattle.fol_base.specs.Tree.{Tree, variable, application, Trees, no_trees, tr
 use Rattle.fol_base.specs.Instance.{Substitution}
 use Rattle.fol_base.specs.Clause.{TreeLiteral, TreeClause, literal_variables, clause_variables}
 use Rattle.fol_base.specs.Canonical.{distinct, place_of, canonical_renaming}
-use Rattle.fol_base.specs.Interpretation.{Row, Interpretation, IsInterpretation, row_in_range, is_row_of, table_value, symbol_value, Assignment, tree_value, trees_values, sides_true, literals_true_under}
+use Rattle.fol_base.specs.Interpretation.{Row, Interpretation, row_in_range, is_row_of, table_value, symbol_value, Assignment, tree_value, trees_values, sides_true, literals_true_under}
 use Rattle.signature.specs.Symbol.{true_symbol}
 use Rattle.signature.specs.Occurrences.{annotated_symbols, formula_symbols, problem_symbols}
 use Rattle.signature.specs.Environment.{free_names, closed, term_in_force}
-use Rattle.signature.specs.Clausal.{SymbolNumbers, Made, Worked, Literals, clauses_of, begun, annotated_clauses, canonical_literals}
-use Rattle.signature.specs.Form.{skolem_count, symbol_numbers, problem_skolem_count, nothing_made, problem_form, clausal_form}
-use Rattle.signature.specs.Truth.{value_in_force, annotated_true, is_model_of_problem, ClauseTrue}
+use Rattle.signature.specs.Clausal.{SymbolNumbers, Made, Worked, Literals, clauses_of, begun, canonical_literals}
+use Rattle.signature.specs.Form.{symbol_numbers, problem_skolem_count, nothing_made, problem_form, clausal_form}
+use Rattle.signature.specs.Truth.{value_in_force, annotated_true, ClauseTrue}
 use Rattle.signature.proofs.SkolemLemmas.{skolem_symbols_of_problem_are_counted}
 use Rattle.clausal_form.specs.FormFunctions.{is_predicate_in}
 use Rattle.clausal_form.proofs.AboutForms.FunctionLemmas.{first-folded}
 use Rattle.clausal_form.proofs.AboutNaming.NameLemmas.{closed-known}
-use Rattle.form_truth.specs.Meaning.{are_closed, InterpretsForm, FormTrue}
 use Rattle.form_truth.specs.Laws.{FormsReturn}
 use Rattle.form_truth.proofs.AboutStructures.ListLemmas.{is_listed, each-weaker, listed-itself, listed-filtered}
 use Rattle.form_truth.proofs.AboutStructures.Structures.{Structure, Same, value, values, holds, holds-same, all_hold, all_hold-joined}
@@ -161,12 +160,12 @@ formulas-true n j base small (a ∷ fs) m c fits h =
     let rest : List Literals = raw_clauses n fs w.made in
     let both : (τ : Assignment) → HasSize j.size τ → (all_hold s τ (w.clauses ++ w.made.defining) ≡ true) × (all_hold s τ rest ≡ true) =
     λ τ has.
-        and_parts (all_hold s τ (w.clauses ++ w.made.defining)) (all_hold s τ rest)
-        (sym (all_hold-joined s τ (w.clauses ++ w.made.defining) rest) ∙ h τ has) in
+    and_parts (all_hold s τ (w.clauses ++ w.made.defining)) (all_hold s τ rest)
+    (sym (all_hold-joined s τ (w.clauses ++ w.made.defining) rest) ∙ h τ has) in
     let own : (τ : Assignment) → HasSize j.size τ → (all_hold s τ w.clauses ≡ true) × (all_hold s τ w.made.defining ≡ true) =
     λ τ has.
-        and_parts (all_hold s τ w.clauses) (all_hold s τ w.made.defining)
-        (sym (all_hold-joined s τ w.clauses w.made.defining) ∙ (both τ has).0) in
+    and_parts (all_hold s τ w.clauses) (all_hold s τ w.made.defining)
+    (sym (all_hold-joined s τ w.clauses w.made.defining) ∙ (both τ has).0) in
     let b = formula-back n j.size s j base refl (λ g l. refl) refl small (closed a) sign [] (c.0).known in
     let r =
     b.returned (begun m) (omega (arith, fits))

@@ -1,12 +1,12 @@
 -- A structure's values at some symbols as a table, over the values below a size.
-use Rattle.std.proofs.Common.{◌≡◌, ℕ, zero, suc, ◌+◌, ◌<◌, ◌≤◌, ◌==◌, nat_lt, Bool, true, false, not, ◌&&◌, ◌||◌, List, [], ◌∷◌, ◌++◌, length, map, flat_map, filter, if◌then◌else◌, ◌⊎◌, inl, inr, ⊎_elim, append_assoc, refl, ap, ap₂, sym, ◌∙◌, subst, arith}
+use Rattle.std.proofs.Common.{◌≡◌, ℕ, zero, suc, ◌+◌, ◌<◌, ◌≤◌, ◌==◌, nat_lt, Bool, true, false, ◌&&◌, ◌||◌, List, [], ◌∷◌, ◌++◌, length, map, flat_map, filter, if◌then◌else◌, ◌⊎◌, inl, inr, ⊎_elim, append_assoc, refl, ap, ap₂, sym, ◌∙◌, arith}
 use lib.Pointwise.{pointwise}
 use Rattle.std.specs.List.{AllByRecursion, list_any, list_all}
-use Rattle.std.proofs.lemmas.Bool.{and_parts, and_from, and_left, or_left, or_right, or_cases, eqb-true, eq-eqb, ne_eqb, lt-ltb, ltb-true, cases_lt, cases_eq, cond-true, cond-false, true≢false, false_from_ne_true}
+use Rattle.std.proofs.lemmas.Bool.{and_parts, and_from, and_left, or_left, or_right, or_cases, eqb-true, eq-eqb, ne_eqb, lt-ltb, ltb-true, cases_lt, cases_eq, cond-false, true≢false}
 use Rattle.std.proofs.lemmas.List.Folds.{list_all-append, list_any-append}
 use Rattle.fol_base.specs.Canonical.{numbers_from}
 use Rattle.fol_base.specs.Interpretation.{Row, Interpretation, IsInterpretation, row_in_range, is_row_of, table_value, symbol_value}
-use Rattle.form_truth.proofs.AboutStructures.ListLemmas.{each-parts, each-joined, each-weaker, each-all, all-each, numbers-between, is_listed, numbers-listed}
+use Rattle.form_truth.proofs.AboutStructures.ListLemmas.{each-joined, each-weaker, each-all, numbers-between, is_listed, numbers-listed}
 use Rattle.form_truth.proofs.AboutStructures.Structures.{Structure}
 
 -- ---- all lists of values

@@ -1,12 +1,12 @@
 -- The table of a structure gives well-formed terms the structure's values, and well-formed clauses its truth.
-use Rattle.std.proofs.Common.{◌≡◌, ℕ, suc, ◌+◌, ◌<◌, ◌≤◌, ◌==◌, Bool, true, false, not, ◌&&◌, ◌||◌, List, [], ◌∷◌, length, ◌⊎◌, inl, inr, ⊎_elim, refl, ap, ap₂, sym, ◌∙◌, subst, arith}
-use Rattle.std.specs.List.{AllByRecursion, list_any, list_all}
+use Rattle.std.proofs.Common.{◌≡◌, ℕ, ◌<◌, ◌==◌, Bool, true, not, ◌&&◌, ◌||◌, List, [], ◌∷◌, length, ⊎_elim, refl, ap, ap₂, sym, ◌∙◌, subst, arith}
+use Rattle.std.specs.List.{AllByRecursion}
 use Rattle.std.proofs.lemmas.Bool.{and_parts, eqb-true, true≢false}
 use Rattle.fol_base.specs.Tree.{Tree, variable, application, Trees, no_trees, tree_then, trees_count, true_symbol, true_tree, is_truth}
 use Rattle.fol_base.specs.Kind.{is_function_term, are_function_terms, is_predicate_term, is_literal}
 use Rattle.fol_base.specs.Clause.{TreeLiteral}
-use Rattle.fol_base.specs.WellFormed.{SymbolUse, has_arities, have_arities, is_literal_of, are_literals_of}
-use Rattle.fol_base.specs.Interpretation.{Interpretation, IsInterpretation, Assignment, symbol_value, tree_value, trees_values, sides_true, literal_true_under, literals_true_under}
+use Rattle.fol_base.specs.WellFormed.{has_arities, have_arities, is_literal_of, are_literals_of}
+use Rattle.fol_base.specs.Interpretation.{Interpretation, Assignment, tree_value, trees_values, sides_true, literal_true_under, literals_true_under}
 use Rattle.fol_base.proofs.AboutTerms.TreeLemmas.{tree_eq-true}
 use Rattle.fol_base.proofs.AboutTerms.WellFormedLemmas.{is_literal-cases}
 use Rattle.kernel_steps.proofs.AboutSoundness.SoundLemmas.{function_term-value}

@@ -1,7 +1,6 @@
 -- The truth of formulas under a sign.
-use Rattle.std.proofs.Common.{◌≡◌, ℕ, ◌==◌, Bool, true, false, not, ◌&&◌, ◌||◌, List, [], ◌∷◌, if◌then◌else◌, refl, ap, ap₂, sym, ◌∙◌}
+use Rattle.std.proofs.Common.{◌≡◌, ℕ, ◌==◌, Bool, true, false, not, ◌&&◌, ◌||◌, List, [], ◌∷◌, if◌then◌else◌, refl, ap, sym, ◌∙◌}
 use mathlib.Core.Bool.{beq}
-use Rattle.std.specs.List.{list_any, list_all}
 use Rattle.tptp_tree.specs.Formula.{implies, implied, equivalent, different, nor, nand, for_all, exists_some, FormulaTrees, no_formulas, formula_then}
 use Rattle.fol_base.specs.Canonical.{numbers_from}
 use Rattle.fol_base.specs.Interpretation.{Interpretation, sides_true}
@@ -130,8 +129,7 @@ pub conjunction-sign :
     → (all_signed known i true fs V ≡ all_formulas_true known i fs V) × (some_signed known i false fs V ≡ not (all_formulas_true known i fs V))
 conjunction-sign known i no_formulas V = (refl, refl)
 conjunction-sign known i (formula_then f fs) V =
-    let rest = conjunction-sign known i fs V in
-    (
+    let rest = conjunction-sign known i fs V in (
       ap (λ b. formula_true known i f V && b) rest.0,
       sym (not-and (formula_true known i f V) (all_formulas_true known i fs V) (some_signed known i false fs V) (sym rest.1)),
     )
@@ -141,8 +139,7 @@ pub disjunction-sign :
     → (some_signed known i true fs V ≡ some_formula_true known i fs V) × (all_signed known i false fs V ≡ not (some_formula_true known i fs V))
 disjunction-sign known i no_formulas V = (refl, refl)
 disjunction-sign known i (formula_then f fs) V =
-    let rest = disjunction-sign known i fs V in
-    (
+    let rest = disjunction-sign known i fs V in (
       ap (λ b. formula_true known i f V || b) rest.0,
       sym (not-or (formula_true known i f V) (some_formula_true known i fs V) (all_signed known i false fs V) (sym rest.1)),
     )

@@ -1,14 +1,13 @@
 -- A formula that is read without a fault has no variable but those that its quantifiers bind.
-use Rattle.std.proofs.Common.{◌≡◌, ℕ, suc, Bool, true, false, not, ◌&&◌, ◌||◌, List, [], ◌∷◌, ◌++◌, length, filter, Option, None, Some, if◌then◌else◌, ⊎_elim, refl, ap, sym, ◌∙◌, subst}
+use Rattle.std.proofs.Common.{◌≡◌, ℕ, suc, Bool, true, false, not, ◌||◌, List, [], ◌∷◌, ◌++◌, filter, Option, None, Some, if◌then◌else◌, ⊎_elim, refl, ap, sym, ◌∙◌}
 use Rattle.std.specs.Prelude.{bytes_eq}
 use Rattle.std.specs.List.{AllByRecursion, list_any}
 use Rattle.std.proofs.lemmas.Bool.{or_cases, or_left, or_right, true≢false}
 use Rattle.std.proofs.lemmas.Slice.Eq.{bytes_eq-Decides}
 use Rattle.std.proofs.lemmas.List.Folds.{list_any-append}
-use Rattle.tptp_tree.specs.Term.{TermTree}
-use Rattle.tptp_tree.specs.Formula.{for_all, FormulaTree, quantified}
+use Rattle.tptp_tree.specs.Formula.{FormulaTree}
 use Rattle.tptp_tree.specs.Spelling.{TermPhrase, TermPhrases, variable_word, word_with, no_phrases, phrase_then, term_meant, terms_meant, Atom, true_atom, false_atom, predicate_atom, equation_atom, atom_meant, UnitPhrase, UnitPhrases, Phrase, negated, bound, in_brackets, atomic, no_units, unit_then, alone, all_of, some_of, joined_by, unit_meant, units_meant, meant}
-use Rattle.tptp_tree.specs.Causes.{Refusal, free_variable, Surroundings, bound_ones, variable_cause, term_causes, arguments_causes, more_arguments_causes, atom_causes, more_variables_causes, unit_causes, units_causes, phrase_causes}
+use Rattle.tptp_tree.specs.Causes.{Refusal, free_variable, Surroundings, bound_ones, term_causes, arguments_causes, more_arguments_causes, atom_causes, more_variables_causes, unit_causes, units_causes, phrase_causes}
 use Rattle.tptp_reader.specs.Answers.{AreFaultless}
 use Rattle.signature.specs.Environment.{term_names, terms_names, without_names, free_names, all_free_names, different_names, under_for_all}
 use Rattle.form_truth.proofs.AboutStructures.ListLemmas.{each-joined, each-weaker}
@@ -169,16 +168,14 @@ mutual
   phrase-bound limit level xs (all_of u v us) rest h =
       let one = unit-bound limit level xs u (None ∷ unit_causes (at limit level xs) v (units_causes (at limit level xs) us rest)) h in
       let other = unit-bound limit level xs v (units_causes (at limit level xs) us rest) (one.1).1 in
-      let more = units-bound limit level xs us rest other.1 in
-      (
+      let more = units-bound limit level xs us rest other.1 in (
         three-among xs (free_names (unit_meant u)) (free_names (unit_meant v)) (all_free_names (units_meant us)) one.0 other.0 more.0,
         more.1,
       )
   phrase-bound limit level xs (some_of u v us) rest h =
       let one = unit-bound limit level xs u (None ∷ unit_causes (at limit level xs) v (units_causes (at limit level xs) us rest)) h in
       let other = unit-bound limit level xs v (units_causes (at limit level xs) us rest) (one.1).1 in
-      let more = units-bound limit level xs us rest other.1 in
-      (
+      let more = units-bound limit level xs us rest other.1 in (
         three-among xs (free_names (unit_meant u)) (free_names (unit_meant v)) (all_free_names (units_meant us)) one.0 other.0 more.0,
         more.1,
       )

@@ -1,17 +1,17 @@
 -- A problem that is read has no formula with a free variable.
-use Rattle.std.proofs.Common.{◌≡◌, ℕ, zero, suc, ◌==◌, Bool, true, false, List, [], ◌∷◌, ◌++◌, length, map, Option, if◌then◌else◌, refl, ap, sym, ◌∙◌, subst}
-use Rattle.std.specs.List.{AllByRecursion, list_all}
+use Rattle.std.proofs.Common.{◌≡◌, ℕ, zero, suc, ◌==◌, Bool, true, false, List, [], ◌∷◌, length, map, Option, if◌then◌else◌, refl, ap, sym, ◌∙◌, subst}
+use Rattle.std.specs.List.{AllByRecursion}
 use Rattle.std.proofs.lemmas.Bool.{and_from}
 use Rattle.outside.specs.Library.{Holdings}
 use Rattle.tptp_tree.specs.Formula.{FormulaTree}
 use Rattle.tptp_tree.specs.Entries.{Body, formula_body, clause_body, is_clause_body, body_meant, AnnotatedPhrase, AnnotatedTree, IsAnnotatedOf, names_meant}
-use Rattle.tptp_tree.specs.Causes.{annotated_causes, body_causes, notes_part_causes}
+use Rattle.tptp_tree.specs.Causes.{annotated_causes, body_causes}
 use Rattle.tptp_tree.specs.declared.limits.TheConstants.{MOST_NESTING}
 use Rattle.tptp_tree.specs.declared.problem.Annotated.{Annotated}
 use Rattle.tptp_reader.specs.Answers.{AreFaultless}
 use Rattle.tptp_reader.specs.Shape.{tree_of}
-use Rattle.tptp_problem.specs.Formulas.{Placed, placed, selects, selected}
-use Rattle.tptp_problem.specs.Problem.{LoadedFile, Progress, Step, Reads, IsStepBy, AreSteps, formulas_along, ReadsNamed, IsProblem}
+use Rattle.tptp_problem.specs.Formulas.{Placed, placed, selects}
+use Rattle.tptp_problem.specs.Problem.{LoadedFile, Progress, Step, Reads, IsStepBy, AreSteps, formulas_along, ReadsNamed}
 use Rattle.tptp_problem.specs.declared.limits.TheConstants.{MOST_INCLUDES}
 use Rattle.signature.specs.Environment.{free_names, different_names, under_for_all}
 use Rattle.form_truth.specs.Meaning.{are_closed}

@@ -1,23 +1,22 @@
 -- The way back through quantifiers: what holds for each value of a new variable holds for all, and what holds for the value of a Skolem
 -- term holds for some.
-use Rattle.std.proofs.Common.{◌≡◌, ℕ, suc, ◌+◌, ◌<◌, ◌≤◌, ◌==◌, Bool, true, false, ◌||◌, List, [], ◌∷◌, ◌++◌, length, length-append, map, flat_map, if◌then◌else◌, ◌⊎◌, inl, inr, ⊎_elim, refl, ap, ap₂, sym, ◌∙◌, subst, arith}
-use Rattle.std.specs.Prelude.{bytes_eq}
-use Rattle.std.specs.List.{AllByRecursion, list_any, list_all}
+use Rattle.std.proofs.Common.{◌≡◌, ℕ, ◌+◌, ◌<◌, ◌≤◌, ◌==◌, Bool, true, List, [], ◌∷◌, length, flat_map, if◌then◌else◌, inr, ⊎_elim, refl, ap, sym, ◌∙◌, subst, arith}
+use Rattle.std.specs.List.{AllByRecursion, list_any}
 use Rattle.std.proofs.lemmas.Bool.{or_left, or_right, or_cases, eqb-true, eq-eqb, ne_eqb, cond_both, true≢false}
 use Rattle.tptp_tree.specs.Formula.{for_all, exists_some}
-use Rattle.fol_base.specs.Tree.{Tree, variable, tree_variables, trees_of}
+use Rattle.fol_base.specs.Tree.{Tree, variable, tree_variables}
 use Rattle.fol_base.specs.Canonical.{numbers_from}
 use Rattle.fol_base.specs.Interpretation.{Assignment}
 use Rattle.signature.specs.Environment.{Environment, term_in_force, without_names}
-use Rattle.signature.specs.Clausal.{SymbolNumbers, Made, Scope, made_in_order, applied, with_variables, skolem_arguments, with_skolem_terms}
+use Rattle.signature.specs.Clausal.{SymbolNumbers, Made, made_in_order, applied, with_variables, skolem_arguments, with_skolem_terms}
 use Rattle.signature.specs.Truth.{Values, value_in_force, values_tested}
-use Rattle.form_truth.proofs.AboutStructures.ListLemmas.{is_listed, each-all, each-listed, each-weaker, each-filtered, each-joined, numbers-below, numbers-listed, passing}
+use Rattle.form_truth.proofs.AboutStructures.ListLemmas.{is_listed, each-all, each-listed, each-weaker, each-joined, numbers-below, numbers-listed, passing}
 use Rattle.form_truth.proofs.AboutStructures.Structures.{Structure, value, applied-variables}
 use Rattle.form_truth.proofs.AboutStructures.Search.{HasSize, changed}
 use Rattle.form_truth.proofs.AboutFormulas.NameLemmas.{each-without_none, each-without_one}
 use Rattle.form_truth.proofs.AboutWork.Extending.{InForce}
 use Rattle.form_truth.proofs.AboutWork.Scopes.{in_force-bound, one_variable, one_skolem, longer}
-use Rattle.form_truth.proofs.AboutReturn.Ranges.{AllHold, Near, SpreadTo, EachForced, forced-weaker, force-near, spread-later}
+use Rattle.form_truth.proofs.AboutReturn.Ranges.{AllHold, Near, SpreadTo, EachForced, force-near}
 
 -- ---- one name more in force
 

@@ -1,14 +1,14 @@
 -- The way back, from the clauses to the formula: where clauses are true near an assignment, and which variables they have.
-use Rattle.std.proofs.Common.{◌≡◌, ℕ, suc, ◌+◌, ◌<◌, ◌≤◌, ◌==◌, nat_lt, Bool, true, false, ◌&&◌, ◌||◌, List, [], ◌∷◌, ◌++◌, length, map, flat_map, ◌⊎◌, inl, inr, refl, ap, ap₂, sym, ◌∙◌, arith}
+use Rattle.std.proofs.Common.{◌≡◌, ℕ, ◌+◌, ◌<◌, ◌≤◌, Bool, true, List, [], ◌∷◌, ◌++◌, length, map, flat_map, ◌⊎◌, inl, sym, ◌∙◌, arith}
 use Rattle.std.specs.List.{AllByRecursion}
-use Rattle.fol_base.specs.Tree.{Tree, tree_variables}
-use Rattle.fol_base.specs.Clause.{TreeLiteral, literal_variables}
-use Rattle.fol_base.specs.Interpretation.{Interpretation, Assignment}
+use Rattle.fol_base.specs.Tree.{tree_variables}
+use Rattle.fol_base.specs.Clause.{literal_variables}
+use Rattle.fol_base.specs.Interpretation.{Assignment}
 use Rattle.signature.specs.Environment.{Environment, term_in_force}
 use Rattle.signature.specs.Clausal.{SymbolNumbers, Made, Worked, Literals, Work, all_pairs}
-use Rattle.signature.specs.Truth.{Values, value_in_force}
+use Rattle.signature.specs.Truth.{Values}
 use Rattle.form_truth.proofs.AboutStructures.ListLemmas.{each-joined, each-weaker}
-use Rattle.form_truth.proofs.AboutStructures.Structures.{Structure, Same, value, all_hold, value-same}
+use Rattle.form_truth.proofs.AboutStructures.Structures.{Structure, all_hold, value-same}
 use Rattle.form_truth.proofs.AboutStructures.Search.{HasSize}
 use Rattle.form_truth.proofs.AboutWork.Extending.{InForce}
 

@@ -1,17 +1,17 @@
 -- The way back through products: where a product is true near an assignment, one of its two lists is.
-use Rattle.std.proofs.Common.{◌≡◌, ℕ, suc, ◌+◌, ◌<◌, ◌≤◌, ◌==◌, nat_lt, Bool, true, false, not, ◌&&◌, ◌||◌, List, [], ◌∷◌, ◌++◌, length, map, flat_map, if◌then◌else◌, ◌⊎◌, inl, inr, ⊎_elim, refl, ap, ap₂, sym, ◌∙◌, subst, arith}
+use Rattle.std.proofs.Common.{◌≡◌, ℕ, ◌<◌, ◌≤◌, ◌==◌, nat_lt, Bool, true, false, not, ◌&&◌, ◌||◌, List, [], ◌∷◌, length, map, if◌then◌else◌, inl, ⊎_elim, refl, ap₂, sym, ◌∙◌, subst, arith}
 use Rattle.std.specs.List.{AllByRecursion}
-use Rattle.std.proofs.lemmas.Bool.{and_parts, or_parts, or_cases, or_left, or_right, cond-true, cond-false, cond_both, lt-ltb, le-ltb, cases_Bool, true≢false, true_from_ne_false}
-use Rattle.fol_base.specs.Tree.{Tree, tree_variables, true_tree}
-use Rattle.fol_base.specs.Clause.{TreeLiteral, literal_variables}
+use Rattle.std.proofs.lemmas.Bool.{and_parts, or_parts, or_cases, or_left, or_right, cond-true, cond-false, cond_both, lt-ltb, le-ltb, true≢false, true_from_ne_false}
+use Rattle.fol_base.specs.Tree.{tree_variables, true_tree}
+use Rattle.fol_base.specs.Clause.{TreeLiteral}
 use Rattle.fol_base.specs.Canonical.{numbers_from}
-use Rattle.fol_base.specs.Interpretation.{Assignment, sides_true}
-use Rattle.signature.specs.Clausal.{SymbolNumbers, Made, Worked, Literals, made_in_order, applied, all_pairs, is_large, atom_literal, named, product}
+use Rattle.fol_base.specs.Interpretation.{Assignment}
+use Rattle.signature.specs.Clausal.{SymbolNumbers, Made, Literals, made_in_order, all_pairs, is_large, atom_literal, named, product}
 use Rattle.form_truth.proofs.AboutStructures.ListLemmas.{is_listed, each-joined, each-weaker, each-filtered, each-listed, numbers-below, passing}
-use Rattle.form_truth.proofs.AboutStructures.Structures.{Structure, Same, value, literal_holds, all_hold, all_hold-same, applied-variables, all_hold-joined, all_hold-headed, all_hold-pairs}
+use Rattle.form_truth.proofs.AboutStructures.Structures.{Structure, value, all_hold, all_hold-same, applied-variables, all_hold-joined, all_hold-headed, all_hold-pairs}
 use Rattle.form_truth.proofs.AboutStructures.Search.{HasSize}
 use Rattle.form_truth.proofs.AboutWork.Products.{occurring_in, product_by, named_tree}
-use Rattle.form_truth.proofs.AboutReturn.Ranges.{AllHold, Near, HoldNear, IsSpread, SpreadTo, EachVariable, variables-weaker, pairs-each, flat-each}
+use Rattle.form_truth.proofs.AboutReturn.Ranges.{AllHold, Near, HoldNear, IsSpread, EachVariable, variables-weaker, pairs-each, flat-each}
 
 -- ---- assignments that are put together at a number
 

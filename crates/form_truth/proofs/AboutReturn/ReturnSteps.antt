@@ -3,7 +3,7 @@ use Rattle.std.proofs.Common.{◌≡◌, ℕ, ◌+◌, ◌<◌, ◌≤◌, Bool,
 use Rattle.std.specs.List.{AllByRecursion}
 use Rattle.std.proofs.lemmas.Bool.{and_parts, and_from, true≢false}
 use Rattle.tptp_tree.specs.Term.{TermTree, variable as named_variable, application as named_application, TermTrees, no_terms, term_then}
-use Rattle.tptp_tree.specs.Formula.{for_all, exists_some, truth}
+use Rattle.tptp_tree.specs.Formula.{for_all, exists_some}
 use Rattle.fol_base.specs.Tree.{tree_variables, trees_variables}
 use Rattle.fol_base.specs.Clause.{TreeLiteral, literal_variables}
 use Rattle.fol_base.specs.Interpretation.{Assignment}
@@ -12,7 +12,7 @@ use Rattle.signature.specs.Environment.{Environment, term_in_force, term_names, 
 use Rattle.signature.specs.Clausal.{SymbolNumbers, Worked, Scope, Literals, Work, one_literal, truth_value, product, joined, with_variables, with_skolem_terms}
 use Rattle.signature.specs.Truth.{Values, value_in_force, values_tested}
 use Rattle.form_truth.proofs.AboutStructures.ListLemmas.{each-parts, each-joined}
-use Rattle.form_truth.proofs.AboutStructures.Structures.{Structure, value, values, literal_holds, all_hold, all_hold-joined}
+use Rattle.form_truth.proofs.AboutStructures.Structures.{Structure, value, literal_holds, all_hold, all_hold-joined}
 use Rattle.form_truth.proofs.AboutFormulas.SignLemmas.{joined_truth}
 use Rattle.form_truth.proofs.AboutWork.Extending.{InForce}
 use Rattle.form_truth.proofs.AboutReturn.Ranges.{HoldNear, IsSpread, SpreadTo, EachForced, forced-weaker, variables-weaker, Back, spread-below, spread-later}

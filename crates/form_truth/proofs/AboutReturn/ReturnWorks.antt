@@ -292,8 +292,7 @@ module _ (n : SymbolNumbers) (size : ℕ) (s : Structure) (i : Interpretation) (
         let z =
         b.returned m (omega (arith, fits))
         (forced-weaker (λ x. x < began) (λ x. x < m.variables) (λ x g. omega (arith, g, l)) env (free_names f) parts.0)
-        (product-defining size s n began cs w.clauses w.made t.0) in
-        (
+        (product-defining size s n began cs w.clauses w.made t.0) in (
           z.defining,
           λ ρ has V force before h near.
               let forces = each-parts (λ x. value_in_force V x ≡ value s ρ (term_in_force env x)) (free_names f) (all_free_names fs) force in

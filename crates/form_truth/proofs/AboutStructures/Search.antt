@@ -1,12 +1,11 @@
 -- Searches over the values below a size: for a least value that passes a test, and through all values of some variables.
-use Rattle.std.proofs.Common.{◌≡◌, ℕ, zero, suc, ◌+◌, ◌<◌, ◌≤◌, ◌==◌, Bool, true, false, ◌||◌, List, [], ◌∷◌, map, filter, if◌then◌else◌, refl, ap, sym, ◌∙◌, subst, arith}
+use Rattle.std.proofs.Common.{◌≡◌, ℕ, ◌<◌, ◌==◌, Bool, true, false, ◌||◌, List, [], ◌∷◌, map, if◌then◌else◌, refl, ap, sym, ◌∙◌}
 use Rattle.std.specs.List.{AllByRecursion, list_any, list_all}
-use Rattle.std.proofs.lemmas.Bool.{or_parts, or_cases, eqb-true, eq-eqb, ltb-true, true≢false, cond-true, cond-false, cond_both}
+use Rattle.std.proofs.lemmas.Bool.{or_parts, eqb-true, true≢false, cond_both}
 use Rattle.fol_base.specs.Canonical.{numbers_from}
 use Rattle.fol_base.specs.Interpretation.{Assignment}
 use Rattle.signature.specs.Clausal.{made_in_order}
-use Rattle.form_truth.proofs.AboutStructures.ListLemmas.{is_listed, each-weaker, each-always, all-each, each-all, each-listed, numbers-below, numbers-listed, listed-itself, listed-filtered}
-use Rattle.form_truth.proofs.AboutStructures.Structures.{Same}
+use Rattle.form_truth.proofs.AboutStructures.ListLemmas.{is_listed, each-weaker, all-each, each-all, each-listed, numbers-below, numbers-listed, listed-itself, listed-filtered}
 
 -- ---- the least value
 

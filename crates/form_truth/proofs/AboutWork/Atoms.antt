@@ -1,22 +1,22 @@
 -- The values of terms and the truth of atoms: those of the terms and atoms that stand for them.
-use Rattle.std.proofs.Common.{◌≡◌, ℕ, suc, ◌+◌, ◌<◌, ◌≤◌, ◌==◌, cond, Bool, true, false, not, ◌&&◌, ◌||◌, List, [], ◌∷◌, ◌++◌, length, inl, refl, ap, ap₂, sym, ◌∙◌, subst, arith}
+use Rattle.std.proofs.Common.{◌≡◌, ℕ, suc, ◌+◌, ◌<◌, ◌==◌, cond, Bool, true, false, not, ◌&&◌, ◌||◌, List, [], ◌∷◌, ◌++◌, length, inl, refl, ap, ap₂, sym, ◌∙◌, arith}
 use mathlib.Core.Bool.{beq}
-use Rattle.std.specs.List.{AllByRecursion, list_any, list_all}
+use Rattle.std.specs.List.{list_all}
 use Rattle.std.proofs.lemmas.Bool.{and_parts, and_from, true≢false}
 use Rattle.tptp_tree.specs.Term.{TermTree, variable as named_variable, application as named_application, TermTrees, no_terms, term_then}
-use Rattle.fol_base.specs.Tree.{Tree, application, true_tree}
+use Rattle.fol_base.specs.Tree.{application}
 use Rattle.fol_base.specs.Clause.{TreeLiteral}
 use Rattle.fol_base.specs.Interpretation.{Interpretation, Assignment, symbol_value, sides_true}
 use Rattle.signature.specs.declared.symbol.Symbol.{Symbol}
 use Rattle.signature.specs.Symbol.{predicate_symbol, function_symbol, same_symbol, has_symbol, number_of}
 use Rattle.signature.specs.Occurrences.{terms_count, term_symbols, terms_symbols}
 use Rattle.signature.specs.Environment.{Environment, term_in_force, term_under, terms_under, term_names, terms_names}
-use Rattle.signature.specs.Clausal.{SymbolNumbers, Made, Worked, Literals, atom_literal, one_literal, truth_value}
+use Rattle.signature.specs.Clausal.{SymbolNumbers, Made, atom_literal, one_literal, truth_value}
 use Rattle.signature.specs.Truth.{Values, value_in_force, term_value, terms_values}
 use Rattle.form_truth.proofs.AboutStructures.ListLemmas.{each-parts}
 use Rattle.form_truth.proofs.AboutStructures.Structures.{Structure, value, values, literal_holds}
 use Rattle.form_truth.proofs.AboutFormulas.SignLemmas.{signed, equation-sign, atom-sign}
-use Rattle.form_truth.proofs.AboutWork.Extending.{Agree, grows-itself, agree-itself, KeptTerm, KeptForce, Base, Ready, Outcome, InForce, Meant, Sound}
+use Rattle.form_truth.proofs.AboutWork.Extending.{Agree, grows-itself, agree-itself, KeptTerm, KeptForce, Base, Ready, InForce, Sound}
 use Rattle.form_truth.proofs.AboutWork.Products.{truth-value}
 
 -- ---- symbols of the problem

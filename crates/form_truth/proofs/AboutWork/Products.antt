@@ -1,15 +1,13 @@
 -- Products of lists of clauses, and naming: a name is true where all clauses of its list are, whatever values the variables have that
 -- aren't its arguments.
-use Rattle.std.proofs.Common.{◌≡◌, ℕ, suc, ◌+◌, ◌<◌, ◌≤◌, ◌==◌, nat_lt, Bool, true, false, not, ◌&&◌, ◌||◌, List, [], ◌∷◌, ◌++◌, length, length-append, map, flat_map, filter, if◌then◌else◌, ◌⊎◌, inl, inr, ⊎_elim, refl, ap, ap₂, sym, ◌∙◌, subst, arith}
-use Rattle.std.specs.List.{AllByRecursion, list_any, list_all}
-use Rattle.std.proofs.lemmas.Bool.{and_from, or_left, or_right, cases_Bool, cond_both, cond-true, not-false, ltb-true, lt-ltb}
+use Rattle.std.proofs.Common.{◌≡◌, ℕ, ◌+◌, ◌<◌, ◌≤◌, ◌==◌, nat_lt, Bool, true, false, not, ◌&&◌, ◌||◌, List, [], ◌∷◌, ◌++◌, length, length-append, map, flat_map, filter, if◌then◌else◌, ◌⊎◌, inl, inr, ⊎_elim, refl, ap, ap₂, sym, ◌∙◌, subst, arith}
+use Rattle.std.proofs.lemmas.Bool.{and_from, or_left, or_right, cond_both, cond-true, not-false, ltb-true, lt-ltb}
 use Rattle.fol_base.specs.Tree.{Tree, variable, trees_of, true_tree}
-use Rattle.fol_base.specs.Clause.{TreeLiteral, literal_variables}
-use Rattle.fol_base.specs.Canonical.{numbers_from}
-use Rattle.fol_base.specs.Interpretation.{Interpretation, Assignment, symbol_value, sides_true}
+use Rattle.fol_base.specs.Clause.{literal_variables}
+use Rattle.fol_base.specs.Interpretation.{Interpretation, Assignment, sides_true}
 use Rattle.signature.specs.Clausal.{SymbolNumbers, Made, Worked, Literals, made_in_order, applied, all_pairs, is_large, atom_literal, named, product}
 use Rattle.form_truth.proofs.AboutStructures.ListLemmas.{is_listed, each-weaker, each-unfiltered, listed-itself, unlisted-filtered}
-use Rattle.form_truth.proofs.AboutStructures.Structures.{Structure, Same, value, values, literal_holds, holds, all_hold, all_hold-same, applied-values, all_hold-joined, all_hold-headed, all_hold-pairs}
+use Rattle.form_truth.proofs.AboutStructures.Structures.{Structure, Same, value, values, literal_holds, all_hold, all_hold-same, applied-values, all_hold-joined, all_hold-headed, all_hold-pairs}
 use Rattle.form_truth.proofs.AboutStructures.Search.{HasSize, all_values, all_values-reach, all_values-pass, assigned, assigned-within, assigned-in_order}
 use Rattle.form_truth.proofs.AboutWork.Extending.{IsOld, Agree, Grows, grows-itself, agree-itself, agree-before, with_symbol, symbol-itself, symbol-other, KeptClauses, clauses-later, Ready, Outcome, Local}
 

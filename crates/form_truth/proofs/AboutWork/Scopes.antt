@@ -1,21 +1,21 @@
 -- Quantifiers: what holds for all values holds for that of a new variable, and what holds for some value holds for that of a Skolem
 -- term, whose symbol gives the least one.
-use Rattle.std.proofs.Common.{◌≡◌, ℕ, suc, ◌+◌, ◌<◌, ◌≤◌, ◌==◌, Bool, true, false, List, [], ◌∷◌, ◌++◌, length, length-append, map, flat_map, if◌then◌else◌, ◌⊎◌, inl, inr, refl, ap, ap₂, sym, ◌∙◌, subst, arith}
+use Rattle.std.proofs.Common.{◌≡◌, ℕ, ◌+◌, ◌<◌, ◌≤◌, ◌==◌, Bool, true, false, List, [], ◌∷◌, ◌++◌, length, length-append, map, flat_map, if◌then◌else◌, inl, inr, refl, ap, sym, ◌∙◌, subst, arith}
 use Rattle.std.specs.Prelude.{bytes_eq}
-use Rattle.std.specs.List.{AllByRecursion, list_any, list_all}
+use Rattle.std.specs.List.{AllByRecursion, list_any}
 use Rattle.std.proofs.lemmas.Slice.Eq.{bytes_eq-Decides}
 use Rattle.tptp_tree.specs.Formula.{for_all, exists_some}
 use Rattle.fol_base.specs.Tree.{Tree, variable, tree_variables, trees_of}
 use Rattle.fol_base.specs.Canonical.{numbers_from}
-use Rattle.fol_base.specs.Interpretation.{Interpretation, Assignment, symbol_value}
+use Rattle.fol_base.specs.Interpretation.{Interpretation, Assignment}
 use Rattle.signature.specs.Environment.{Environment, term_in_force, without_names}
 use Rattle.signature.specs.Clausal.{SymbolNumbers, Made, Scope, made_in_order, applied, with_variables, skolem_arguments, with_skolem_terms}
 use Rattle.signature.specs.Truth.{Values, value_in_force, values_tested}
-use Rattle.form_truth.proofs.AboutStructures.ListLemmas.{is_listed, any-agree, all-each, each-listed, each-parts, each-weaker, each-filtered, numbers-below, numbers-listed}
-use Rattle.form_truth.proofs.AboutStructures.Structures.{Structure, value, values, all_hold, value-same, applied-values, applied-variables}
+use Rattle.form_truth.proofs.AboutStructures.ListLemmas.{any-agree, all-each, each-listed, each-parts, each-weaker, each-filtered, numbers-below, numbers-listed}
+use Rattle.form_truth.proofs.AboutStructures.Structures.{Structure, value, values, value-same, applied-values, applied-variables}
 use Rattle.form_truth.proofs.AboutStructures.Search.{HasSize, first_passing, first-passes, first-below, assigned, assigned-in_order}
 use Rattle.form_truth.proofs.AboutFormulas.NameLemmas.{each-without_none, each-without_one, AgreeOn, DependsOn, agree-bound, tested-depends}
-use Rattle.form_truth.proofs.AboutWork.Extending.{IsOld, Agree, Grows, grows-itself, grows-further, agree-itself, agree-further, with_symbol, symbol-itself, symbol-other, KeptTerm, KeptForce, term-later, clauses-later, Base, Ready, InForce, Meant, force-agree}
+use Rattle.form_truth.proofs.AboutWork.Extending.{IsOld, Agree, Grows, grows-itself, grows-further, agree-itself, agree-further, with_symbol, symbol-itself, symbol-other, KeptTerm, KeptForce, term-later, clauses-later, Ready, InForce, Meant, force-agree}
 
 -- What opening a quantifier comes to: where the test holds outside, it holds inside, in an extended structure.
 pub record Opened (n : SymbolNumbers) (i : Interpretation) (m : Made) (s : Structure) (env : Environment) (names free : List (List ℕ)) (outside inside : Values → Bool) (count : ℕ) (scope : Scope) : Type 0 where
@@ -149,8 +149,7 @@ covered n m s env σ ρ [] k h = tt
 covered n m s env σ ρ (y ∷ names) k h =
     let parts =
     each-parts (λ v. v < m.variables → σ v ≡ ρ v) (tree_variables (term_in_force env y))
-    (flat_map (λ x. tree_variables (term_in_force env x)) names) h in
-    (
+    (flat_map (λ x. tree_variables (term_in_force env x)) names) h in (
       value-same s σ ρ (term_in_force env y) (meet (tree_variables (term_in_force env y)) k.0.below parts.0),
       covered n m s env σ ρ names k.1 parts.1,
     )

@@ -1,13 +1,13 @@
 -- Where a formula is true with its sign, its clauses are true in a structure that is extended to the symbols that the work makes.
-use Rattle.std.proofs.Common.{◌≡◌, ℕ, suc, ◌+◌, ◌<◌, ◌≤◌, Bool, true, false, not, ◌&&◌, ◌||◌, List, [], ◌∷◌, ◌++◌, length, ◌⊎◌, inl, inr, ⊎_elim, refl, ap, ap₂, sym, ◌∙◌, subst, arith}
-use Rattle.std.specs.List.{AllByRecursion, list_all}
+use Rattle.std.proofs.Common.{◌≡◌, ℕ, ◌+◌, ◌≤◌, Bool, true, false, not, ◌&&◌, ◌||◌, List, [], ◌∷◌, ◌++◌, length, ◌⊎◌, inl, inr, ⊎_elim, refl, ap, ap₂, sym, ◌∙◌, subst, arith}
+use Rattle.std.specs.List.{AllByRecursion}
 use mathlib.Core.Bool.{or_assoc}
 use Rattle.std.proofs.lemmas.Bool.{and_parts, and_from, or_cases, true≢false}
-use Rattle.tptp_tree.specs.Formula.{implies, implied, equivalent, different, nor, nand, Quantifier, for_all, exists_some, FormulaTree, truth, falsity, predicate, equation, negation, conjunction, disjunction, connected, quantified, FormulaTrees, no_formulas, formula_then}
+use Rattle.tptp_tree.specs.Formula.{implies, implied, equivalent, different, nor, nand, for_all, exists_some, FormulaTree, truth, falsity, predicate, equation, negation, conjunction, disjunction, connected, quantified, FormulaTrees, no_formulas, formula_then}
 use Rattle.fol_base.specs.Interpretation.{Interpretation, Assignment}
 use Rattle.signature.specs.Occurrences.{formula_symbols, formulas_symbols}
 use Rattle.signature.specs.Environment.{Environment, term_in_force, free_names, all_free_names, without_names}
-use Rattle.signature.specs.Clausal.{SymbolNumbers, Made, Worked, Scope, Literals, Work, scope_of, makes_variables, product, joined, clauses_of, listed_clauses, product_clauses, with_variables, with_skolem_terms}
+use Rattle.signature.specs.Clausal.{SymbolNumbers, Made, Worked, Scope, Literals, Work, product, joined, clauses_of, listed_clauses, product_clauses, with_variables, with_skolem_terms}
 use Rattle.signature.specs.Form.{skolem_count, all_skolem_count}
 use Rattle.signature.specs.Truth.{Values, value_in_force, values_tested, formula_true}
 use Rattle.form_truth.proofs.AboutStructures.ListLemmas.{each-parts, each-joined}
@@ -15,7 +15,7 @@ use Rattle.form_truth.proofs.AboutStructures.Structures.{Structure, value, all_h
 use Rattle.form_truth.proofs.AboutStructures.Search.{HasSize}
 use Rattle.form_truth.proofs.AboutFormulas.NameLemmas.{DependsOn, formula-depends}
 use Rattle.form_truth.proofs.AboutFormulas.SignLemmas.{signed, joined_truth, implies-sign, implied-sign, nor-sign, nand-sign, equivalent-sign, different-sign, not-for_all, not-exists, all_signed, some_signed, conjunction-sign, disjunction-sign}
-use Rattle.form_truth.proofs.AboutWork.Extending.{Agree, Grows, grows-itself, grows-further, agree-itself, agree-before, agree-further, agree-back, KeptTerm, KeptClauses, KeptForce, clauses-later, force-later, Base, Ready, Outcome, outcome-weaker, InForce, Meant, meant-agree, Local, meant-local, Sound, sound-weaker}
+use Rattle.form_truth.proofs.AboutWork.Extending.{Agree, Grows, grows-itself, grows-further, agree-itself, agree-further, agree-back, KeptTerm, KeptClauses, KeptForce, clauses-later, force-later, Base, Ready, Outcome, outcome-weaker, Meant, meant-agree, meant-local, Sound, sound-weaker}
 use Rattle.form_truth.proofs.AboutWork.Scopes.{Opened, variables-open, skolem-open}
 use Rattle.form_truth.proofs.AboutWork.Products.{product-outcome}
 use Rattle.form_truth.proofs.AboutWork.Atoms.{AreKnown, known-parts, truth-sound, predicate-sound, equation-sound}
@@ -92,8 +92,7 @@ meant-parts :
     → Meant s env (one ++ other) (λ V. p V && q V) ρ → Meant s env one p ρ × Meant s env other q ρ
 meant-parts s env one other p q ρ h =
     let parts = each-parts (λ x. value_in_force h.values x ≡ value s ρ (term_in_force env x)) one other h.in_force in
-    let both = and_parts (p h.values) (q h.values) h.passes in
-    (
+    let both = and_parts (p h.values) (q h.values) h.passes in (
       record { values = h.values; in_force = parts.0; passes = both.0 },
       record { values = h.values; in_force = parts.1; passes = both.1 },
     )

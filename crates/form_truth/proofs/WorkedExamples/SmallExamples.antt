@@ -1,7 +1,7 @@
 -- Small problems and interpretations.
-use Rattle.std.proofs.Common.{◌≡◌, ℕ, zero, suc, ◌<◌, ◌≤◌, Bool, true, false, ◌&&◌, ◌||◌, List, [], ◌∷◌, refl, ap, sym, ◌∙◌, arith}
-use Rattle.std.proofs.lemmas.Bool.{and_parts, or_right, true≢false}
-use Rattle.fol_base.specs.Interpretation.{Interpretation, symbol_value, sides_true}
+use Rattle.std.proofs.Common.{◌≡◌, ℕ, zero, suc, ◌<◌, Bool, true, false, ◌&&◌, ◌||◌, List, [], ◌∷◌, refl, sym, arith}
+use Rattle.std.proofs.lemmas.Bool.{or_right, true≢false}
+use Rattle.fol_base.specs.Interpretation.{symbol_value, sides_true}
 use Rattle.signature.specs.Occurrences.{problem_symbols}
 use Rattle.signature.specs.Truth.{formula_true}
 use Rattle.signature.specs.Examples.{p_of_zero_alone}
