@@ -1,14 +1,13 @@
--- A formula that is read without a fault has no variable but those that its quantifiers bind.
-use Rattle.std.proofs.Common.{◌≡◌, ℕ, suc, Bool, true, false, not, ◌||◌, List, [], ◌∷◌, ◌++◌, filter, Option, None, Some, if◌then◌else◌, ⊎_elim, refl, ap, sym, ◌∙◌}
+-- A formula in which quantifiers bind each variable has no free names, nor has a clause, whose variables are all bound.
+use Rattle.std.proofs.Common.{◌≡◌, ℕ, Bool, true, false, not, ◌||◌, List, [], ◌∷◌, ◌++◌, filter, if◌then◌else◌, ⊎_elim, refl, ap, sym, ◌∙◌}
 use Rattle.std.specs.Prelude.{bytes_eq}
 use Rattle.std.specs.List.{AllByRecursion, list_any}
-use Rattle.std.proofs.lemmas.Bool.{or_cases, or_left, or_right, true≢false}
+use Rattle.std.proofs.lemmas.Bool.{and_parts, or_cases, or_left, or_right, true≢false}
 use Rattle.std.proofs.lemmas.Slice.Eq.{bytes_eq-Decides}
 use Rattle.std.proofs.lemmas.List.Folds.{list_any-append}
-use Rattle.tptp_tree.specs.Formula.{FormulaTree}
-use Rattle.tptp_tree.specs.Spelling.{TermPhrase, TermPhrases, variable_word, word_with, no_phrases, phrase_then, term_meant, terms_meant, Atom, true_atom, false_atom, predicate_atom, equation_atom, atom_meant, UnitPhrase, UnitPhrases, Phrase, negated, bound, in_brackets, atomic, no_units, unit_then, alone, all_of, some_of, joined_by, unit_meant, units_meant, meant}
-use Rattle.tptp_tree.specs.Causes.{Refusal, free_variable, Surroundings, bound_ones, term_causes, arguments_causes, more_arguments_causes, atom_causes, more_variables_causes, unit_causes, units_causes, phrase_causes}
-use Rattle.tptp_reader.specs.Answers.{AreFaultless}
+use Rattle.tptp_tree.specs.Term.{TermTree, variable, application, TermTrees, no_terms, term_then}
+use Rattle.tptp_tree.specs.Formula.{FormulaTree, truth, falsity, predicate, equation, negation, conjunction, disjunction, connected, quantified, FormulaTrees, no_formulas, formula_then}
+use Rattle.tptp_problem.specs.Closed.{term_within, terms_within, closed_within, all_closed_within}
 use Rattle.signature.specs.Environment.{term_names, terms_names, without_names, free_names, all_free_names, different_names, under_for_all}
 use Rattle.form_truth.proofs.AboutStructures.ListLemmas.{each-joined, each-weaker}
 
@@ -85,101 +84,35 @@ closed-clause f = by (different_names (free_names f)) (different-cover (free_nam
 
 -- ---- formulas
 
--- where a token stands, with these variables bound
-abbrev at : ℕ → ℕ → List (List ℕ) → Surroundings
-at limit level xs = record { limit = limit; level = level; scope = bound_ones xs }
+mutual
+  term-names : (xs : List (List ℕ)) (t : TermTree) → term_within xs t ≡ true → AreAmong xs (term_names t)
+  term-names xs (variable x) h = (h, tt)
+  term-names xs (application f ts) h = terms-names xs ts h
 
-variable-bound : (b : Bool) → (if b then None else Some free_variable) ≡ None → b ≡ true
-variable-bound true h = refl
-variable-bound false h = absurd (cc)
+  terms-names : (xs : List (List ℕ)) (ts : TermTrees) → terms_within xs ts ≡ true → AreAmong xs (terms_names ts)
+  terms-names xs no_terms h = tt
+  terms-names xs (term_then t ts) h =
+      let parts = and_parts (term_within xs t) (terms_within xs ts) h in
+      each-joined (λ y. is_among xs y ≡ true) (term_names t) (terms_names ts) (term-names xs t parts.0) (terms-names xs ts parts.1)
 
 mutual
-  term-bound :
-      (limit level : ℕ) (xs : List (List ℕ)) (t : TermPhrase) (rest : List (Option Refusal)) → AreFaultless (term_causes (at limit level xs) t rest)
-      → AreAmong xs (term_names (term_meant t)) × AreFaultless rest
-  term-bound limit level xs (variable_word x) rest h = ((variable-bound (is_among xs x) h.0, tt), h.1)
-  term-bound limit level xs (word_with w ts) rest h = arguments-bound limit level xs ts rest h.1
+  pub formula-names : (xs : List (List ℕ)) (f : FormulaTree) → closed_within xs f ≡ true → AreAmong xs (free_names f)
+  formula-names xs truth h = tt
+  formula-names xs falsity h = tt
+  formula-names xs (predicate p ts) h = terms-names xs ts h
+  formula-names xs (equation positive s t) h =
+      let parts = and_parts (term_within xs s) (term_within xs t) h in
+      each-joined (λ y. is_among xs y ≡ true) (term_names s) (term_names t) (term-names xs s parts.0) (term-names xs t parts.1)
+  formula-names xs (negation f) h = formula-names xs f h
+  formula-names xs (conjunction fs) h = formulas-names xs fs h
+  formula-names xs (disjunction fs) h = formulas-names xs fs h
+  formula-names xs (connected c f g) h =
+      let parts = and_parts (closed_within xs f) (closed_within xs g) h in
+      each-joined (λ y. is_among xs y ≡ true) (free_names f) (free_names g) (formula-names xs f parts.0) (formula-names xs g parts.1)
+  formula-names xs (quantified q ys f) h = among-without ys xs (free_names f) (formula-names (ys ++ xs) f h)
 
-  arguments-bound :
-      (limit level : ℕ) (xs : List (List ℕ)) (ts : TermPhrases) (rest : List (Option Refusal)) → AreFaultless (arguments_causes (at limit level xs) ts rest)
-      → AreAmong xs (terms_names (terms_meant ts)) × AreFaultless rest
-  arguments-bound limit level xs no_phrases rest h = (tt, h)
-  arguments-bound limit level xs (phrase_then t ts) rest h =
-      let one = term-bound limit (suc level) xs t (more_arguments_causes (at limit (suc level) xs) ts rest) h.1 in
-      let more = more-bound limit (suc level) xs ts rest one.1 in
-      (each-joined (λ y. is_among xs y ≡ true) (term_names (term_meant t)) (terms_names (terms_meant ts)) one.0 more.0, more.1)
-
-  more-bound :
-      (limit level : ℕ) (xs : List (List ℕ)) (ts : TermPhrases) (rest : List (Option Refusal)) → AreFaultless (more_arguments_causes (at limit level xs) ts rest)
-      → AreAmong xs (terms_names (terms_meant ts)) × AreFaultless rest
-  more-bound limit level xs no_phrases rest h = (tt, h.1)
-  more-bound limit level xs (phrase_then t ts) rest h =
-      let one = term-bound limit level xs t (more_arguments_causes (at limit level xs) ts rest) h.1 in
-      let more = more-bound limit level xs ts rest one.1 in
-      (each-joined (λ y. is_among xs y ≡ true) (term_names (term_meant t)) (terms_names (terms_meant ts)) one.0 more.0, more.1)
-
-atom-bound :
-    (limit level : ℕ) (xs : List (List ℕ)) (a : Atom) (rest : List (Option Refusal)) → AreFaultless (atom_causes (at limit level xs) a rest)
-    → AreAmong xs (free_names (atom_meant a)) × AreFaultless rest
-atom-bound limit level xs true_atom rest h = (tt, h.1)
-atom-bound limit level xs false_atom rest h = (tt, h.1)
-atom-bound limit level xs (predicate_atom w ts) rest h = arguments-bound limit level xs ts rest h.1
-atom-bound limit level xs (equation_atom positive s t) rest h =
-    let one = term-bound limit level xs s (None ∷ term_causes (at limit level xs) t rest) h in
-    let other = term-bound limit level xs t rest (one.1).1 in
-    (each-joined (λ y. is_among xs y ≡ true) (term_names (term_meant s)) (term_names (term_meant t)) one.0 other.0, other.1)
-
-others-faultless : (xs : List (List ℕ)) (rest : List (Option Refusal)) → AreFaultless (more_variables_causes xs rest) → AreFaultless rest
-others-faultless [] rest h = h
-others-faultless (x ∷ xs) rest h = others-faultless xs rest (h.1).1
-
-three-among :
-    (xs some more rest : List (List ℕ)) → AreAmong xs some → AreAmong xs more → AreAmong xs rest → AreAmong xs (some ++ (more ++ rest))
-three-among xs some more rest h k l =
-    each-joined (λ y. is_among xs y ≡ true) some (more ++ rest) h (each-joined (λ y. is_among xs y ≡ true) more rest k l)
-
-mutual
-  unit-bound :
-      (limit level : ℕ) (xs : List (List ℕ)) (u : UnitPhrase) (rest : List (Option Refusal)) → AreFaultless (unit_causes (at limit level xs) u rest)
-      → AreAmong xs (free_names (unit_meant u)) × AreFaultless rest
-  unit-bound limit level xs (negated u) rest h = unit-bound limit (suc level) xs u rest h.1
-  unit-bound limit level xs (bound q ys u) rest h =
-      let names : List (List ℕ) = ys.first ∷ ys.others in
-      let inner : List (Option Refusal) = unit_causes (at limit (suc level) (names ++ xs)) u rest in
-      let body = unit-bound limit (suc level) (names ++ xs) u rest ((others-faultless ys.others (None ∷ None ∷ inner) (h.1.1.1)).1).1 in
-      (among-without names xs (free_names (unit_meant u)) body.0, body.1)
-  unit-bound limit level xs (in_brackets p) rest h =
-      let inside = phrase-bound limit (suc level) xs p (None ∷ rest) h.1 in (inside.0, (inside.1).1)
-  unit-bound limit level xs (atomic a) rest h = atom-bound limit level xs a rest h
-
-  units-bound :
-      (limit level : ℕ) (xs : List (List ℕ)) (us : UnitPhrases) (rest : List (Option Refusal)) → AreFaultless (units_causes (at limit level xs) us rest)
-      → AreAmong xs (all_free_names (units_meant us)) × AreFaultless rest
-  units-bound limit level xs no_units rest h = (tt, h)
-  units-bound limit level xs (unit_then u us) rest h =
-      let one = unit-bound limit level xs u (units_causes (at limit level xs) us rest) h.1 in
-      let more = units-bound limit level xs us rest one.1 in
-      (each-joined (λ y. is_among xs y ≡ true) (free_names (unit_meant u)) (all_free_names (units_meant us)) one.0 more.0, more.1)
-
-  pub phrase-bound :
-      (limit level : ℕ) (xs : List (List ℕ)) (p : Phrase) (rest : List (Option Refusal)) → AreFaultless (phrase_causes (at limit level xs) p rest)
-      → AreAmong xs (free_names (meant p)) × AreFaultless rest
-  phrase-bound limit level xs (alone u) rest h = unit-bound limit level xs u rest h
-  phrase-bound limit level xs (all_of u v us) rest h =
-      let one = unit-bound limit level xs u (None ∷ unit_causes (at limit level xs) v (units_causes (at limit level xs) us rest)) h in
-      let other = unit-bound limit level xs v (units_causes (at limit level xs) us rest) (one.1).1 in
-      let more = units-bound limit level xs us rest other.1 in (
-        three-among xs (free_names (unit_meant u)) (free_names (unit_meant v)) (all_free_names (units_meant us)) one.0 other.0 more.0,
-        more.1,
-      )
-  phrase-bound limit level xs (some_of u v us) rest h =
-      let one = unit-bound limit level xs u (None ∷ unit_causes (at limit level xs) v (units_causes (at limit level xs) us rest)) h in
-      let other = unit-bound limit level xs v (units_causes (at limit level xs) us rest) (one.1).1 in
-      let more = units-bound limit level xs us rest other.1 in (
-        three-among xs (free_names (unit_meant u)) (free_names (unit_meant v)) (all_free_names (units_meant us)) one.0 other.0 more.0,
-        more.1,
-      )
-  phrase-bound limit level xs (joined_by c u v) rest h =
-      let one = unit-bound limit level xs u (None ∷ unit_causes (at limit level xs) v rest) h in
-      let other = unit-bound limit level xs v rest (one.1).1 in
-      (each-joined (λ y. is_among xs y ≡ true) (free_names (unit_meant u)) (free_names (unit_meant v)) one.0 other.0, other.1)
+  formulas-names : (xs : List (List ℕ)) (fs : FormulaTrees) → all_closed_within xs fs ≡ true → AreAmong xs (all_free_names fs)
+  formulas-names xs no_formulas h = tt
+  formulas-names xs (formula_then f fs) h =
+      let parts = and_parts (closed_within xs f) (all_closed_within xs fs) h in
+      each-joined (λ y. is_among xs y ≡ true) (free_names f) (all_free_names fs) (formula-names xs f parts.0) (formulas-names xs fs parts.1)
