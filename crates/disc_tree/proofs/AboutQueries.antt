@@ -1,5 +1,6 @@
 -- What a query visits and finds.
 pub mod FoundLemmas
 pub mod FrontLemmas
+pub mod TailLemmas
 pub mod UnifierLemmas
 pub mod VisitLemmas

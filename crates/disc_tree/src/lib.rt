@@ -2,6 +2,7 @@
 #![tactic(auto)]
 
 mod entry;
+mod fitting;
 mod label;
 pub mod laws;
 mod node;
@@ -9,6 +10,7 @@ mod query;
 mod scan;
 mod sorted;
 mod steps;
+mod tail;
 mod tree;
 mod work;
 

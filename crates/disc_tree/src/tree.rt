@@ -8,8 +8,9 @@ ghost use Rattle.disc_tree.specs.Entries.{IsIn, IsWith, numbers_where};
 ghost use Rattle.disc_tree.specs.Prefixes.{compatible_prefixes};
 
 use crate::entry::Entry;
+use crate::fitting::Varying;
 use crate::node::Node;
-use crate::query::{Varying, collect};
+use crate::query::collect;
 use crate::steps::Steps;
 use crate::work::{Rest, Skipped};
 use fol_base::Term;

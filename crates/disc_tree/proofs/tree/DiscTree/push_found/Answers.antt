@@ -1,9 +1,9 @@
-use Rattle.std.proofs.Common.{◌≡◌, ◌≤◌, ◌+◌, ◌*◌, ◌++◌, ◌∷◌, [], ℕ, Bool, List, refl, ap, subst, ◌∙◌}
+use Rattle.std.proofs.Common.{◌≤◌, ◌+◌, ◌*◌, ◌++◌, ℕ, Bool, List, refl, ap, subst, ◌∙◌}
 use Rattle.fol_base.specs.Tree.{Tree}
 use Rattle.fol_base.specs.Term.{tree_of}
 use Rattle.fol_base.specs.Compatible.{compatible_by}
 use Rattle.disc_tree.specs.Entries.{numbers_where}
-use Rattle.disc_tree.specs.Rows.{rows, found_in}
+use Rattle.disc_tree.specs.Rows.{rows}
 use Rattle.disc_tree.specs.Prefixes.{compatible_prefixes}
 use Rattle.disc_tree.proofs.AboutPaths.PrefixLemmas.{stays-counted}
 use Rattle.disc_tree.proofs.AboutQueries.VisitLemmas.{visits-counted}
