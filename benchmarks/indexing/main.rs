@@ -8,6 +8,7 @@ use fol_base::Term;
 use plain_types::Mem;
 use sample_numbers::Random;
 use sample_terms::random_terms;
+use std::alloc::Global;
 use std::fs;
 use std::process::ExitCode;
 use std::time::Instant;
@@ -138,15 +139,28 @@ fn edits(rt: &HostRuntime, entries: &[Term]) -> Mem<()> {
     Ok(())
 }
 
-fn measure(rt: &HostRuntime, entries: &[Term], queries: &[Term], batch: usize) -> Mem<()> {
-    let before = resident(rt);
-    let mut tree = DiscTree::new(rt.alloc())?;
+fn filled(alloc: Global, entries: &[Term]) -> Mem<DiscTree> {
+    let mut tree = DiscTree::new(alloc)?;
     for index in 0..entries.len() {
         tree.insert(&entries[index], index as u64)?;
     }
+    Ok(tree)
+}
+
+/// Prints how many bytes more are in memory for each entry while a tree has them.
+fn weighed(rt: &HostRuntime, entries: &[Term]) -> Mem<()> {
+    let before = resident(rt);
+    let _tree = filled(rt.alloc(), entries)?;
     let count = entries.len() as u64;
     let each = resident(rt).wrapping_sub(before) / count.max(1);
     let _ = println!(rt; "{count} entries: {each} bytes each");
+    Ok(())
+}
+
+fn measure(rt: &HostRuntime, entries: &[Term], queries: &[Term], batch: usize) -> Mem<()> {
+    let tree = filled(rt.alloc(), entries)?;
+    let count = entries.len();
+    let _ = println!(rt; "{count} entries");
     timed(rt, "unifiable", &tree, queries, batch, Kind::Unifiable)?;
     let many = queries.len() / PARTS;
     timed(rt, "generalisations", &tree, queries, many, Kind::Generalisations)?;
@@ -156,7 +170,8 @@ fn measure(rt: &HostRuntime, entries: &[Term], queries: &[Term], batch: usize) -
 fn run(rt: &HostRuntime) -> Mem<()> {
     let terms = random_terms(rt.alloc(), &mut Random::new(1), 100_000)?;
     let queries = random_terms(rt.alloc(), &mut Random::new(2), 10_000)?;
-    for (size, asked, batch) in [SIZES[2], SIZES[1], SIZES[0]] {
+    weighed(rt, terms.as_slice())?;
+    for (size, asked, batch) in [SIZES[1], SIZES[0], SIZES[2]] {
         measure(rt, &terms[..size], &queries[..asked], batch)?;
     }
     for (size, _, _) in SIZES {
