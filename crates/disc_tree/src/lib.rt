@@ -2,6 +2,7 @@
 #![tactic(auto)]
 
 mod entry;
+mod first;
 mod fitting;
 mod label;
 pub mod laws;

@@ -5,9 +5,11 @@ ghost use Rattle.fol_base.specs.Term.{tree_of};
 ghost use Rattle.fol_base.specs.Compatible.{compatible, compatible_generalisation, compatible_instance, compatible_by};
 ghost use Rattle.fol_base.specs.Ground.{is_ground};
 ghost use Rattle.disc_tree.specs.Entries.{IsIn, IsWith, numbers_where};
+ghost use Rattle.disc_tree.specs.Firsts.{IsFirst};
 ghost use Rattle.disc_tree.specs.Prefixes.{compatible_prefixes};
 
 use crate::entry::Entry;
+use crate::first::first_in;
 use crate::fitting::Varying;
 use crate::node::Node;
 use crate::query::collect;
@@ -122,6 +124,39 @@ impl DiscTree {
             ≡ found.old.items ++ numbers_where (λ term. compatible_generalisation term (tree_of query.now)) self.now) }
     {
         self.push_uncounted(query, Varying::ENTRIES, found)
+    }
+
+    /// What a test makes of the numbers that `generalisations` answers, one after another, up to the first that it accepts by an answer other than
+    /// None: that answer, and None where it accepts none. No list is made, and what stands behind the accepted entry isn't read.
+    pub fn first_generalisation<T, F: Fn(u64) -> Mem<Option<T>>>(
+        &self,
+        query: &Term,
+        test: F,
+    ) -> Mem<Option<T>>
+        requires { F.IsAlwaysCallable test }
+        ensures { IfOk result (IsFirst (F.post test)
+            (numbers_where (λ term. compatible_generalisation term (tree_of query.now)) self.now)) }
+    {
+        self.first_from::<T, F, Brand>(query, &test, Blank::new(1))
+    }
+
+    /// The same on a new ledger, which nobody reads.
+    fn first_from<T, F: Fn(u64) -> Mem<Option<T>>, L: Ledger>(
+        &self,
+        query: &Term,
+        test: &F,
+        blank: Blank,
+    ) -> Mem<Option<T>>
+        requires test { F.IsAlwaysCallable test.now }
+        requires name { blank.name ≡ L.name }
+        requires parts { blank.parts ≡ L.parts }
+        requires some { 0 < blank.parts }
+        ensures { IfOk result (IsFirst (F.post test.now)
+            (numbers_where (λ term. compatible_generalisation term (tree_of query.now)) self.now)) }
+    {
+        let mut steps = Steps::<L>::new(blank);
+        let rest = Rest::Then(query, &[], &Rest::Nothing);
+        first_in(&self.root, &rest, test, &mut steps)
     }
 
     /// Adds what `instances` answers to a list of the caller's. After want of memory only some of it may be there.

@@ -2,11 +2,8 @@ use Rattle.std.proofs.Common.{◌≡◌, ◌++◌, ◌∷◌, [], ℕ, List, tak
 use Rattle.fol_base.specs.Tree.{Tree}
 use Rattle.fol_base.proofs.ListLemmas.{take_more_item}
 use Rattle.disc_tree.specs.Rows.{numbers_of}
+use Rattle.disc_tree.proofs.AboutQueries.FoundLemmas.{numbers-append}
 use Rattle.disc_tree.proofs.query.push_numbers.Goals as goal
-
-numbers-append : (xs ys : List (Tree × ℕ)) → numbers_of (xs ++ ys) ≡ numbers_of xs ++ numbers_of ys
-numbers-append [] ys = refl
-numbers-append (x ∷ xs) ys = ap (λ ns. x.1 ∷ ns) (numbers-append xs ys)
 
 pub loop-entry-preserved : goal.loop-entry-preserved
 loop-entry-preserved c =
