@@ -1,5 +1,5 @@
 -- The answers of a test to numbers, one after another, up to the first that it accepts.
-use Rattle.std.specs.Prelude.{◌≡◌, ◌⊎◌, ℕ, true, List, [], ◌∷◌, Option, None, Some, Result, Ok}
+use Rattle.std.specs.Prelude.{◌≡◌, ◌⊎◌, ℕ, true, List, [], ◌∷◌, Option, None, Result, Ok}
 use Rattle.std.specs.Option.{is_some}
 
 -- the test answers None to the numbers before one, and this to that one; None where it answers None to all

@@ -76,7 +76,13 @@ fn first_below<T, F: Fn(u64) -> Mem<Option<T>>, L: Ledger>(
     match below {
         Below::Branching(node) => first_in(node, rest, test, steps),
         Below::Single(tail) => {
-            if fits(&tail.labels, &Skipped::Closed, rest, Varying::ENTRIES, steps) {
+            if fits(
+                &tail.labels,
+                &Skipped::Closed,
+                rest,
+                Varying::ENTRIES,
+                steps,
+            ) {
                 first_of(tail.entries.as_slice(), test)
             } else {
                 Ok(None)

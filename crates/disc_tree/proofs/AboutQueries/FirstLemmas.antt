@@ -1,6 +1,5 @@
 -- The first number that a test accepts, in parts of a list.
-use Rattle.std.proofs.Common.{◌≡◌, ◌⊎◌, ℕ, true, false, List, [], ◌∷◌, ◌++◌, Option, None, Some, Result, Ok, Err, IfOk, refl, subst, ap, sym, ◌∙◌, ⊎_elim, inl, inr}
-use Rattle.std.specs.Option.{is_some}
+use Rattle.std.proofs.Common.{◌≡◌, ℕ, true, false, List, [], ◌∷◌, ◌++◌, Option, None, Some, Result, Ok, Err, IfOk, refl, subst, ⊎_elim, inl, inr}
 use Rattle.disc_tree.specs.Firsts.{IsFirst}
 
 pub first-more :

@@ -1,4 +1,4 @@
-use Rattle.std.proofs.Common.{◌≡◌, ◌++◌, ◌∷◌, [], ℕ, List, map, true, false, refl, ap, sym, subst, ◌∙◌, Some, None, rules}
+use Rattle.std.proofs.Common.{◌≡◌, ◌++◌, [], ℕ, List, map, true, false, refl, ap, sym, subst, ◌∙◌, Some, None, rules}
 use Rattle.fol_base.specs.Tree.{Tree}
 use Rattle.fol_base.specs.Term.{tree_of}
 use Rattle.disc_tree.specs.declared.label.Label.{Label}

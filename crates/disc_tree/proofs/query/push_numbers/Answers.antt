@@ -1,4 +1,4 @@
-use Rattle.std.proofs.Common.{◌≡◌, ◌++◌, ◌∷◌, [], ℕ, List, take, refl, ap, sym, ◌∙◌, append_assoc}
+use Rattle.std.proofs.Common.{◌++◌, ◌∷◌, [], ℕ, List, take, ap, sym, ◌∙◌, append_assoc}
 use Rattle.fol_base.specs.Tree.{Tree}
 use Rattle.fol_base.proofs.ListLemmas.{take_more_item}
 use Rattle.disc_tree.specs.Rows.{numbers_of}
