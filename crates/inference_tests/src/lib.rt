@@ -13,6 +13,10 @@ mod normal_forms;
 #[cfg(test)]
 mod random_clauses;
 #[cfg(test)]
+mod random_sets;
+#[cfg(test)]
+mod removals;
+#[cfg(test)]
 mod samples;
 #[cfg(test)]
 mod simplified;
