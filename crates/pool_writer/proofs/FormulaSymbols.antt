@@ -19,11 +19,11 @@ use Rattle.pool_writer.proofs.SymbolTests.{slice-front, all-parts, AreKnown, Sym
 -- ---- what was made has its places
 
 pub record Fits (test : SymbolTest) (n : SymbolNumbers) (m : Made) : Type 0 where
-  skolem : (k a : ℕ) → slice_get m.skolem_arities k ≡ Some a → test (n.first_skolem + k) a ≡ true
-  naming : (k a : ℕ) → slice_get m.naming_arities k ≡ Some a → test (n.first_naming + k) a ≡ true
+  pub skolem : (k a : ℕ) → slice_get m.skolem_arities k ≡ Some a → test (n.first_skolem + k) a ≡ true
+  pub naming : (k a : ℕ) → slice_get m.naming_arities k ≡ Some a → test (n.first_naming + k) a ≡ true
 
-record RightForce (test : SymbolTest) (env : Environment) : Type 0 where
-  at : (x : List ℕ) → Right test (term_in_force env x)
+pub record RightForce (test : SymbolTest) (env : Environment) : Type 0 where
+  pub at : (x : List ℕ) → Right test (term_in_force env x)
 
 pub force-none : (test : SymbolTest) → RightForce test []
 force-none test = record { at = λ x. record { passes = refl } }
@@ -93,9 +93,9 @@ scope-back :
 scope-back test n true xs body env m h = variables-back test n xs env m h
 scope-back test n false xs body env m h = skolem-back test n (free_names body) xs env m h
 
-record RightScope (test : SymbolTest) (s : Scope) : Type 0 where
-  environment : RightForce test s.environment
-  defining : RightClauses test s.made.defining
+pub record RightScope (test : SymbolTest) (s : Scope) : Type 0 where
+  pub environment : RightForce test s.environment
+  pub defining : RightClauses test s.made.defining
 
 variables-scope :
     (test : SymbolTest) (xs : List (List ℕ)) (env : Environment) (m : Made) → RightForce test env → RightClauses test m.defining
@@ -173,8 +173,8 @@ product-right test n began a b m first h c e d = by (is_large a b) (nat_lt (leng
 
 -- ---- formulas
 
-record Back (test : SymbolTest) (n : SymbolNumbers) (w : Work) : Type 0 where
-  by : (m : Made) → Fits test n (w m).made → Fits test n m
+pub record Back (test : SymbolTest) (n : SymbolNumbers) (w : Work) : Type 0 where
+  pub by : (m : Made) → Fits test n (w m).made → Fits test n m
 
 joined-back :
     (test : SymbolTest) (n : SymbolNumbers) (listed : Bool) (a b : Work) → Back test n a → Back test n b
@@ -243,8 +243,8 @@ mutual
       (formula-back test n f sign env).by m
       (product-back test n began cs w.clauses w.made (products-back test n began v.clauses fs sign env v.made g))
 
-record RightWork (test : SymbolTest) (n : SymbolNumbers) (w : Work) : Type 0 where
-  by : (m : Made) → Fits test n (w m).made → RightClauses test m.defining → AreRight test (w m)
+pub record RightWork (test : SymbolTest) (n : SymbolNumbers) (w : Work) : Type 0 where
+  pub by : (m : Made) → Fits test n (w m).made → RightClauses test m.defining → AreRight test (w m)
 
 joined-right :
     (test : SymbolTest) (n : SymbolNumbers) (listed : Bool) (a b : Work) → test 0 0 ≡ true → Back test n b

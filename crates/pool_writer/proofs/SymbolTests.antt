@@ -39,14 +39,14 @@ SymbolTest = ℕ → ℕ → Bool
 
 -- the symbols of the problem pass at their places, and so does `$true`
 pub record Knows (test : SymbolTest) (known : List Symbol) : Type 0 where
-  there : (s : Symbol) → has_symbol s known ≡ true → test (number_of known s) s.arity ≡ true
-  first : test 0 0 ≡ true
+  pub there : (s : Symbol) → has_symbol s known ≡ true → test (number_of known s) s.arity ≡ true
+  pub first : test 0 0 ≡ true
 
 pub record Right (test : SymbolTest) (t : Tree) : Type 0 where
-  passes : symbols_pass test t ≡ true
+  pub passes : symbols_pass test t ≡ true
 
 pub record RightAll (test : SymbolTest) (ts : Trees) : Type 0 where
-  passes : all_symbols_pass test ts ≡ true
+  pub passes : all_symbols_pass test ts ≡ true
 
 pub right-then : (test : SymbolTest) (t : Tree) (ts : Trees) → Right test t → RightAll test ts → RightAll test (tree_then t ts)
 right-then test t ts h k = record { passes = and_from _ _ h.passes k.passes }

@@ -21,11 +21,11 @@ use Rattle.clausal_form.proofs.AboutForms.SymbolPlaces.{slice-front, slice-last,
 -- ---- what was made has its places
 
 pub record Fits (symbols : List Symbol) (n : SymbolNumbers) (m : Made) : Type 0 where
-  skolem : (k a : ℕ) → slice_get m.skolem_arities k ≡ Some a → IsAt symbols (n.first_skolem + k) false a
-  naming : (k a : ℕ) → slice_get m.naming_arities k ≡ Some a → IsAt symbols (n.first_naming + k) true a
+  pub skolem : (k a : ℕ) → slice_get m.skolem_arities k ≡ Some a → IsAt symbols (n.first_skolem + k) false a
+  pub naming : (k a : ℕ) → slice_get m.naming_arities k ≡ Some a → IsAt symbols (n.first_naming + k) true a
 
-record RightForce (symbols : List Symbol) (env : Environment) : Type 0 where
-  at : (x : List ℕ) → Right symbols (term_in_force env x)
+pub record RightForce (symbols : List Symbol) (env : Environment) : Type 0 where
+  pub at : (x : List ℕ) → Right symbols (term_in_force env x)
 
 pub force-none : (symbols : List Symbol) → RightForce symbols []
 force-none symbols = record { at = λ x. record { kind = refl; arities = refl } }
@@ -111,9 +111,9 @@ scope-back :
 scope-back symbols n true xs body env m h = variables-back symbols n xs env m h
 scope-back symbols n false xs body env m h = skolem-back symbols n (free_names body) xs env m h
 
-record RightScope (symbols : List Symbol) (s : Scope) : Type 0 where
-  environment : RightForce symbols s.environment
-  defining : RightClauses symbols s.made.defining
+pub record RightScope (symbols : List Symbol) (s : Scope) : Type 0 where
+  pub environment : RightForce symbols s.environment
+  pub defining : RightClauses symbols s.made.defining
 
 variables-scope :
     (symbols : List Symbol) (xs : List (List ℕ)) (env : Environment) (m : Made) → RightForce symbols env → RightClauses symbols m.defining
@@ -191,8 +191,8 @@ product-right symbols n began a b m first h c e d = by (is_large a b) (nat_lt (l
 
 -- ---- formulas
 
-record Back (symbols : List Symbol) (n : SymbolNumbers) (w : Work) : Type 0 where
-  by : (m : Made) → Fits symbols n (w m).made → Fits symbols n m
+pub record Back (symbols : List Symbol) (n : SymbolNumbers) (w : Work) : Type 0 where
+  pub by : (m : Made) → Fits symbols n (w m).made → Fits symbols n m
 
 joined-back :
     (symbols : List Symbol) (n : SymbolNumbers) (listed : Bool) (a b : Work) → Back symbols n a → Back symbols n b
@@ -261,8 +261,8 @@ mutual
       (formula-back symbols n f sign env).by m
       (product-back symbols n began cs w.clauses w.made (products-back symbols n began v.clauses fs sign env v.made g))
 
-record RightWork (symbols : List Symbol) (n : SymbolNumbers) (w : Work) : Type 0 where
-  by : (m : Made) → Fits symbols n (w m).made → RightClauses symbols m.defining → AreRight symbols (w m)
+pub record RightWork (symbols : List Symbol) (n : SymbolNumbers) (w : Work) : Type 0 where
+  pub by : (m : Made) → Fits symbols n (w m).made → RightClauses symbols m.defining → AreRight symbols (w m)
 
 joined-right :
     (symbols : List Symbol) (n : SymbolNumbers) (listed : Bool) (a b : Work) → slice_get symbols 0 ≡ Some true_symbol → Back symbols n b

@@ -37,9 +37,9 @@ slice-last xs x =
 
 -- whether it is a predicate, and its number of arguments; it isn't `$true`
 pub record IsAt (symbols : List Symbol) (place : ℕ) (is_predicate : Bool) (arity : ℕ) : Type 0 where
-  used : is_predicate_in symbols place ≡ is_predicate
-  takes : arity_in symbols place ≡ arity
-  proper : (place == 0) ≡ false
+  pub used : is_predicate_in symbols place ≡ is_predicate
+  pub takes : arity_in symbols place ≡ arity
+  pub proper : (place == 0) ≡ false
 
 pub at-place :
     (symbols : List Symbol) (place : ℕ) (s : Symbol) → slice_get symbols place ≡ Some s → (place == 0) ≡ false
@@ -52,8 +52,8 @@ at-place symbols place s h p =
     }
 
 pub record Knows (symbols known : List Symbol) : Type 0 where
-  there : (s : Symbol) → has_symbol s known ≡ true → slice_get symbols (number_of known s) ≡ Some s
-  first : slice_get symbols 0 ≡ Some true_symbol
+  pub there : (s : Symbol) → has_symbol s known ≡ true → slice_get symbols (number_of known s) ≡ Some s
+  pub first : slice_get symbols 0 ≡ Some true_symbol
 
 pub function-at :
     (symbols known : List Symbol) → Knows symbols known → (name : List ℕ) (arity : ℕ) → has_symbol (function_symbol name arity) known ≡ true
@@ -91,12 +91,12 @@ predicate-at symbols known k name arity h = by (number_of known s == 0) refl
 -- ---- function terms of the signature
 
 pub record Right (symbols : List Symbol) (t : Tree) : Type 0 where
-  kind : is_function_term (is_predicate_in symbols) t ≡ true
-  arities : has_arities (arity_in symbols) t ≡ true
+  pub kind : is_function_term (is_predicate_in symbols) t ≡ true
+  pub arities : has_arities (arity_in symbols) t ≡ true
 
 pub record RightAll (symbols : List Symbol) (ts : Trees) : Type 0 where
-  kind : are_function_terms (is_predicate_in symbols) ts ≡ true
-  arities : have_arities (arity_in symbols) ts ≡ true
+  pub kind : are_function_terms (is_predicate_in symbols) ts ≡ true
+  pub arities : have_arities (arity_in symbols) ts ≡ true
 
 pub right-then : (symbols : List Symbol) (t : Tree) (ts : Trees) → Right symbols t → RightAll symbols ts → RightAll symbols (tree_then t ts)
 right-then symbols t ts h k = record { kind = and_from _ _ h.kind k.kind; arities = and_from _ _ h.arities k.arities }

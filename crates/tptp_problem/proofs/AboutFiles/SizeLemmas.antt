@@ -150,20 +150,20 @@ size-of-problem (f ∷ fs) = omega (arith, size-of-problem fs)
 -- ---- entries: their formulas have at most as many as the tokens and the bytes that were loaded
 
 -- a file and its includes: what they add to the bytes, and that these stay within the limit
-record IsWithin (start : Progress) (fs : List Placed) (now : Progress) : Type 0 where
-  sized : size fs + start.loaded ≤ now.loaded
-  limited : now.loaded ≤ MOST_PROBLEM_BYTES
+pub record IsWithin (start : Progress) (fs : List Placed) (now : Progress) : Type 0 where
+  pub sized : size fs + start.loaded ≤ now.loaded
+  pub limited : now.loaded ≤ MOST_PROBLEM_BYTES
 
-record AllWithin (reads : Reads) : Type 0 where
-  all :
+pub record AllWithin (reads : Reads) : Type 0 where
+  pub all :
       (name : List ℕ) (around : List (List (List ℕ))) (start now : Progress) (fs : List Placed) → start.loaded ≤ MOST_PROBLEM_BYTES
       → reads name around start fs now → IsWithin start fs now
 
 -- from a token up to another
-record IsStretch (tokens : ℕ) (first : ℕ) (start : Progress) (fs : List Placed) (now : Progress) (next : ℕ) : Type 0 where
-  sized : size fs + start.loaded + first ≤ now.loaded + next
-  limited : now.loaded ≤ MOST_PROBLEM_BYTES
-  within : next ≤ tokens
+pub record IsStretch (tokens : ℕ) (first : ℕ) (start : Progress) (fs : List Placed) (now : Progress) (next : ℕ) : Type 0 where
+  pub sized : size fs + start.loaded + first ≤ now.loaded + next
+  pub limited : now.loaded ≤ MOST_PROBLEM_BYTES
+  pub within : next ≤ tokens
 
 lexemes-long : (file : LoadedFile) → length (lexemes file) ≡ length (tokens_of file)
 lexemes-long file = length-map (tokens_of file) (lexeme_at file.bytes)

@@ -17,9 +17,9 @@ use Rattle.tptp_problem.proofs.AboutReading.IncludeTokens.{tail_lexemes, include
 -- ---- what isn't read up to an end
 
 -- the tokens lead from one state to the other
-record LeadsTo (s : Awaited) (front : List Lexeme) (behind : Awaited) : Type 0 where
-  going : is_nothing behind ≡ false
-  by : (p : ℕ) (more : List Lexeme) → ending_from p s (front ++ more) ≡ ending_from (p + length front) behind more
+pub record LeadsTo (s : Awaited) (front : List Lexeme) (behind : Awaited) : Type 0 where
+  pub going : is_nothing behind ≡ false
+  pub by : (p : ℕ) (more : List Lexeme) → ending_from p s (front ++ more) ≡ ending_from (p + length front) behind more
 
 leads-nowhere : (s : Awaited) → is_nothing s ≡ false → LeadsTo s [] s
 leads-nowhere s n = record { going = n; by = λ p more. let far : p ≡ p + 0 = omega arith in ap (λ q. ending_from q s more) far }
@@ -37,11 +37,11 @@ leads-on s next behind t front e n leads =
     }
 
 -- the tokens up to the one that isn't taken, or all
-record Parts (at : ℕ) (s : Awaited) (ts : List Lexeme) : Type 0 where
-  front : List Lexeme
-  behind : Awaited
-  leads : LeadsTo s front behind
-  how :
+pub record Parts (at : ℕ) (s : Awaited) (ts : List Lexeme) : Type 0 where
+  pub front : List Lexeme
+  pub behind : Awaited
+  pub leads : LeadsTo s front behind
+  pub how :
       (ts ≡ front) × (ending_from at s ts ≡ Cut)
       ⊎ ((t : Lexeme) × (rest : List Lexeme) × (ts ≡ front ++ t ∷ rest) × (after behind t ≡ None) × (ending_from at s ts ≡ Stopped (at + length front)))
 

@@ -69,10 +69,10 @@ names-one tokens end at (n ∷ ns) (m ∷ ms) h k =
     sym (name-name n) ∙ ap (λ (l : Lexeme). token_name l.kind l.bytes) head ∙ name-name m in
     ap₂ (λ x xs. x ∷ xs) name (names-one tokens end (at + 2) ns ms (next-names tokens end at n ns h) (next-names tokens end at m ms k))
 
-record SameInclude (f g : Word) (ns ms : List NamePhrase) (n m : ℕ) : Type 0 where
-  file : name_of f ≡ name_of g
-  names : names_meant ns ≡ names_meant ms
-  next : n ≡ m
+pub record SameInclude (f g : Word) (ns ms : List NamePhrase) (n m : ℕ) : Type 0 where
+  pub file : name_of f ≡ name_of g
+  pub names : names_meant ns ≡ names_meant ms
+  pub next : n ≡ m
 
 whole-same : (m n : ℕ) → Whole m ≡ Whole n → m ≡ n
 whole-same m n e = cc

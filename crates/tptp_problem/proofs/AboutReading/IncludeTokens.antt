@@ -129,12 +129,12 @@ close-read at (t ∷ ts) next e =
     let more = stop-read (suc at) ts next first.1 in
     (more.0, ap₂ (λ u us. u ∷ us) (mark-same (codes ")") t first.0) more.1, more.2)
 
-record NamesRead (at : ℕ) (ts : List Lexeme) (next : ℕ) : Type 0 where
-  names : List NamePhrase
-  rest : List Lexeme
-  right : list_all is_right_name names ≡ true
-  spelled : ts ≡ more_names_lexemes names (lexeme Mark (codes "]") ∷ include_end rest)
-  next_is : next ≡ at + 2 * length names + 3
+pub record NamesRead (at : ℕ) (ts : List Lexeme) (next : ℕ) : Type 0 where
+  pub names : List NamePhrase
+  pub rest : List Lexeme
+  pub right : list_all is_right_name names ≡ true
+  pub spelled : ts ≡ more_names_lexemes names (lexeme Mark (codes "]") ∷ include_end rest)
+  pub next_is : next ≡ at + 2 * length names + 3
 
 closed-names : (at : ℕ) (t : Lexeme) (ts : List Lexeme) (next : ℕ) → is_mark (codes "]") t ≡ true → ending_from (suc at) Close ts ≡ Whole next → NamesRead at (t ∷ ts) next
 closed-names at t ts next h e =
@@ -181,12 +181,12 @@ names-read at (t ∷ u ∷ ts) next e = by (is_mark (codes ",") t) refl e (λ k.
         more-names at t u ts next h second.0 (more second.1)
     by false h k more = let last = taken at (is_mark (codes "]") t) Close (u ∷ ts) next refl k in closed-names at t (u ∷ ts) next last.0 last.1
 
-record TailRead (at : ℕ) (ts : List Lexeme) (next : ℕ) : Type 0 where
-  names : List NamePhrase
-  rest : List Lexeme
-  right : list_all is_right_name names ≡ true
-  spelled : ts ≡ tail_lexemes names rest
-  next_is : next ≡ at + tail_width names
+pub record TailRead (at : ℕ) (ts : List Lexeme) (next : ℕ) : Type 0 where
+  pub names : List NamePhrase
+  pub rest : List Lexeme
+  pub right : list_all is_right_name names ≡ true
+  pub spelled : ts ≡ tail_lexemes names rest
+  pub next_is : next ≡ at + tail_width names
 
 name-read : (at : ℕ) (ts : List Lexeme) (next : ℕ) → ending_from at Name ts ≡ Whole next → (n : NamePhrase) × (us : List Lexeme) × (is_right_name n ≡ true) × (ts ≡ name_lexeme n ∷ us) × NamesRead (suc at) us next
 name-read at [] next e = absurd (cc)

@@ -68,9 +68,9 @@ decimal-name n = digits-name (decimal n) (decimal-some n) (decimal-digits n)
 -- ---- items
 
 -- within the levels of what is bound, and three more
-record IsSmallItem (t : GeneralTree) : Type 0 where
-  writable : IsWritable t
-  levels : general_levels t ≤ 4003
+pub record IsSmallItem (t : GeneralTree) : Type 0 where
+  pub writable : IsWritable t
+  pub levels : general_levels t ≤ 4003
 
 numbers-writable : (ns : List ℕ) → AreWritable (trees_of (map number_item ns))
 numbers-writable [] = tt
@@ -228,9 +228,9 @@ side-small i z =
     }
 
 -- what is bound by all steps without names
-record IsBoundOver (symbols : List Symbol) (bs : List (List Tree)) : Type 0 where
-  over : list_all (list_all (is_term_over symbols)) bs ≡ true
-  small : list_all (list_all is_small_term) bs ≡ true
+pub record IsBoundOver (symbols : List Symbol) (bs : List (List Tree)) : Type 0 where
+  pub over : list_all (list_all (is_term_over symbols)) bs ≡ true
+  pub small : list_all (list_all is_small_term) bs ≡ true
 
 first-bound :
     (symbols : List Symbol) (b : List Tree) (bs : List (List Tree))

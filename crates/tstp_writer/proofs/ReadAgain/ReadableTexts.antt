@@ -91,10 +91,10 @@ mutual
 
 -- ---- literals
 
-record IsPrintableLiteral (f : FormulaTree) : Type 0 where
-  well : WellFormula f
-  literal : is_literal_formula f ≡ true
-  levels : with_parentheses (is_joined f) (formula_levels f) ≤ MOST_DERIVATION_NESTING
+pub record IsPrintableLiteral (f : FormulaTree) : Type 0 where
+  pub well : WellFormula f
+  pub literal : is_literal_formula f ≡ true
+  pub levels : with_parentheses (is_joined f) (formula_levels f) ≤ MOST_DERIVATION_NESTING
 
 signed-truth : (sign : Bool) → IsPrintableLiteral (with_sign sign truth)
 signed-truth true = record { well = tt; literal = refl; levels = omega arith }

@@ -6,4 +6,5 @@ returns c = record {
   one = refl;
   below = refl;
   above = refl;
+  variables = refl;
 }
