@@ -7,7 +7,6 @@ ghost use Rattle.subsume.specs.Target.{IsMapped};
 ghost use Rattle.unifier.specs.Matching.{HasPairs};
 ghost use Rattle.subsume.specs.Choosing.{AreNoPartners, HasNoPartner, MayStand};
 
-use crate::crowding::are_crowded;
 use crate::matching::{are_alike, may_turn};
 use fol_base::{LendsLiterals, LiteralRef};
 use plain_types::Mem;
@@ -25,7 +24,9 @@ pub(crate) fn have_partners<L: LendsLiterals>(
 {
     let nothing = Matched::empty(alloc);
     for index in 0..lender.count() {
-        if !has_partner(alloc, lender.literal(index), targets, &nothing)? {
+        let literal = lender.literal(index);
+        let found = has_partner(alloc, literal, targets, &nothing)?;
+        if !found {
             return Ok(false);
         }
     }
@@ -42,7 +43,8 @@ fn has_partner(
     ensures { IfOk result (λ found. found ≡ false → AreNoPartners so_far.now (lent_of literal.entry) (map lent_of targets.now)) }
 {
     for target in targets {
-        if may_stand(alloc, literal, *target, so_far)? {
+        let stands = may_stand(alloc, literal, *target, so_far)?;
+        if stands {
             return Ok(true);
         }
     }
@@ -52,22 +54,22 @@ fn has_partner(
 /// The index of the pattern to be placed next. None only where some pattern can't be placed.
 pub(crate) fn choose(
     alloc: Global,
-    open: &[LiteralRef<'_>],
+    patterns: &[LiteralRef<'_>],
     targets: &[LiteralRef<'_>],
     used: &[bool],
     so_far: &Matched<'_>,
 ) -> Mem<Option<usize>>
-    requires open { 0 < length open.now }
+    requires patterns { 0 < length patterns.now }
     requires marks { length used.now ≡ length targets.now }
     ensures { IfOk result (λ found. MatchOption found
-        (IsFoundFor (map lent_of open.now) (map lent_of targets.now)
-        (Places used.now (map lent_of open.now) (map lent_of targets.now) so_far.now) None)
-        (λ chosen. chosen < length open.now)) }
+        (IsFoundFor (map lent_of patterns.now) (map lent_of targets.now)
+        (Places used.now (map lent_of patterns.now) (map lent_of targets.now) so_far.now) None)
+        (λ chosen. chosen < length patterns.now)) }
 {
     let mut chosen = 0;
     let mut fewest = usize::MAX;
-    for index in 0..open.len() {
-        let partners = partners(alloc, open[index], targets, used, so_far)?;
+    for index in 0..patterns.len() {
+        let partners = partners(alloc, patterns[index], targets, used, so_far)?;
         if partners == 0 {
             return Ok(None);
         }
@@ -76,14 +78,11 @@ pub(crate) fn choose(
             fewest = partners;
         }
     }
-    if open.len() > 2 && are_crowded(alloc, open[chosen], open, targets, used, so_far)? {
-        return Ok(None);
-    }
     Ok(Some(chosen))
 }
 
 /// How many of the targets that aren't marked may be instances of a literal by the pairs.
-pub(crate) fn partners(
+fn partners(
     alloc: Global,
     literal: LiteralRef<'_>,
     targets: &[LiteralRef<'_>],
@@ -96,15 +95,18 @@ pub(crate) fn partners(
 {
     let mut count = 0;
     for at in 0..targets.len() {
-        if !used[at] && may_stand(alloc, literal, targets[at], so_far)? {
-            count += 1;
+        if !used[at] {
+            let stands = may_stand(alloc, literal, targets[at], so_far)?;
+            if stands {
+                count += 1;
+            }
         }
     }
     Ok(count)
 }
 
 /// Whether the pairs leave it open that an instance of a literal is another one, sides in either order.
-pub(crate) fn may_stand(
+fn may_stand(
     alloc: Global,
     pattern: LiteralRef<'_>,
     target: LiteralRef<'_>,
@@ -115,11 +117,9 @@ pub(crate) fn may_stand(
     if !are_alike(pattern, target) {
         return Ok(false);
     }
-    if may_turn(alloc, pattern, target, so_far)? {
-        return Ok(true);
-    }
-    if target.right.is_truth() {
-        return Ok(false);
+    let turns = may_turn(alloc, pattern, target, so_far)?;
+    if turns || target.right.is_truth() {
+        return Ok(turns);
     }
     may_turn(alloc, pattern, target.exchanged(), so_far)
 }

@@ -4,7 +4,6 @@
 mod choosing;
 mod collecting;
 mod counting;
-mod crowding;
 mod editing;
 mod entry;
 mod lowest;

@@ -28,12 +28,7 @@ pub fn are_alike(pattern: LiteralRef<'_>, target: LiteralRef<'_>) -> bool
 /// Whether the pairs leave it open that a substitution which has them turns a term into another one. False only where none does; that one
 /// variable without a pair would have to become two terms isn't looked at. Memory is taken only where a variable stands for itself.
 #[cycle(may_become)]
-fn may_become(
-    alloc: Global,
-    pattern: &Term,
-    target: &Term,
-    so_far: &Matched<'_>,
-) -> Mem<bool>
+fn may_become(alloc: Global, pattern: &Term, target: &Term, so_far: &Matched<'_>) -> Mem<bool>
     ensures { IfOk result (MayBecome so_far.now (tree_of pattern.now) (tree_of target.now)) }
 {
     match pattern {
@@ -66,7 +61,8 @@ fn all_may_become(
         return Ok(false);
     }
     for index in 0..patterns.len() {
-        if !may_become(alloc, &patterns[index], &targets[index], so_far)? {
+        let fits = may_become(alloc, &patterns[index], &targets[index], so_far)?;
+        if !fits {
             return Ok(false);
         }
     }
@@ -108,7 +104,8 @@ pub(crate) fn may_turn(
 ) -> Mem<bool>
     ensures { IfOk result (MayTurn so_far.now (lent_of pattern.entry) (lent_of target.entry)) }
 {
-    if !may_become(alloc, pattern.left, target.left, so_far)? {
+    let fits = may_become(alloc, pattern.left, target.left, so_far)?;
+    if !fits {
         return Ok(false);
     }
     may_become(alloc, pattern.right, target.right, so_far)
@@ -135,15 +132,15 @@ pub fn match_sides<'a>(
         → IsTrue (are_of_one_kind is_predicate (tree_of pattern.entry.right.now) (tree_of target.entry.right.now))
         → AreFunctionPairs is_predicate so_far.now → IfSome found (AreFunctionPairs is_predicate)) }
 {
-    if !may_turn(alloc, pattern, target, so_far)? {
+    let fits = may_turn(alloc, pattern, target, so_far)?;
+    if !fits {
         return Ok(None);
     }
-    let Some(mut pairs) = match_onto(alloc, pattern.left, target.left, so_far)? else {
-        return Ok(None);
-    };
-    if pairs.extend(pattern.right, target.right)? {
-        Ok(Some(pairs))
-    } else {
-        Ok(None)
+    match match_onto(alloc, pattern.left, target.left, so_far)? {
+        None => Ok(None),
+        Some(mut pairs) => {
+            let fits = pairs.extend(pattern.right, target.right)?;
+            if fits { Ok(Some(pairs)) } else { Ok(None) }
+        }
     }
 }

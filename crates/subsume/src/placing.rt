@@ -20,41 +20,42 @@ use plain_types::Mem;
 use std::alloc::Global;
 use unifier::Matched;
 
-/// The pairs handed in and those that map the open patterns to different targets that are free. None exactly where no substitution by
+/// The pairs handed in and those that map the patterns to different targets that are free. None exactly where no substitution by
 /// function terms maps them so, and then the marks are as before.
 #[cycle(place)]
 pub(crate) fn place<'a>(
     alloc: Global,
-    open: &[LiteralRef<'_>],
+    patterns: &[LiteralRef<'_>],
     targets: &[LiteralRef<'a>],
     used: &mut [bool],
     so_far: Matched<'a>,
 ) -> Mem<Option<Matched<'a>>>
     requires { length used.old ≡ length targets.now }
-    ensures found { IfOk result (λ found. IsFoundFor (map lent_of open.now) (map lent_of targets.now)
-        (Places used.old (map lent_of open.now) (map lent_of targets.now) so_far.entry) found) }
+    ensures found { IfOk result (λ found. IsFoundFor (map lent_of patterns.now) (map lent_of targets.now)
+        (Places used.old (map lent_of patterns.now) (map lent_of targets.now) so_far.entry) found) }
     ensures marks { IfOk result (λ found. MatchOption found (used.new ≡ used.old) (λ _. ⊤)) }
-    ensures below { IfOk result (λ found. (count : ℕ) → All (LiteralVariablesBelow count) (map lent_of open.now)
+    ensures below { IfOk result (λ found. (count : ℕ) → All (LiteralVariablesBelow count) (map lent_of patterns.now)
         → are_below count so_far.entry ≡ true → IfSome found (λ pairs. are_below count pairs ≡ true)) }
     ensures once { IfOk result (λ found. all_different (variables_of so_far.entry) ≡ true
         → IfSome found (λ pairs. all_different (variables_of pairs) ≡ true)) }
     ensures function_terms { IfOk result (λ found. (is_predicate : ℕ → Bool)
-        → AreLiterals is_predicate (map lent_of open.now) → AreLiterals is_predicate (map lent_of targets.now)
+        → AreLiterals is_predicate (map lent_of patterns.now) → AreLiterals is_predicate (map lent_of targets.now)
         → AreFunctionPairs is_predicate so_far.entry → IfSome found (AreFunctionPairs is_predicate)) }
 {
-    if open.is_empty() {
+    if patterns.is_empty() {
         return Ok(Some(so_far));
     }
-    let Some(chosen) = choose(alloc, open, targets, used, &so_far)? else {
+    let Some(chosen) = choose(alloc, patterns, targets, used, &so_far)? else {
         return Ok(None);
     };
-    let pattern = open[chosen];
-    let rest = others(alloc, open, chosen)?;
+    let pattern = patterns[chosen];
+    let others = all_but(alloc, patterns, chosen)?;
+    let rest = others.as_slice();
     for at in 0..targets.len() {
         let target = targets[at];
         if !used[at] && are_alike(pattern, target) {
             used[at] = true;
-            let found = place_onto(alloc, rest.as_slice(), targets, used, pattern, target, &so_far)?;
+            let found = place_onto(alloc, rest, targets, used, pattern, target, &so_far)?;
             if found.is_some() {
                 return Ok(found);
             }
@@ -65,11 +66,7 @@ pub(crate) fn place<'a>(
 }
 
 /// All literals but that of an index.
-fn others<'a>(
-    alloc: Global,
-    literals: &[LiteralRef<'a>],
-    index: usize,
-) -> Mem<Vec<LiteralRef<'a>>>
+fn all_but<'a>(alloc: Global, literals: &[LiteralRef<'a>], index: usize) -> Mem<Vec<LiteralRef<'a>>>
     requires { index < length literals.now }
     ensures { IfOk result (λ rest. rest.items ≡ take index literals.now ++ drop (index + 1) literals.now) }
 {
@@ -109,7 +106,15 @@ fn place_onto<'a>(
     if found.is_some() || target.right.is_truth() {
         return Ok(found);
     }
-    place_sides(alloc, rest, targets, used, pattern, target.exchanged(), so_far)
+    place_sides(
+        alloc,
+        rest,
+        targets,
+        used,
+        pattern,
+        target.exchanged(),
+        so_far,
+    )
 }
 
 /// The same where each side of a pattern becomes the same side of the target.

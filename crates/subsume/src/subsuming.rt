@@ -79,11 +79,13 @@ fn find_matcher<'a, L: LendsLiterals>(
     if !are_among(names, target.assertions.as_slice()) {
         return Ok(None);
     }
-    if !have_partners(alloc, literals, target.literals.as_slice())? {
+    let targets = target.literals.as_slice();
+    let found = have_partners(alloc, literals, targets)?;
+    if !found {
         return Ok(None);
     }
     let patterns = lent_literals(alloc, literals)?;
-    find_places(alloc, patterns.as_slice(), target.literals.as_slice())
+    find_places(alloc, patterns.as_slice(), targets)
 }
 
 /// The same for literals that are lent, whatever is asserted.

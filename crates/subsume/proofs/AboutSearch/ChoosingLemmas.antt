@@ -20,7 +20,7 @@ use Rattle.fol_base.proofs.AboutOrders.OrderLemmas.{equivalent_literals-decided}
 use Rattle.fol_base.proofs.WorkedExamples.TestLemmas.{list_all-item}
 use Rattle.unifier.specs.Matching.{HasPairs}
 use Rattle.unifier.proofs.AboutMatching.MatchLemmas.{Pairs}
-use Rattle.subsume.specs.Kinds.{AreLiterals, TurnsInto}
+use Rattle.subsume.specs.Kinds.{AreLiterals, TurnsInto, are_alike}
 use Rattle.subsume.specs.Choosing.{AreNoPartners, HasNoPartner, IsNoPartner}
 use Rattle.subsume.specs.Placing.{IsFoundFor, Places, is_free}
 use Rattle.subsume.specs.Target.{IsMapped, Maps}
@@ -105,8 +105,14 @@ no-partner-more so_far used l ds at m there here before = λ k n below stands fr
     subst (IsNoPartner so_far l) one (here (subst (λ j. is_free used j ≡ true) e free)))
     (split-below k at below)
 
-pub no-partner-first : (so_far : Pairs) (used : List Bool) (l : TreeLiteral) (ds : List TreeLiteral) → HasNoPartner so_far used l ds 0
-no-partner-first so_far used l ds = λ k n below stands free. absurd (omega arith)
+pub no-partner-taken :
+    (so_far : Pairs) (used : List Bool) (l : TreeLiteral) (ds : List TreeLiteral) (at : ℕ)
+    → (is_free used at ≡ true → ⊥) → HasNoPartner so_far used l ds at → HasNoPartner so_far used l ds (at + 1)
+no-partner-taken so_far used l ds at taken before = λ k n below stands free.
+    ⊎_elim
+    (λ e. before k n e stands free)
+    (λ e. absurd (taken (subst (λ j. is_free used j ≡ true) e free)))
+    (split-below k at below)
 
 -- ---- different places in another order
 
@@ -254,21 +260,22 @@ found-in-order ls os ds used so_far (Some pairs) perm h = λ σ has.
 
 -- the literal of an index before the others
 pub taken-out :
-    (xs : List LiteralRef) (i : ℕ) (x : LiteralRef) → i < length xs → x ≡ get_or xs i x
-    → IsPermutation (map lent_of xs) (lent_of x ∷ map lent_of (take i xs ++ drop (i + 1) xs))
-taken-out xs i x less is =
-    subst (λ ys. IsPermutation (map lent_of ys) (lent_of x ∷ map lent_of (take i xs ++ drop (i + 1) xs))) (sym (split xs i x less is))
+    (xs rest : List LiteralRef) (i : ℕ) (x : LiteralRef) → i < length xs → x ≡ get_or xs i x → rest ≡ take i xs ++ drop (i + 1) xs
+    → IsPermutation (map lent_of xs) (lent_of x ∷ map lent_of rest)
+taken-out xs rest i x less is e =
+    subst (λ ys. IsPermutation (map lent_of xs) (lent_of x ∷ map lent_of ys)) (sym e)
+    (subst (λ ys. IsPermutation (map lent_of ys) (lent_of x ∷ map lent_of (take i xs ++ drop (i + 1) xs))) (sym (split xs i x less is))
     (IsPermutation-map lent_of (take i xs ++ x ∷ drop (i + 1) xs) (x ∷ take i xs ++ drop (i + 1) xs)
-    (IsPermutation-middle (take i xs) x (drop (i + 1) xs)))
+    (IsPermutation-middle (take i xs) x (drop (i + 1) xs))))
   where
+    next : (i : ℕ) → suc (i + 1) ≡ suc i + 1
+    next i = omega arith
+
     split : (xs : List LiteralRef) (i : ℕ) (x : LiteralRef) → i < length xs → x ≡ get_or xs i x → xs ≡ take i xs ++ x ∷ drop (i + 1) xs
     split [] i x h e = absurd (omega arith)
     split (y ∷ ys) zero x h e = ap (λ z. z ∷ ys) (sym e)
     split (y ∷ ys) (suc i) x h e =
-        ap (λ zs. y ∷ zs) (split ys i x (omega arith) e) ∙ ap (λ n. y ∷ take i ys ++ x ∷ drop n ys) (next i)
-
-    next : (i : ℕ) → i + 1 ≡ i + 1
-    next i = refl
+        ap (λ zs. y ∷ zs) (split ys i x (omega arith) e) ∙ ap (λ n. y ∷ take i ys ++ x ∷ drop n (y ∷ ys)) (next i)
 
 -- ---- the start of a search
 

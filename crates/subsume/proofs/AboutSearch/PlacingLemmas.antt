@@ -185,7 +185,7 @@ turned-crossed :
 turned-crossed σ l m sign t = (equivalent_literals-decided (literal_instance σ l) m).1 (sign, inr (t.left, t.right))
 
 -- of an atom the other order gives nothing more
-atom-straight :
+pub atom-straight :
     (σ : Substitution) (l m : TreeLiteral) → are_alike l m ≡ true → is_truth m.right ≡ true
     → equivalent_literals (literal_instance σ l) m ≡ true → TurnsInto σ l m
 atom-straight σ l m alike truth h =

@@ -7,7 +7,7 @@ use Rattle.subsume.specs.Placing.{IsPlaced}
 use Rattle.subsume.proofs.placing.+place.Given as goal
 
 abbrev pub decreases-place : goal.decreases-place
-decreases-place l = 3 * length l.open.now
+decreases-place l = 3 * length l.patterns.now
 
 abbrev pub decreases-place_onto : goal.decreases-place_onto
 decreases-place_onto l = 3 * length l.rest.now + 2
@@ -19,6 +19,6 @@ decreases-place_sides l = 3 * length l.rest.now + 1
 abbrev pub invariant-place-loop-at : goal.invariant-place-loop-at
 invariant-place-loop-at l =
     (l.used ≡ l.fn.used)
-    × ((is_predicate : ℕ → Bool) → AreLiterals is_predicate (lent_of l.pattern ∷ map lent_of l.rest.items) → AreLiterals is_predicate (map lent_of l.targets)
+    × ((is_predicate : ℕ → Bool) → AreLiterals is_predicate (lent_of l.pattern ∷ map lent_of l.rest) → AreLiterals is_predicate (map lent_of l.targets)
     → (σ : Substitution) → PutsFunctionTerms is_predicate σ → (k : ℕ) (places : List ℕ) → k < l.at
-    → IsPlaced l.used (lent_of l.pattern ∷ map lent_of l.rest.items) (map lent_of l.targets) l.so_far σ (k ∷ places) → ⊥)
+    → IsPlaced l.used (lent_of l.pattern ∷ map lent_of l.rest) (map lent_of l.targets) l.so_far σ (k ∷ places) → ⊥)

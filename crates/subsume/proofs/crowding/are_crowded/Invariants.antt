@@ -1,8 +1,0 @@
-use Rattle.std.proofs.Common.{◌≤◌, map}
-use Rattle.fol_base.specs.Lent.{lent_of}
-use Rattle.subsume.proofs.AboutSearch.CrowdingLemmas.{AreWithin}
-use Rattle.subsume.proofs.crowding.are_crowded.Given as goal
-
-abbrev pub invariant-loop-one : goal.invariant-loop-one
-invariant-loop-one l =
-    (l.crowd ≤ l.one-index) × AreWithin (map lent_of l.open) (map lent_of l.targets) l.used l.so_far l.room.items l.crowd l.one-index
