@@ -2,6 +2,7 @@
 pub mod BecomingLemmas
 pub mod ChoosingLemmas
 pub mod CountingLemmas
+pub mod CrowdingLemmas
 pub mod OnceLemmas
 pub mod PlacingLemmas
 pub mod SearchLemmas

@@ -7,6 +7,7 @@ ghost use Rattle.subsume.specs.Target.{IsMapped};
 ghost use Rattle.unifier.specs.Matching.{HasPairs};
 ghost use Rattle.subsume.specs.Choosing.{AreNoPartners, HasNoPartner, MayStand};
 
+use crate::crowding::are_crowded;
 use crate::matching::{are_alike, may_turn};
 use fol_base::{LendsLiterals, LiteralRef};
 use plain_types::Mem;
@@ -78,11 +79,12 @@ pub(crate) fn choose(
             fewest = partners;
         }
     }
-    Ok(Some(chosen))
+    let crowded = are_crowded(alloc, patterns[chosen], patterns, targets, used, so_far)?;
+    if crowded { Ok(None) } else { Ok(Some(chosen)) }
 }
 
 /// How many of the targets that aren't marked may be instances of a literal by the pairs.
-fn partners(
+pub(crate) fn partners(
     alloc: Global,
     literal: LiteralRef<'_>,
     targets: &[LiteralRef<'_>],
@@ -106,7 +108,7 @@ fn partners(
 }
 
 /// Whether the pairs leave it open that an instance of a literal is another one, sides in either order.
-fn may_stand(
+pub(crate) fn may_stand(
     alloc: Global,
     pattern: LiteralRef<'_>,
     target: LiteralRef<'_>,

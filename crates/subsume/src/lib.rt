@@ -4,6 +4,7 @@
 mod choosing;
 mod collecting;
 mod counting;
+mod crowding;
 mod editing;
 mod entry;
 mod lowest;

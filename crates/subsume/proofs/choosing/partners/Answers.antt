@@ -1,4 +1,4 @@
-use Rattle.std.proofs.Common.{◌≡◌, ◌+◌, true, false, Some, map, get_or, sym, ◌∙◌, arith, rules}
+use Rattle.std.proofs.Common.{◌≡◌, true, false, Some, map, get_or, sym, ◌∙◌, arith, rules}
 use Rattle.std.specs.Prelude.{slice_get}
 use Rattle.std.proofs.lemmas.Bool.{true≢false}
 use Rattle.fol_base.specs.Lent.{lent_of}

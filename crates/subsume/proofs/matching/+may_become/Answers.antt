@@ -1,9 +1,8 @@
 use Rattle.std.proofs.Common.{◌≡◌, false, map, refl, ap, sym, ◌∙◌, arith, rules}
-use Rattle.std.proofs.lemmas.Bool.{true≢false}
 use Rattle.std.proofs.lemmas.Result.{IfOk-weaker}
 use Rattle.fol_base.specs.Term.{tree_of}
 use Rattle.fol_base.proofs.AboutTerms.TermLemmas.{tree_size-item}
-use Rattle.subsume.proofs.AboutSearch.BecomingLemmas.{arguments-become, item-becomes, lengths-become}
+use Rattle.subsume.proofs.AboutSearch.BecomingLemmas.{arguments-become, item-becomes}
 use Rattle.subsume.proofs.matching.+may_become.Goals as goal
 
 pub all_may_become-may_become-requires : goal.all_may_become-may_become-requires

@@ -11,7 +11,7 @@ use Rattle.fol_base.specs.Lent.{lent_of}
 use Rattle.fol_base.proofs.WorkedExamples.TestLemmas.{list_all-item}
 use Rattle.fol_base.specs.Sides.{exchanged}
 use Rattle.unifier.specs.Laws.{are_of_one_kind}
-use Rattle.subsume.specs.Kinds.{AreLiterals, TurnsInto, are_alike}
+use Rattle.subsume.specs.Kinds.{TurnsInto, are_alike}
 use Rattle.subsume.specs.Placing.{IsFoundFor, Places}
 use Rattle.subsume.proofs.AboutSearch.ChoosingLemmas.{found-in-order, literals-permutation, taken-out}
 use Rattle.subsume.proofs.AboutSearch.PlacingLemmas.{StandsAtNone, sides-then, onto-first, onto-second, one_kind, place-target, none-found, none-alike, none-free, nowhere, item, set-back, free-unmarked, taken-marked, marks-kept, length-mapped}
