@@ -15,6 +15,10 @@ mod plain_superposition;
 #[cfg(test)]
 mod random_clauses;
 #[cfg(test)]
+mod random_sets;
+#[cfg(test)]
+mod removals;
+#[cfg(test)]
 mod samples;
 #[cfg(test)]
 mod simplified;

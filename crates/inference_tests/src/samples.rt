@@ -84,7 +84,7 @@ pub(crate) fn equations(rt: &impl Abort, alloc: Global, bank: &Bank, members: &[
 }
 
 /// Adds a member that is an equation.
-fn add_equation(rt: &impl Abort, equations: &mut Units, bank: &Bank, member: &Member)
+pub(crate) fn add_equation(rt: &impl Abort, equations: &mut Units, bank: &Bank, member: &Member)
     requires of_bank { IsMemberOf bank.now member.now }
     requires equations { AreClausesOf bank.now equations.old }
     ensures { AreClausesOf bank.now equations.new }

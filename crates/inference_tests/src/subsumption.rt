@@ -32,6 +32,22 @@ const PAIRS: &[(&str, &str, bool)] = &[
     ("f(X0) = a", "a = f(b)", true),
     ("X0 = X1", "a = f(b)", true),
     ("X0 = X1", "p(a)", false),
+    // Wide clauses: the literal that says it alone is looked at first, and one too many for their places is told without each order of them.
+    (
+        "p(X0) | p(X1) | p(X2) | p(X3) | p(X4) | p(X5) | p(X6) | p(X7) | p(X8) | p(X9) | q(X9)",
+        "p(a) | p(b) | p(c) | p(d) | p(e) | p(f) | p(g) | p(h) | p(i) | p(j) | q(k)",
+        false,
+    ),
+    (
+        "p(X0) | p(X1) | p(X2) | p(X3) | p(X4) | p(X5) | p(X6) | p(X7) | p(X8) | p(X9) | q(X9)",
+        "p(a) | p(b) | p(c) | p(d) | p(e) | p(f) | p(g) | p(h) | p(i) | p(j) | q(a)",
+        true,
+    ),
+    (
+        "p(f(X0)) | p(f(X1)) | p(f(X2)) | p(f(X3)) | p(f(X4)) | p(f(X5)) | p(f(X6)) | p(f(X7)) | p(f(X8)) | p(f(X9))",
+        "p(f(a)) | p(f(b)) | p(f(c)) | p(f(d)) | p(f(e)) | p(f(g)) | p(f(h)) | p(f(i)) | p(f(j)) | p(a)",
+        false,
+    ),
 ];
 
 #[test]

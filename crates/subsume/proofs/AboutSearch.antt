@@ -1,7 +1,9 @@
 -- The search for a matcher of all literals.
+pub mod BecomingLemmas
+pub mod ChoosingLemmas
 pub mod CountingLemmas
+pub mod CrowdingLemmas
 pub mod OnceLemmas
-pub mod OrderingLemmas
 pub mod PlacingLemmas
 pub mod SearchLemmas
 pub mod SubsumingLemmas

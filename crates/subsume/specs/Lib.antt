@@ -1,6 +1,7 @@
 pub mod Kinds
 pub mod Placing
-pub mod Ordering
+pub mod Choosing
+pub mod Crowding
 pub mod Target
 pub mod Features
 pub mod MemberCode

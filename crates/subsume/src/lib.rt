@@ -1,13 +1,14 @@
 // Subsumption of clauses: one by another, and by sets of clauses that are found by their features.
 #![tactic(auto)]
 
+mod choosing;
 mod collecting;
 mod counting;
+mod crowding;
 mod editing;
 mod entry;
 mod lowest;
 mod matching;
-mod ordering;
 mod placing;
 mod searching;
 mod subsumers;

@@ -1,7 +1,7 @@
 // Matching of literals, side by side.
 
-ghost use Rattle.std.specs.Prelude.{◌≡◌, ◌↔◌, ◌||◌, ℕ, Bool, true, IfOk, IfSome, IsTrue, MatchOption};
-ghost use Rattle.fol_base.specs.Tree.{tree_eq, VariablesBelow};
+ghost use Rattle.std.specs.Prelude.{◌≡◌, ◌↔◌, ◌||◌, ℕ, Bool, true, map, IfOk, IfSome, IsTrue, MatchOption};
+ghost use Rattle.fol_base.specs.Tree.{tree_eq, variable, VariablesBelow};
 ghost use Rattle.fol_base.specs.Term.{tree_of};
 ghost use Rattle.fol_base.specs.Instance.{Substitution, instance};
 ghost use Rattle.fol_base.specs.Clause.{LiteralVariablesBelow};
@@ -10,8 +10,9 @@ ghost use Rattle.fol_base.specs.Subsumption.{all_different};
 ghost use Rattle.unifier.specs.Matching.{HasPairs, are_below, variables_of};
 ghost use Rattle.unifier.specs.Laws.{AreFunctionPairs, are_of_one_kind};
 ghost use Rattle.subsume.specs.Kinds.{TurnsInto, are_alike};
+ghost use Rattle.subsume.specs.Choosing.{MayBecome, MayTurn};
 
-use fol_base::{LiteralRef, Term};
+use fol_base::{LendsTerms, LiteralRef, Term, same_term};
 use plain_types::Mem;
 use std::alloc::Global;
 use unifier::{Matched, match_onto};
@@ -24,24 +25,90 @@ pub fn are_alike(pattern: LiteralRef<'_>, target: LiteralRef<'_>) -> bool
     pattern.positive == target.positive && pattern.right.is_truth() == target.right.is_truth()
 }
 
-/// Whether the heads of two terms leave it open that some substitution turns the first into the second.
-fn heads_match(pattern: &Term, target: &Term) -> bool
-    ensures { (σ : Substitution) → instance σ (tree_of pattern.now) ≡ tree_of target.now → result ≡ true }
+/// Whether the pairs leave it open that a substitution which has them turns a term into another one. False only where none does; that one
+/// variable without a pair would have to become two terms isn't looked at. Memory is taken only where a variable stands for itself.
+#[cycle(may_become)]
+fn may_become(alloc: Global, pattern: &Term, target: &Term, so_far: &Matched<'_>) -> Mem<bool>
+    ensures { IfOk result (MayBecome so_far.now (tree_of pattern.now) (tree_of target.now)) }
 {
     match pattern {
-        Term::Var(_) => true,
-        Term::App(symbol, _) => match target {
-            Term::Var(_) => false,
-            Term::App(other, _) => *symbol == *other,
+        Term::Var(variable) => variable_may_become(alloc, *variable, pattern, target, so_far),
+        Term::App(symbol, arguments) => match target {
+            Term::Var(_) => Ok(false),
+            Term::App(other, others) => {
+                if *symbol == *other {
+                    all_may_become(alloc, arguments.as_slice(), others.as_slice(), so_far)
+                } else {
+                    Ok(false)
+                }
+            }
         },
     }
 }
 
-/// Whether the heads of the sides leave it open that some substitution turns each side of a literal into the same side of another one.
-pub(crate) fn may_turn(pattern: LiteralRef<'_>, target: LiteralRef<'_>) -> bool
-    ensures { (σ : Substitution) → TurnsInto σ (lent_of pattern.entry) (lent_of target.entry) → result ≡ true }
+/// The same for the terms at each place of two lists.
+#[cycle(may_become)]
+fn all_may_become(
+    alloc: Global,
+    patterns: &[Term],
+    targets: &[Term],
+    so_far: &Matched<'_>,
+) -> Mem<bool>
+    ensures { IfOk result (λ found. (σ : Substitution) → HasPairs so_far.now σ
+        → map (instance σ) (map tree_of patterns.now) ≡ map tree_of targets.now → found ≡ true) }
 {
-    heads_match(pattern.left, target.left) && heads_match(pattern.right, target.right)
+    if patterns.len() != targets.len() {
+        return Ok(false);
+    }
+    for index in 0..patterns.len() {
+        let fits = may_become(alloc, &patterns[index], &targets[index], so_far)?;
+        if !fits {
+            return Ok(false);
+        }
+    }
+    Ok(true)
+}
+
+/// The same for a variable. One that is lent as itself has a pair or none: that is found out by a match.
+fn variable_may_become(
+    alloc: Global,
+    number: u32,
+    pattern: &Term,
+    target: &Term,
+    so_far: &Matched<'_>,
+) -> Mem<bool>
+    requires { tree_of pattern.now ≡ variable number }
+    ensures { IfOk result (MayBecome so_far.now (tree_of pattern.now) (tree_of target.now)) }
+{
+    match so_far.term(number) {
+        None => Ok(true),
+        Some(term) => {
+            if same_term(term, target) {
+                return Ok(true);
+            }
+            if !same_term(term, pattern) {
+                return Ok(false);
+            }
+            let found = match_onto(alloc, pattern, target, so_far)?;
+            Ok(found.is_some())
+        }
+    }
+}
+
+/// Whether the pairs leave it open that a substitution which has them turns each side of a literal into the same side of another one.
+pub(crate) fn may_turn(
+    alloc: Global,
+    pattern: LiteralRef<'_>,
+    target: LiteralRef<'_>,
+    so_far: &Matched<'_>,
+) -> Mem<bool>
+    ensures { IfOk result (MayTurn so_far.now (lent_of pattern.entry) (lent_of target.entry)) }
+{
+    let fits = may_become(alloc, pattern.left, target.left, so_far)?;
+    if !fits {
+        return Ok(false);
+    }
+    may_become(alloc, pattern.right, target.right, so_far)
 }
 
 /// The pairs handed in and those that turn each side of a literal into the same side of another one. None exactly where no substitution
@@ -65,11 +132,15 @@ pub fn match_sides<'a>(
         → IsTrue (are_of_one_kind is_predicate (tree_of pattern.entry.right.now) (tree_of target.entry.right.now))
         → AreFunctionPairs is_predicate so_far.now → IfSome found (AreFunctionPairs is_predicate)) }
 {
-    if !may_turn(pattern, target) {
+    let fits = may_turn(alloc, pattern, target, so_far)?;
+    if !fits {
         return Ok(None);
     }
     match match_onto(alloc, pattern.left, target.left, so_far)? {
         None => Ok(None),
-        Some(left) => match_onto(alloc, pattern.right, target.right, &left),
+        Some(mut pairs) => {
+            let fits = pairs.extend(pattern.right, target.right)?;
+            if fits { Ok(Some(pairs)) } else { Ok(None) }
+        }
     }
 }

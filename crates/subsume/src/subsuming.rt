@@ -13,7 +13,7 @@ ghost use Rattle.subsume.specs.Kinds.{AreLiterals};
 ghost use Rattle.subsume.specs.Placing.{IsFoundFor};
 ghost use Rattle.subsume.specs.Target.{AreOfUse, IsMapped, IsSubsumption, IsTargetOf, Maps};
 
-use crate::ordering::ordered_literals;
+use crate::choosing::have_partners;
 use crate::placing::place;
 use crate::target::{Target, are_among, asserted_numbers, lent_literals};
 use bank_clause::BankClause;
@@ -79,10 +79,13 @@ fn find_matcher<'a, L: LendsLiterals>(
     if !are_among(names, target.assertions.as_slice()) {
         return Ok(None);
     }
-    match ordered_literals(alloc, literals, target.literals.as_slice())? {
-        None => Ok(None),
-        Some(patterns) => { find_places(alloc, patterns.as_slice(), target.literals.as_slice()) }
+    let targets = target.literals.as_slice();
+    let found = have_partners(alloc, literals, targets)?;
+    if !found {
+        return Ok(None);
     }
+    let patterns = lent_literals(alloc, literals)?;
+    find_places(alloc, patterns.as_slice(), targets)
 }
 
 /// The same for literals that are lent, whatever is asserted.
@@ -105,7 +108,6 @@ fn find_places<'a>(
     place(
         alloc,
         patterns,
-        0,
         targets,
         used.as_mut_slice(),
         Matched::empty(alloc),

@@ -1,6 +1,6 @@
 -- The search for different literals: what a match adds, what a target that is taken adds, and why nothing else comes into question.
 use mathlib.Core.Bool.{beq}
-use Rattle.std.proofs.Common.{◌≡◌, ◌↔◌, ◌⊎◌, ℕ, zero, suc, ◌+◌, ◌<◌, Bool, true, false, ◌&&◌, ◌||◌, ◌==◌, Option, None, Some, List, [], ◌∷◌, length, map, drop, get_or, refl, ap, sym, ◌∙◌, inl, inr, ⊎_elim, subst, arith}
+use Rattle.std.proofs.Common.{◌≡◌, ◌↔◌, ◌⊎◌, ℕ, zero, suc, ◌+◌, ◌<◌, Bool, true, false, ◌&&◌, ◌||◌, ◌==◌, Option, None, Some, List, [], ◌∷◌, length, map, get_or, refl, ap, sym, ◌∙◌, inl, inr, ⊎_elim, subst, arith}
 use Rattle.std.specs.Prelude.{not, slice_get, slice_set, slice_index_or, is_some, IsTrue, All, MatchOption, ⊤}
 use Rattle.std.specs.List.{list_all, list_any}
 use Rattle.std.proofs.lemmas.List.Elements.{All-head, All-tail}
@@ -148,13 +148,13 @@ alike-needed p σ l m puts hl hm h =
 -- ---- a match of the sides, and then the rest
 
 pub sides-then :
-    (ls ds rest : List TreeLiteral) (used : List Bool) (so_far pairs : Pairs) (l m : TreeLiteral) (found : Option Pairs)
+    (rest ds : List TreeLiteral) (used : List Bool) (so_far pairs : Pairs) (l m : TreeLiteral) (found : Option Pairs)
     → ((σ : Substitution) → HasPairs pairs σ ↔ (HasPairs so_far σ × TurnsInto σ l m))
-    → IsFoundFor ls ds (Places used rest ds pairs) found
-    → IsFoundFor ls ds (λ σ. TurnsInto σ l m × Places used rest ds so_far σ) found
-sides-then ls ds rest used so_far pairs l m None exact h = λ p wl wd σ puts does.
+    → IsFoundFor rest ds (Places used rest ds pairs) found
+    → IsFoundFor (l ∷ rest) ds (λ σ. TurnsInto σ l m × Places used rest ds so_far σ) found
+sides-then rest ds used so_far pairs l m None exact h = λ p wl wd σ puts does.
     let placed = does.1.1 in
-    h p wl wd σ puts (
+    h p (and_parts (is_literal p l) (list_all (is_literal p) rest) wl).1 wd σ puts (
       does.1.0,
       record {
         has_pairs = (exact σ).1 (placed.has_pairs, does.0);
@@ -163,7 +163,7 @@ sides-then ls ds rest used so_far pairs l m None exact h = λ p wl wd σ puts do
         mapped = placed.mapped;
       },
     )
-sides-then ls ds rest used so_far pairs l m (Some ps) exact h = λ σ has.
+sides-then rest ds used so_far pairs l m (Some ps) exact h = λ σ has.
     let does = h σ has in
     let placed = does.1 in
     let both = (exact σ).0 placed.has_pairs in (
@@ -185,7 +185,7 @@ turned-crossed :
 turned-crossed σ l m sign t = (equivalent_literals-decided (literal_instance σ l) m).1 (sign, inr (t.left, t.right))
 
 -- of an atom the other order gives nothing more
-atom-straight :
+pub atom-straight :
     (σ : Substitution) (l m : TreeLiteral) → are_alike l m ≡ true → is_truth m.right ≡ true
     → equivalent_literals (literal_instance σ l) m ≡ true → TurnsInto σ l m
 atom-straight σ l m alike truth h =
@@ -237,7 +237,7 @@ taken-set [] i h = true≢false (sym h)
 taken-set (b ∷ bs) zero h = true≢false (sym h)
 taken-set (b ∷ bs) (suc i) h = taken-set bs i h
 
-free-kept : (used : List Bool) (i k : ℕ) → (i ≡ k → ⊥) → is_free used k ≡ true → is_free (slice_set used i true) k ≡ true
+pub free-kept : (used : List Bool) (i k : ℕ) → (i ≡ k → ⊥) → is_free used k ≡ true → is_free (slice_set used i true) k ≡ true
 free-kept [] i k ne h = h
 free-kept (b ∷ bs) zero zero ne h = absurd (ne refl)
 free-kept (b ∷ bs) zero (suc k) ne h = h
@@ -287,21 +287,13 @@ item f [] i x h e = absurd (omega arith)
 item f (y ∷ ys) zero x h e = ap (λ z. Some (f z)) (sym e)
 item f (y ∷ ys) (suc i) x h e = item f ys i x (omega arith) e
 
-drop-item : {X : Type 0} (xs : List X) (i : ℕ) (x : X) → slice_get xs i ≡ Some x → drop i xs ≡ x ∷ drop (i + 1) xs
-drop-item [] i x h = absurd cc
-drop-item (y ∷ ys) zero x h = let same : y ≡ x = cc in ap (λ z. z ∷ ys) same
-drop-item (y ∷ ys) (suc i) x h = drop-item ys i x h ∙ ap (λ n. x ∷ drop n (y ∷ ys)) (next i)
-  where
-    next : (i : ℕ) → suc (i + 1) ≡ suc i + 1
-    next i = omega arith
-
 pub place-target :
-    (ls ds : List TreeLiteral) (i k : ℕ) (used : List Bool) (so_far : Pairs) (l m : TreeLiteral) (found : Option Pairs)
-    → slice_get ls i ≡ Some l → slice_get ds k ≡ Some m → is_free used k ≡ true → is_some found ≡ true
-    → IsFoundFor ls ds (λ σ. IsTrue (equivalent_literals (literal_instance σ l) m) × Places (slice_set used k true) (drop (i + 1) ls) ds so_far σ) found
-    → IsFoundFor ls ds (Places used (drop i ls) ds so_far) found
-place-target ls ds i k used so_far l m None at there free some h = absurd (true≢false (sym some))
-place-target ls ds i k used so_far l m (Some ps) at there free some h = λ σ has.
+    (rest ds : List TreeLiteral) (k : ℕ) (used : List Bool) (so_far : Pairs) (l m : TreeLiteral) (found : Option Pairs)
+    → slice_get ds k ≡ Some m → is_free used k ≡ true → is_some found ≡ true
+    → IsFoundFor (l ∷ rest) ds (λ σ. IsTrue (equivalent_literals (literal_instance σ l) m) × Places (slice_set used k true) rest ds so_far σ) found
+    → IsFoundFor (l ∷ rest) ds (Places used (l ∷ rest) ds so_far) found
+place-target rest ds k used so_far l m None there free some h = absurd (true≢false (sym some))
+place-target rest ds k used so_far l m (Some ps) there free some h = λ σ has.
     let does = h σ has in
     let placed = does.1.1 in (
       k ∷ does.1.0,
@@ -312,9 +304,8 @@ place-target ls ds i k used so_far l m (Some ps) at there free some h = λ σ ha
             (ap not (others used k does.1.0 placed.free)) placed.different;
         free = and_from (is_free used k) (list_all (is_free used) does.1.0) free (all-free used k does.1.0 placed.free);
         mapped =
-            subst (λ rest. stand_at σ rest (k ∷ does.1.0) ds ≡ true) (sym (drop-item ls i l at))
-            (and_from (is_there (literal_instance σ l) (slice_get ds k)) (stand_at σ (drop (i + 1) ls) does.1.0 ds)
-            (ap (is_there (literal_instance σ l)) there ∙ does.0) placed.mapped);
+            and_from (is_there (literal_instance σ l) (slice_get ds k)) (stand_at σ rest does.1.0 ds)
+            (ap (is_there (literal_instance σ l)) there ∙ does.0) placed.mapped;
       },
     )
 
@@ -325,13 +316,11 @@ record FirstPlaced (used : List Bool) (l m : TreeLiteral) (rest ds : List TreeLi
   after : IsPlaced (slice_set used k true) rest ds so_far σ places
 
 first-placed :
-    (ls ds : List TreeLiteral) (i k : ℕ) (used : List Bool) (so_far : Pairs) (l m : TreeLiteral) (σ : Substitution) (places : List ℕ)
-    → slice_get ls i ≡ Some l → slice_get ds k ≡ Some m → IsPlaced used (drop i ls) ds so_far σ (k ∷ places)
-    → FirstPlaced used l m (drop (i + 1) ls) ds so_far σ k places
-first-placed ls ds i k used so_far l m σ places at there placed =
-    let mapped : stand_at σ (l ∷ drop (i + 1) ls) (k ∷ places) ds ≡ true =
-    subst (λ rest. stand_at σ rest (k ∷ places) ds ≡ true) (drop-item ls i l at) placed.mapped in
-    let stands = and_parts (is_there (literal_instance σ l) (slice_get ds k)) (stand_at σ (drop (i + 1) ls) places ds) mapped in
+    (rest ds : List TreeLiteral) (k : ℕ) (used : List Bool) (so_far : Pairs) (l m : TreeLiteral) (σ : Substitution) (places : List ℕ)
+    → slice_get ds k ≡ Some m → IsPlaced used (l ∷ rest) ds so_far σ (k ∷ places)
+    → FirstPlaced used l m rest ds so_far σ k places
+first-placed rest ds k used so_far l m σ places there placed =
+    let stands = and_parts (is_there (literal_instance σ l) (slice_get ds k)) (stand_at σ rest places ds) placed.mapped in
     let different = and_parts (not (list_any (λ j. k == j) places)) (all_different places) placed.different in
     let free = and_parts (is_free used k) (list_all (is_free used) places) placed.free in
     record {
@@ -346,67 +335,68 @@ first-placed ls ds i k used so_far l m σ places at there placed =
     }
 
 -- a pattern stands at no target up to an index
-abbrev pub StandsAtNone : List TreeLiteral → List TreeLiteral → ℕ → List Bool → Pairs → ℕ → Type 0
-StandsAtNone ls ds i used so_far bound =
-    (p : ℕ → Bool) → AreLiterals p ls → AreLiterals p ds → (σ : Substitution) → PutsFunctionTerms p σ
-    → (k : ℕ) (places : List ℕ) → k < bound → IsPlaced used (drop i ls) ds so_far σ (k ∷ places) → ⊥
+abbrev pub StandsAtNone : TreeLiteral → List TreeLiteral → List TreeLiteral → List Bool → Pairs → ℕ → Type 0
+StandsAtNone l rest ds used so_far bound =
+    (p : ℕ → Bool) → AreLiterals p (l ∷ rest) → AreLiterals p ds → (σ : Substitution) → PutsFunctionTerms p σ
+    → (k : ℕ) (places : List ℕ) → k < bound → IsPlaced used (l ∷ rest) ds so_far σ (k ∷ places) → ⊥
 
-split-below : (k n : ℕ) → k < n + 1 → (k < n) ⊎ (k ≡ n)
+pub split-below : (k n : ℕ) → k < n + 1 → (k < n) ⊎ (k ≡ n)
 split-below zero zero h = inr refl
 split-below zero (suc n) h = inl (omega arith)
 split-below (suc k) zero h = absurd (omega arith)
 split-below (suc k) (suc n) h = ⊎_elim (λ e. inl (omega arith)) (λ e. inr (ap suc e)) (split-below k n (omega arith))
 
 one-more :
-    (ls ds : List TreeLiteral) (i at : ℕ) (used : List Bool) (so_far : Pairs)
-    → StandsAtNone ls ds i used so_far at
-    → ((p : ℕ → Bool) → AreLiterals p ls → AreLiterals p ds → (σ : Substitution) → PutsFunctionTerms p σ
-    → (places : List ℕ) → IsPlaced used (drop i ls) ds so_far σ (at ∷ places) → ⊥)
-    → StandsAtNone ls ds i used so_far (at + 1)
-one-more ls ds i at used so_far before here = λ p wl wd σ puts k places below placed.
+    (l : TreeLiteral) (rest ds : List TreeLiteral) (at : ℕ) (used : List Bool) (so_far : Pairs)
+    → StandsAtNone l rest ds used so_far at
+    → ((p : ℕ → Bool) → AreLiterals p (l ∷ rest) → AreLiterals p ds → (σ : Substitution) → PutsFunctionTerms p σ
+    → (places : List ℕ) → IsPlaced used (l ∷ rest) ds so_far σ (at ∷ places) → ⊥)
+    → StandsAtNone l rest ds used so_far (at + 1)
+one-more l rest ds at used so_far before here = λ p wl wd σ puts k places below placed.
     ⊎_elim
     (λ e. before p wl wd σ puts k places e placed)
-    (λ e. here p wl wd σ puts places (subst (λ j. IsPlaced used (drop i ls) ds so_far σ (j ∷ places)) e placed))
+    (λ e. here p wl wd σ puts places (subst (λ j. IsPlaced used (l ∷ rest) ds so_far σ (j ∷ places)) e placed))
     (split-below k at below)
 
 -- nor at the next one: the search there found nothing
 pub none-found :
-    (ls ds : List TreeLiteral) (i at : ℕ) (used : List Bool) (so_far : Pairs) (l m : TreeLiteral) (found : Option Pairs)
-    → slice_get ls i ≡ Some l → slice_get ds at ≡ Some m → is_some found ≡ false
-    → IsFoundFor ls ds (λ σ. IsTrue (equivalent_literals (literal_instance σ l) m) × Places (slice_set used at true) (drop (i + 1) ls) ds so_far σ) found
-    → StandsAtNone ls ds i used so_far at → StandsAtNone ls ds i used so_far (at + 1)
-none-found ls ds i at used so_far l m (Some ps) here there none h before = absurd (true≢false none)
-none-found ls ds i at used so_far l m None here there none h before =
-    one-more ls ds i at used so_far before
+    (rest ds : List TreeLiteral) (at : ℕ) (used : List Bool) (so_far : Pairs) (l m : TreeLiteral) (found : Option Pairs)
+    → slice_get ds at ≡ Some m → is_some found ≡ false
+    → IsFoundFor (l ∷ rest) ds (λ σ. IsTrue (equivalent_literals (literal_instance σ l) m) × Places (slice_set used at true) rest ds so_far σ) found
+    → StandsAtNone l rest ds used so_far at → StandsAtNone l rest ds used so_far (at + 1)
+none-found rest ds at used so_far l m (Some ps) there none h before = absurd (true≢false none)
+none-found rest ds at used so_far l m None there none h before =
+    one-more l rest ds at used so_far before
     (λ p wl wd σ puts places placed.
-    let first = first-placed ls ds i at used so_far l m σ places here there placed in
+    let first = first-placed rest ds at used so_far l m σ places there placed in
     h p wl wd σ puts (first.same, (places, first.after)))
 
 -- or it isn't alike
 pub none-alike :
-    (ls ds : List TreeLiteral) (i at : ℕ) (used : List Bool) (so_far : Pairs) (l m : TreeLiteral)
-    → slice_get ls i ≡ Some l → slice_get ds at ≡ Some m → are_alike l m ≡ false
-    → StandsAtNone ls ds i used so_far at → StandsAtNone ls ds i used so_far (at + 1)
-none-alike ls ds i at used so_far l m here there unlike before =
-    one-more ls ds i at used so_far before
+    (rest ds : List TreeLiteral) (at : ℕ) (used : List Bool) (so_far : Pairs) (l m : TreeLiteral)
+    → slice_get ds at ≡ Some m → are_alike l m ≡ false
+    → StandsAtNone l rest ds used so_far at → StandsAtNone l rest ds used so_far (at + 1)
+none-alike rest ds at used so_far l m there unlike before =
+    one-more l rest ds at used so_far before
     (λ p wl wd σ puts places placed.
-    let first = first-placed ls ds i at used so_far l m σ places here there placed in
+    let first = first-placed rest ds at used so_far l m σ places there placed in
     true≢false
-    (sym (alike-needed p σ l m puts (list_all-item (is_literal p) ls i l here wl) (list_all-item (is_literal p) ds at m there wd) first.same) ∙ unlike))
+    (sym (alike-needed p σ l m puts (and_parts (is_literal p l) (list_all (is_literal p) rest) wl).0
+    (list_all-item (is_literal p) ds at m there wd) first.same) ∙ unlike))
 
 -- or it is taken
 pub none-free :
-    (ls ds : List TreeLiteral) (i at : ℕ) (used : List Bool) (so_far : Pairs) (l m : TreeLiteral)
-    → slice_get ls i ≡ Some l → slice_get ds at ≡ Some m → is_free used at ≡ false
-    → StandsAtNone ls ds i used so_far at → StandsAtNone ls ds i used so_far (at + 1)
-none-free ls ds i at used so_far l m here there taken before =
-    one-more ls ds i at used so_far before
+    (rest ds : List TreeLiteral) (at : ℕ) (used : List Bool) (so_far : Pairs) (l m : TreeLiteral)
+    → slice_get ds at ≡ Some m → is_free used at ≡ false
+    → StandsAtNone l rest ds used so_far at → StandsAtNone l rest ds used so_far (at + 1)
+none-free rest ds at used so_far l m there taken before =
+    one-more l rest ds at used so_far before
     (λ p wl wd σ puts places placed.
-    let first = first-placed ls ds i at used so_far l m σ places here there placed in
+    let first = first-placed rest ds at used so_far l m σ places there placed in
     true≢false (sym first.free ∙ taken))
 
 -- so it stands nowhere
-within : {X : Type 0} (xs : List X) (k : ℕ) (x : X) → slice_get xs k ≡ Some x → k < length xs
+pub within : {X : Type 0} (xs : List X) (k : ℕ) (x : X) → slice_get xs k ≡ Some x → k < length xs
 within [] k x h = absurd cc
 within (y ∷ ys) zero x h = omega arith
 within (y ∷ ys) (suc k) x h = omega (arith, within ys k x h)
@@ -417,21 +407,18 @@ there-within l (d ∷ ds) zero h = omega arith
 there-within l (d ∷ ds) (suc k) h = omega (arith, there-within l ds k h)
 
 pub nowhere :
-    (ls ds : List TreeLiteral) (i at : ℕ) (used : List Bool) (so_far : Pairs) (l : TreeLiteral)
-    → slice_get ls i ≡ Some l → at ≡ length ds → StandsAtNone ls ds i used so_far at
-    → IsFoundFor ls ds (Places used (drop i ls) ds so_far) None
-nowhere ls ds i at used so_far l here all none = λ p wl wd σ puts does.
+    (rest ds : List TreeLiteral) (at : ℕ) (used : List Bool) (so_far : Pairs) (l : TreeLiteral)
+    → at ≡ length ds → StandsAtNone l rest ds used so_far at
+    → IsFoundFor (l ∷ rest) ds (Places used (l ∷ rest) ds so_far) None
+nowhere rest ds at used so_far l all none = λ p wl wd σ puts does.
     by p wl wd σ puts does.0 does.1
   where
     by :
-        (p : ℕ → Bool) → AreLiterals p ls → AreLiterals p ds → (σ : Substitution) → PutsFunctionTerms p σ
-        → (places : List ℕ) → IsPlaced used (drop i ls) ds so_far σ places → ⊥
-    by p wl wd σ puts [] placed =
-        true≢false (sym (subst (λ rest. stand_at σ rest [] ds ≡ true) (drop-item ls i l here) placed.mapped))
+        (p : ℕ → Bool) → AreLiterals p (l ∷ rest) → AreLiterals p ds → (σ : Substitution) → PutsFunctionTerms p σ
+        → (places : List ℕ) → IsPlaced used (l ∷ rest) ds so_far σ places → ⊥
+    by p wl wd σ puts [] placed = true≢false (sym placed.mapped)
     by p wl wd σ puts (k ∷ ks) placed =
-        let mapped : stand_at σ (l ∷ drop (i + 1) ls) (k ∷ ks) ds ≡ true =
-        subst (λ rest. stand_at σ rest (k ∷ ks) ds ≡ true) (drop-item ls i l here) placed.mapped in
-        let stands = and_parts (is_there (literal_instance σ l) (slice_get ds k)) (stand_at σ (drop (i + 1) ls) ks ds) mapped in
+        let stands = and_parts (is_there (literal_instance σ l) (slice_get ds k)) (stand_at σ rest ks ds) placed.mapped in
         none p wl wd σ puts k ks (omega (arith, there-within (literal_instance σ l) ds k stands.0)) placed
 
 pub below-item : {X : Type 0} (P : X → Type 0) (xs : List X) (i : ℕ) (x : X) → slice_get xs i ≡ Some x → All P xs → P x

@@ -13,7 +13,7 @@ use Rattle.subsume.specs.declared.vector.Features.{Features}
 use Rattle.subsume.specs.Features.{AreFeaturesOf}
 use Rattle.subsume.specs.Editing.{HasNone, HasNoNumber, IsNumbered}
 use Rattle.subsume.specs.Members.{AreKnown, IsKnownIn, numbers_of}
-use Rattle.subsume.proofs.AboutSearch.OrderingLemmas.{different-permutation}
+use Rattle.subsume.proofs.AboutSearch.ChoosingLemmas.{different-permutation}
 use Rattle.subsume.proofs.AboutTree.EditLemmas.{none}
 
 abbrev Known : Type 0

@@ -11,7 +11,7 @@ use Rattle.fol_base.specs.Subsumption.{all_different}
 use Rattle.bank_clause.specs.declared.member.Member.{Member}
 use Rattle.subsume.specs.Members.{numbers_of}
 use Rattle.subsume.specs.Searching.{AreNumbersOf, AreNumbersWhere, SomeMember}
-use Rattle.subsume.proofs.AboutSearch.OrderingLemmas.{different-permutation}
+use Rattle.subsume.proofs.AboutSearch.ChoosingLemmas.{different-permutation}
 
 empty : {X : Type 0} (x : X) → Contains [] x → ⊥
 empty {X} x h = All-contains (λ (y : X). ⊥) [] x (λ i d lt. absurd (omega arith)) h

@@ -1,28 +1,30 @@
--- Literals in another order, and literals without partners.
-use Rattle.std.proofs.Common.{◌≡◌, ◌⊎◌, ℕ, zero, suc, ◌-◌, ◌<◌, ◌≤◌, Bool, true, false, ◌==◌, cond, Option, None, Some, List, [], ◌∷◌, ◌++◌, length, map, take, replicate, refl, ap, sym, ◌∙◌, inl, inr, ⊎_elim, subst, arith}
+-- Literals without partners, and the literal that is placed first.
+use Rattle.std.proofs.Common.{◌≡◌, ◌⊎◌, ℕ, zero, suc, ◌+◌, ◌-◌, ◌<◌, ◌≤◌, Bool, true, false, ◌==◌, cond, Option, None, Some, List, [], ◌∷◌, ◌++◌, length, map, take, drop, get_or, replicate, refl, ap, sym, ◌∙◌, inl, inr, ⊎_elim, subst, arith}
 use Rattle.std.specs.Prelude.{not, slice_get, sum_by, IsTrue, All, IsPermutation}
 use Rattle.std.specs.List.{list_all, list_any, swap}
 use Rattle.std.specs.List.Sorted.{apply_swaps, SwapsInRange}
 use Rattle.std.proofs.lemmas.Bool.{and_parts, and_from, or_cases, or_parts, not-true, eq-eqb, eqb-true, true≢false, cases_Bool, cond-true, cond-false}
 use Rattle.std.proofs.lemmas.List.Sums.{sum_by-cons}
 use Rattle.std.proofs.lemmas.List.Elements.{All-head, All-tail, All-cons}
-use Rattle.std.proofs.lemmas.List.Sorted.{IsPermutation-map, IsPermutation-sym, All-permutation, sum_by-IsPermutation}
+use Rattle.std.proofs.lemmas.List.Sorted.{IsPermutation-map, IsPermutation-middle, IsPermutation-sym, All-permutation, sum_by-IsPermutation}
 use Rattle.indexmap.proofs.ReorderLemmas.{map-swap}
 use Rattle.fol_base.specs.Instance.{Substitution}
 use Rattle.fol_base.specs.Clause.{TreeLiteral, literal_instance}
 use Rattle.fol_base.specs.Sides.{exchanged}
 use Rattle.fol_base.specs.Order.{equivalent_literals}
-use Rattle.fol_base.specs.Kind.{is_literal}
+use Rattle.fol_base.specs.Kind.{is_literal, PutsFunctionTerms}
+use Rattle.fol_base.specs.Lent.{lent_of}
+use Rattle.fol_base.specs.declared.literal_ref.LiteralRef.{LiteralRef}
 use Rattle.fol_base.specs.Subsumption.{stand_at, is_there, all_different, is_among}
 use Rattle.fol_base.proofs.AboutOrders.OrderLemmas.{equivalent_literals-decided}
 use Rattle.fol_base.proofs.WorkedExamples.TestLemmas.{list_all-item}
 use Rattle.unifier.specs.Matching.{HasPairs}
 use Rattle.unifier.proofs.AboutMatching.MatchLemmas.{Pairs}
-use Rattle.subsume.specs.Kinds.{AreLiterals, TurnsInto}
-use Rattle.subsume.specs.Ordering.{HasNoPartner, IsNoPartner}
+use Rattle.subsume.specs.Kinds.{AreLiterals, TurnsInto, are_alike}
+use Rattle.subsume.specs.Choosing.{AreNoPartners, HasNoPartner, IsNoPartner}
 use Rattle.subsume.specs.Placing.{IsFoundFor, Places, is_free}
 use Rattle.subsume.specs.Target.{IsMapped, Maps}
-use Rattle.subsume.proofs.AboutSearch.PlacingLemmas.{alike-needed, below-item, length-mapped, there-within}
+use Rattle.subsume.proofs.AboutSearch.PlacingLemmas.{alike-needed, below-item, length-mapped, split-below, there-within, within}
 
 -- ---- either order of the sides
 
@@ -38,15 +40,16 @@ stands σ l m h =
 -- ---- a literal without partners
 
 -- the literal that an instance is
-record Standing (σ : Substitution) (l : TreeLiteral) (ds : List TreeLiteral) : Type 0 where
-  place : ℕ
-  other : TreeLiteral
-  there : slice_get ds place ≡ Some other
-  same : equivalent_literals (literal_instance σ l) other ≡ true
+pub record Standing (σ : Substitution) (l : TreeLiteral) (ds : List TreeLiteral) (places : List ℕ) (i : ℕ) : Type 0 where
+  pub place : ℕ
+  pub other : TreeLiteral
+  pub among : slice_get places i ≡ Some place
+  pub there : slice_get ds place ≡ Some other
+  pub same : equivalent_literals (literal_instance σ l) other ≡ true
 
-standing :
+pub standing :
     (σ : Substitution) (ls ds : List TreeLiteral) (places : List ℕ) (i : ℕ) (l : TreeLiteral)
-    → slice_get ls i ≡ Some l → stand_at σ ls places ds ≡ true → Standing σ l ds
+    → slice_get ls i ≡ Some l → stand_at σ ls places ds ≡ true → Standing σ l ds places i
 standing σ [] ds places i l at h = absurd cc
 standing σ (k ∷ ls) ds [] i l at h = absurd (true≢false (sym h))
 standing σ (k ∷ ls) ds (p ∷ places) zero l at h =
@@ -54,27 +57,69 @@ standing σ (k ∷ ls) ds (p ∷ places) zero l at h =
     let parts = and_parts (is_there (literal_instance σ k) (slice_get ds p)) (stand_at σ ls places ds) h in
     found (slice_get ds p) refl (subst (λ m. is_there (literal_instance σ m) (slice_get ds p) ≡ true) same parts.0)
   where
-    found : (o : Option TreeLiteral) → slice_get ds p ≡ o → is_there (literal_instance σ l) o ≡ true → Standing σ l ds
+    found :
+        (o : Option TreeLiteral) → slice_get ds p ≡ o → is_there (literal_instance σ l) o ≡ true → Standing σ l ds (p ∷ places) zero
     found None e t = absurd (true≢false (sym t))
-    found (Some m) e t = record { place = p; other = m; there = e; same = t }
+    found (Some m) e t = record { place = p; other = m; among = refl; there = e; same = t }
 standing σ (k ∷ ls) ds (p ∷ places) (suc i) l at h =
-    standing σ ls ds places i l at (and_parts (is_there (literal_instance σ k) (slice_get ds p)) (stand_at σ ls places ds) h).1
+    let later = standing σ ls ds places i l at (and_parts (is_there (literal_instance σ k) (slice_get ds p)) (stand_at σ ls places ds) h).1 in
+    record { place = later.place; other = later.other; among = later.among; there = later.there; same = later.same }
 
-pub no-partner-none :
+-- what is an instance of a literal is alike
+pub alike-there :
+    (p : ℕ → Bool) (σ : Substitution) (ls ds : List TreeLiteral) (i k : ℕ) (l m : TreeLiteral)
+    → PutsFunctionTerms p σ → AreLiterals p ls → AreLiterals p ds → slice_get ls i ≡ Some l → slice_get ds k ≡ Some m
+    → equivalent_literals (literal_instance σ l) m ≡ true → are_alike l m ≡ true
+alike-there p σ ls ds i k l m puts wl wd at there same =
+    alike-needed p σ l m puts (list_all-item (is_literal p) ls i l at wl) (list_all-item (is_literal p) ds k m there wd) same
+
+pub no-partners-none :
     (ls ds : List TreeLiteral) (i : ℕ) (l : TreeLiteral)
-    → slice_get ls i ≡ Some l → HasNoPartner l ds → IsFoundFor ls ds (IsMapped ls ds) None
-no-partner-none ls ds i l at none = λ p wl wd σ puts mapped.
+    → slice_get ls i ≡ Some l → AreNoPartners [] l ds → IsFoundFor ls ds (IsMapped ls ds) None
+no-partners-none ls ds i l at none = λ p wl wd σ puts mapped.
     let s = standing σ ls ds mapped.places i l at mapped.mapped in
-    below-item (IsNoPartner l) ds s.place s.other s.there none σ
-    (alike-needed p σ l s.other puts (list_all-item (is_literal p) ls i l at wl) (list_all-item (is_literal p) ds s.place s.other s.there wd) s.same)
-    s.same
+    below-item (IsNoPartner [] l) ds s.place s.other s.there none σ tt
+    (alike-there p σ ls ds i s.place l s.other puts wl wd at s.there s.same) s.same
+
+-- or none that is free
+pub no-free-partner-none :
+    (ls ds : List TreeLiteral) (used : List Bool) (so_far : Pairs) (i : ℕ) (l : TreeLiteral)
+    → slice_get ls i ≡ Some l → HasNoPartner so_far used l ds (length ds) → IsFoundFor ls ds (Places used ls ds so_far) None
+no-free-partner-none ls ds used so_far i l at none = λ p wl wd σ puts does.
+    let placed = does.1 in
+    let s = standing σ ls ds does.0 i l at placed.mapped in
+    none s.place s.other (within ds s.place s.other s.there) s.there (list_all-item (is_free used) does.0 i s.place s.among placed.free) σ placed.has_pairs
+    (alike-there p σ ls ds i s.place l s.other puts wl wd at s.there s.same) s.same
+
+-- one target more has been looked at: it is taken, or no partner
+pub no-partner-more :
+    (so_far : Pairs) (used : List Bool) (l : TreeLiteral) (ds : List TreeLiteral) (at : ℕ) (m : TreeLiteral)
+    → slice_get ds at ≡ Some m → (is_free used at ≡ true → IsNoPartner so_far l m)
+    → HasNoPartner so_far used l ds at → HasNoPartner so_far used l ds (at + 1)
+no-partner-more so_far used l ds at m there here before = λ k n below stands free.
+    ⊎_elim
+    (λ e. before k n e stands free)
+    (λ e.
+    let same : Some m ≡ Some n = sym there ∙ ap (slice_get ds) (sym e) ∙ stands in
+    let one : m ≡ n = cc in
+    subst (IsNoPartner so_far l) one (here (subst (λ j. is_free used j ≡ true) e free)))
+    (split-below k at below)
+
+pub no-partner-taken :
+    (so_far : Pairs) (used : List Bool) (l : TreeLiteral) (ds : List TreeLiteral) (at : ℕ)
+    → (is_free used at ≡ true → ⊥) → HasNoPartner so_far used l ds at → HasNoPartner so_far used l ds (at + 1)
+no-partner-taken so_far used l ds at taken before = λ k n below stands free.
+    ⊎_elim
+    (λ e. before k n e stands free)
+    (λ e. absurd (taken (subst (λ j. is_free used j ≡ true) e free)))
+    (split-below k at below)
 
 -- ---- different places in another order
 
-abbrev one_of : ℕ → ℕ → ℕ
+abbrev pub one_of : ℕ → ℕ → ℕ
 one_of n k = cond (n == k) 1 0
 
-abbrev times : ℕ → List ℕ → ℕ
+abbrev pub times : ℕ → List ℕ → ℕ
 times n ks = sum_by (one_of n) ks
 
 absent-times : (n : ℕ) (ks : List ℕ) → list_any (λ i. n == i) ks ≡ false → times n ks ≡ 0
@@ -91,7 +136,7 @@ there-times n (k ∷ ks) h =
     (λ e. omega (arith, sum_by-cons (one_of n) k ks, there-times n ks e))
     (or_cases (n == k) (list_any (λ i. n == i) ks) h)
 
-different-times : (ks : List ℕ) → all_different ks ≡ true → (n : ℕ) → times n ks ≤ 1
+pub different-times : (ks : List ℕ) → all_different ks ≡ true → (n : ℕ) → times n ks ≤ 1
 different-times [] h n = omega arith
 different-times (k ∷ ks) h n =
     let parts = and_parts (not (list_any (λ i. k == i) ks)) (all_different ks) h in
@@ -165,48 +210,80 @@ swaps-mapped : {X Y : Type 0} (f : X → Y) (xs : List X) (moves : List (ℕ × 
 swaps-mapped f xs [] = refl
 swaps-mapped f xs (m ∷ ms) = map-swap f (apply_swaps xs ms) m.0 m.1 ∙ ap (λ ys. swap ys m.0 m.1) (swaps-mapped f xs ms)
 
--- what is mapped is mapped in each order
-pub mapped-permutation :
-    (σ : Substitution) (ls os ds : List TreeLiteral) → IsPermutation ls os → IsMapped ls ds σ → IsMapped os ds σ
-mapped-permutation σ ls os ds p m =
-    let z = zipped σ ls m.places ds m.mapped in
+-- what holds of each element holds in another order
+all-of : {X : Type 0} (p : X → Bool) (xs : List X) → list_all p xs ≡ true → All (λ x. p x ≡ true) xs
+all-of p [] h = λ k d lt. absurd (omega arith)
+all-of p (x ∷ xs) h =
+    let parts = and_parts (p x) (list_all p xs) h in
+    All-cons (λ y. p y ≡ true) x xs parts.0 (all-of p xs parts.1)
+
+of-all : {X : Type 0} (p : X → Bool) (xs : List X) → All (λ x. p x ≡ true) xs → list_all p xs ≡ true
+of-all p [] h = refl
+of-all p (x ∷ xs) h = and_from (p x) (list_all p xs) (All-head (λ y. p y ≡ true) x xs h) (of-all p xs (All-tail (λ y. p y ≡ true) x xs h))
+
+list_all-permutation : {X : Type 0} (p : X → Bool) (xs ys : List X) → IsPermutation xs ys → list_all p xs ≡ true → list_all p ys ≡ true
+list_all-permutation p xs ys perm h = of-all p ys (All-permutation (λ y. p y ≡ true) xs ys perm (all-of p xs h))
+
+pub literals-permutation : (p : ℕ → Bool) (ls os : List TreeLiteral) → IsPermutation ls os → AreLiterals p ls → AreLiterals p os
+literals-permutation p ls os perm h = list_all-permutation (is_literal p) ls os perm h
+
+-- what is placed is placed in each order
+placed-permutation :
+    (σ : Substitution) (ls os ds : List TreeLiteral) (used : List Bool) (so_far : Pairs)
+    → IsPermutation ls os → Places used ls ds so_far σ → Places used os ds so_far σ
+placed-permutation σ ls os ds used so_far p does =
+    let placed = does.1 in
+    let z = zipped σ ls does.0 ds placed.mapped in
     let moved : List Placing = apply_swaps z.pairs p.moves in
     let below = subst (λ n. SwapsInRange n p.moves) (ap length (sym z.literals) ∙ length-mapped literal z.pairs) p.below in
     let perm : IsPermutation z.pairs moved = record { moves = p.moves; below = below; is = refl } in
     let literals : map literal moved ≡ os = swaps-mapped literal z.pairs p.moves ∙ ap (λ xs. apply_swaps xs p.moves) z.literals ∙ sym p.is in
-    record {
-      places = map place moved;
-      different = different-permutation m.places (map place moved) (subst (λ ks. IsPermutation ks (map place moved)) z.places_are (IsPermutation-map place z.pairs moved perm)) m.different;
-      mapped = subst (λ xs. stand_at σ xs (map place moved) ds ≡ true) literals (unzipped σ ds moved (All-permutation (Stands σ ds) z.pairs moved perm z.stand));
-    }
+    let places : IsPermutation does.0 (map place moved) =
+    subst (λ ks. IsPermutation ks (map place moved)) z.places_are (IsPermutation-map place z.pairs moved perm) in (
+      map place moved,
+      record {
+        has_pairs = placed.has_pairs;
+        different = different-permutation does.0 (map place moved) places placed.different;
+        free = list_all-permutation (is_free used) does.0 (map place moved) places placed.free;
+        mapped = subst (λ xs. stand_at σ xs (map place moved) ds ≡ true) literals (unzipped σ ds moved (All-permutation (Stands σ ds) z.pairs moved perm z.stand));
+      },
+    )
 
--- and well-formed
-literals-all : (p : ℕ → Bool) (ls : List TreeLiteral) → AreLiterals p ls → All (λ l. is_literal p l ≡ true) ls
-literals-all p [] h = λ k d lt. absurd (omega arith)
-literals-all p (l ∷ ls) h =
-    let parts = and_parts (is_literal p l) (list_all (is_literal p) ls) h in
-    All-cons (λ (k : TreeLiteral). is_literal p k ≡ true) l ls parts.0 (literals-all p ls parts.1)
-
-all-literals : (p : ℕ → Bool) (ls : List TreeLiteral) → All (λ l. is_literal p l ≡ true) ls → AreLiterals p ls
-all-literals p [] h = refl
-all-literals p (l ∷ ls) h =
-    and_from (is_literal p l) (list_all (is_literal p) ls) (All-head (λ (k : TreeLiteral). is_literal p k ≡ true) l ls h)
-    (all-literals p ls (All-tail (λ (k : TreeLiteral). is_literal p k ≡ true) l ls h))
-
-pub literals-permutation : (p : ℕ → Bool) (ls os : List TreeLiteral) → IsPermutation ls os → AreLiterals p ls → AreLiterals p os
-literals-permutation p ls os perm h =
-    all-literals p os (All-permutation (λ (k : TreeLiteral). is_literal p k ≡ true) ls os perm (literals-all p ls h))
-
--- ---- a search in another order
-
+-- a search in another order
 pub found-in-order :
-    (needed given : List ℕ) (ls os ds : List TreeLiteral) (found : Option Pairs)
-    → IsPermutation ls os → IsTrue (is_among needed given)
-    → IsFoundFor os ds (IsMapped os ds) found → IsFoundFor ls ds (Maps needed ls given ds) found
-found-in-order needed given ls os ds None perm asserted h = λ p wl wd σ puts maps.
-    h p (literals-permutation p ls os perm wl) wd σ puts (mapped-permutation σ ls os ds perm maps.literals)
-found-in-order needed given ls os ds (Some pairs) perm asserted h = λ σ has.
-    record { asserted = asserted; literals = mapped-permutation σ os ls ds (IsPermutation-sym ls os perm) (h σ has) }
+    (ls os ds : List TreeLiteral) (used : List Bool) (so_far : Pairs) (found : Option Pairs)
+    → IsPermutation ls os → IsFoundFor os ds (Places used os ds so_far) found → IsFoundFor ls ds (Places used ls ds so_far) found
+found-in-order ls os ds used so_far None perm h = λ p wl wd σ puts does.
+    h p (literals-permutation p ls os perm wl) wd σ puts (placed-permutation σ ls os ds used so_far perm does)
+found-in-order ls os ds used so_far (Some pairs) perm h = λ σ has.
+    placed-permutation σ os ls ds used so_far (IsPermutation-sym ls os perm) (h σ has)
+
+-- the literal of an index before the others
+pub taken-out :
+    (xs rest : List LiteralRef) (i : ℕ) (x : LiteralRef) → i < length xs → x ≡ get_or xs i x → rest ≡ take i xs ++ drop (i + 1) xs
+    → IsPermutation (map lent_of xs) (lent_of x ∷ map lent_of rest)
+taken-out xs rest i x less is e =
+    subst (λ ys. IsPermutation (map lent_of xs) (lent_of x ∷ map lent_of ys)) (sym e)
+    (subst (λ ys. IsPermutation (map lent_of ys) (lent_of x ∷ map lent_of (take i xs ++ drop (i + 1) xs))) (sym (split xs i x less is))
+    (IsPermutation-map lent_of (take i xs ++ x ∷ drop (i + 1) xs) (x ∷ take i xs ++ drop (i + 1) xs)
+    (IsPermutation-middle (take i xs) x (drop (i + 1) xs))))
+  where
+    next : (i : ℕ) → suc (i + 1) ≡ suc i + 1
+    next i = omega arith
+
+    split : (xs : List LiteralRef) (i : ℕ) (x : LiteralRef) → i < length xs → x ≡ get_or xs i x → xs ≡ take i xs ++ x ∷ drop (i + 1) xs
+    split [] i x h e = absurd (omega arith)
+    split (y ∷ ys) zero x h e = ap (λ z. z ∷ ys) (sym e)
+    split (y ∷ ys) (suc i) x h e =
+        ap (λ zs. y ∷ zs) (split ys i x (omega arith) e) ∙ ap (λ n. y ∷ take i ys ++ x ∷ drop n (y ∷ ys)) (next i)
+
+-- ---- the start of a search
+
+pub found-asserted :
+    (needed given : List ℕ) (ls ds : List TreeLiteral) (found : Option Pairs)
+    → IsTrue (is_among needed given) → IsFoundFor ls ds (IsMapped ls ds) found → IsFoundFor ls ds (Maps needed ls given ds) found
+found-asserted needed given ls ds None asserted h = λ p wl wd σ puts maps. h p wl wd σ puts maps.literals
+found-asserted needed given ls ds (Some pairs) asserted h = λ σ has. record { asserted = asserted; literals = h σ has }
 
 -- where no literal was mapped before
 free-start : (n k : ℕ) → k < n → is_free (replicate n false) k ≡ true

@@ -1,0 +1,127 @@
+// Which literal a search places next: one with the fewest partners among the targets that are left, so that a search that fails, fails early.
+
+ghost use Rattle.std.specs.Prelude.{◌≡◌, ◌<◌, false, None, length, map, IfOk, MatchOption};
+ghost use Rattle.fol_base.specs.Lent.{lent_of};
+ghost use Rattle.subsume.specs.Placing.{IsFoundFor, Places};
+ghost use Rattle.subsume.specs.Target.{IsMapped};
+ghost use Rattle.unifier.specs.Matching.{HasPairs};
+ghost use Rattle.subsume.specs.Choosing.{AreNoPartners, HasNoPartner, MayStand};
+
+use crate::crowding::are_crowded;
+use crate::matching::{are_alike, may_turn};
+use fol_base::{LendsLiterals, LiteralRef};
+use plain_types::Mem;
+use std::alloc::Global;
+use unifier::Matched;
+
+/// Whether each literal of a lender has a partner among the targets. False only where nothing is an instance of one.
+pub(crate) fn have_partners<L: LendsLiterals>(
+    alloc: Global,
+    lender: &L,
+    targets: &[LiteralRef<'_>],
+) -> Mem<bool>
+    ensures { IfOk result (λ found. found ≡ false
+        → IsFoundFor (L.meaning lender.now) (map lent_of targets.now) (IsMapped (L.meaning lender.now) (map lent_of targets.now)) None) }
+{
+    let nothing = Matched::empty(alloc);
+    for index in 0..lender.count() {
+        let literal = lender.literal(index);
+        let found = has_partner(alloc, literal, targets, &nothing)?;
+        if !found {
+            return Ok(false);
+        }
+    }
+    Ok(true)
+}
+
+/// Whether some target may be an instance of a literal.
+fn has_partner(
+    alloc: Global,
+    literal: LiteralRef<'_>,
+    targets: &[LiteralRef<'_>],
+    so_far: &Matched<'_>,
+) -> Mem<bool>
+    ensures { IfOk result (λ found. found ≡ false → AreNoPartners so_far.now (lent_of literal.entry) (map lent_of targets.now)) }
+{
+    for target in targets {
+        let stands = may_stand(alloc, literal, *target, so_far)?;
+        if stands {
+            return Ok(true);
+        }
+    }
+    Ok(false)
+}
+
+/// The index of the pattern to be placed next. None only where some pattern can't be placed.
+pub(crate) fn choose(
+    alloc: Global,
+    patterns: &[LiteralRef<'_>],
+    targets: &[LiteralRef<'_>],
+    used: &[bool],
+    so_far: &Matched<'_>,
+) -> Mem<Option<usize>>
+    requires patterns { 0 < length patterns.now }
+    requires marks { length used.now ≡ length targets.now }
+    ensures { IfOk result (λ found. MatchOption found
+        (IsFoundFor (map lent_of patterns.now) (map lent_of targets.now)
+        (Places used.now (map lent_of patterns.now) (map lent_of targets.now) so_far.now) None)
+        (λ chosen. chosen < length patterns.now)) }
+{
+    let mut chosen = 0;
+    let mut fewest = usize::MAX;
+    for index in 0..patterns.len() {
+        let partners = partners(alloc, patterns[index], targets, used, so_far)?;
+        if partners == 0 {
+            return Ok(None);
+        }
+        if partners < fewest {
+            chosen = index;
+            fewest = partners;
+        }
+    }
+    let crowded = are_crowded(alloc, patterns[chosen], patterns, targets, used, so_far)?;
+    if crowded { Ok(None) } else { Ok(Some(chosen)) }
+}
+
+/// How many of the targets that aren't marked may be instances of a literal by the pairs.
+pub(crate) fn partners(
+    alloc: Global,
+    literal: LiteralRef<'_>,
+    targets: &[LiteralRef<'_>],
+    used: &[bool],
+    so_far: &Matched<'_>,
+) -> Mem<usize>
+    requires { length used.now ≡ length targets.now }
+    ensures { IfOk result (λ count. count ≡ 0
+        → HasNoPartner so_far.now used.now (lent_of literal.entry) (map lent_of targets.now) (length targets.now)) }
+{
+    let mut count = 0;
+    for at in 0..targets.len() {
+        if !used[at] {
+            let stands = may_stand(alloc, literal, targets[at], so_far)?;
+            if stands {
+                count += 1;
+            }
+        }
+    }
+    Ok(count)
+}
+
+/// Whether the pairs leave it open that an instance of a literal is another one, sides in either order.
+pub(crate) fn may_stand(
+    alloc: Global,
+    pattern: LiteralRef<'_>,
+    target: LiteralRef<'_>,
+    so_far: &Matched<'_>,
+) -> Mem<bool>
+    ensures { IfOk result (MayStand so_far.now (lent_of pattern.entry) (lent_of target.entry)) }
+{
+    if !are_alike(pattern, target) {
+        return Ok(false);
+    }
+    let turns = may_turn(alloc, pattern, target, so_far)?;
+    if turns || target.right.is_truth() {
+        return Ok(turns);
+    }
+    may_turn(alloc, pattern, target.exchanged(), so_far)
+}
