@@ -44,7 +44,12 @@ fn random_clause(rt: &impl Abort, alloc: Global, random: &mut Random) -> Clause 
 }
 
 /// Random members, numbered from 0.
-pub(crate) fn random_members<R: Wait + Abort>(rt: &R, alloc: Global, bank: &Bank, table: &mut Table) -> Members
+pub(crate) fn random_members<R: Wait + Abort>(
+    rt: &R,
+    alloc: Global,
+    bank: &Bank,
+    table: &mut Table,
+) -> Members
     requires { IsTableOf bank.now table.old }
     ensures { AreMembersOf bank.now result }
 {

@@ -102,7 +102,14 @@ fn random_equations<R: Wait + Abort>(
 }
 
 /// The normal form of a clause by units.
-fn normal(rt: &impl Abort, alloc: Global, bank: &Bank, clause: &Clause, units: &Units, left_out: Option<u32>) -> Reduced
+fn normal(
+    rt: &impl Abort,
+    alloc: Global,
+    bank: &Bank,
+    clause: &Clause,
+    units: &Units,
+    left_out: Option<u32>,
+) -> Reduced
     requires { AreClausesOf bank.now units.now }
 {
     assert!(rt; clause.names.is_empty());
@@ -117,11 +124,20 @@ fn does_rewrite(rt: &impl Abort, alloc: Global, bank: &Bank, by: &Member, clause
 {
     let mut units = Units::new(alloc).expect(rt, "memory");
     add_equation(rt, &mut units, bank, by);
-    !normal(rt, alloc, bank, clause, &units, None).lines.is_empty()
+    !normal(rt, alloc, bank, clause, &units, None)
+        .lines
+        .is_empty()
 }
 
 /// Whether some of the equations, without one that is left out, rewrites a clause, one by one.
-fn is_rewritten_by_scan(rt: &impl Abort, alloc: Global, bank: &Bank, equations: &[Member], left_out: u32, clause: &Clause) -> bool
+fn is_rewritten_by_scan(
+    rt: &impl Abort,
+    alloc: Global,
+    bank: &Bank,
+    equations: &[Member],
+    left_out: u32,
+    clause: &Clause,
+) -> bool
     requires { AreMembersOf bank.now equations.now }
 {
     for by in equations {
@@ -142,16 +158,38 @@ fn normal_forms_agree_with_a_scan(rt: HostRuntime) {
     for one in members.as_slice() {
         let clause = one.clause.to_clause(&bank).expect(&rt, "memory");
         let found = normal(&rt, alloc, &bank, &clause, &units, Some(one.number));
-        let is_rewritten = is_rewritten_by_scan(&rt, alloc, &bank, members.as_slice(), one.number, &clause);
+        let is_rewritten = is_rewritten_by_scan(
+            &rt,
+            alloc,
+            &bank,
+            members.as_slice(),
+            one.number,
+            &clause,
+        );
         assert!(rt; is_rewritten != found.lines.is_empty());
-        assert!(rt; !is_rewritten_by_scan(&rt, alloc, &bank, members.as_slice(), one.number, &found.clause));
+        assert!(rt;
+            !is_rewritten_by_scan(
+                &rt,
+                alloc,
+                &bank,
+                members.as_slice(),
+                one.number,
+                &found.clause
+            )
+        );
         count = count.saturating_add(found.lines.len());
     }
     assert!(rt; count > 0);
 }
 
 /// The numbers of the other members that an equation rewrites, one by one.
-fn rewritten_by_scan(rt: &impl Abort, alloc: Global, bank: &Bank, members: &[Member], by: &Member) -> Vec<u64>
+fn rewritten_by_scan(
+    rt: &impl Abort,
+    alloc: Global,
+    bank: &Bank,
+    members: &[Member],
+    by: &Member,
+) -> Vec<u64>
     requires members { AreMembersOf bank.now members.now }
     requires by { IsMemberOf bank.now by.now }
 {
