@@ -82,10 +82,18 @@ fn row(rt: &HostRuntime, name: &str, pair: Mem<(Term, Term)>, rounds: u64) -> io
         println!(rt; "no memory")?;
         return Ok(());
     };
-    let start = Instant::now(rt)?;
-    let found = greater_times(&left, &right, rounds);
-    let time = start.elapsed(rt)?.as_micros();
-    println!(rt; "{name}: {found} times greater, {time} microseconds for {rounds}")?;
+    let mut best = u128::MAX;
+    let batch = rounds.checked_div(1_000).unwrap_or(1);
+    for _ in 0..1_000 {
+        let start = Instant::now(rt)?;
+        greater_times(&left, &right, batch);
+        let time = start.elapsed(rt)?.as_nanos();
+        if time < best {
+            best = time;
+        }
+    }
+    let each = best.checked_div(u128::from(batch)).unwrap_or(0);
+    println!(rt; "{name}: {each} ns")?;
     Ok(())
 }
 
@@ -96,10 +104,18 @@ fn literal_row(rt: &HostRuntime, name: &str, pair: Mem<(Term, Term)>, rounds: u6
         return Ok(());
     };
     let truth = Term::truth(alloc);
-    let start = Instant::now(rt)?;
-    let found = greater_literals(&left, &right, &truth, rounds);
-    let time = start.elapsed(rt)?.as_micros();
-    println!(rt; "literals {name}: {found} times greater, {time} microseconds for {rounds}")?;
+    let mut best = u128::MAX;
+    let batch = rounds.checked_div(1_000).unwrap_or(1);
+    for _ in 0..1_000 {
+        let start = Instant::now(rt)?;
+        greater_literals(&left, &right, &truth, batch);
+        let time = start.elapsed(rt)?.as_nanos();
+        if time < best {
+            best = time;
+        }
+    }
+    let each = best.checked_div(u128::from(batch)).unwrap_or(0);
+    println!(rt; "literals {name}: {each} ns")?;
     Ok(())
 }
 

@@ -1,6 +1,7 @@
 // Claims and returns of a pool: batches of made-up entries, each with a result of 25 symbols of its own. The last digit of the number of words
-// on the command line tells what is timed: 1, `claim` and `give_back`; 2, the making of the batches; 3, the interning of as many clauses. There
-// is a batch of 1,000 entries for each of the other words. The batches aren't right ones, so it can't be proved.
+// on the command line tells what is timed: 1, `claim` and `give_back`; 2, the making of the batches; 3, the interning of as many clauses; 4, 5
+// and 6 the same of clauses whose function symbols have two arguments, where those before have one. There is a batch of 1,000 entries for each
+// of the other words. The batches aren't right ones, so it can't be proved.
 #![tactic(auto)]
 
 use bank_clause::BankClause;
@@ -19,6 +20,9 @@ use term_bank::Bank;
 /// A clause has the predicate, `$true` and so many symbols of a term.
 const TERM_SYMBOLS: u32 = 23;
 
+/// So many symbols of two arguments has such a term, and one constant more.
+const PAIRS: u32 = 11;
+
 /// So many entries has a batch.
 const ENTRIES: u64 = 1_000;
 
@@ -27,6 +31,17 @@ const CONSTANT: u32 = 1;
 const ZERO: u32 = 2;
 const ONE: u32 = 3;
 const PREDICATE: u32 = 4;
+const PAIR: u32 = 5;
+const FIRST_DIGIT: u32 = 6;
+
+/// What the terms are of.
+#[derive(Clone, Copy)]
+enum Shape {
+    /// Symbols of one argument: no list of terms is shorter, so no term takes more memory.
+    Tower,
+    /// Symbols of two arguments, of which the first is a constant.
+    Comb,
+}
 
 fn applied(alloc: Global, symbol: u32, argument: Term) -> Mem<Term> {
     let mut arguments = Terms::new(alloc);
@@ -34,18 +49,44 @@ fn applied(alloc: Global, symbol: u32, argument: Term) -> Mem<Term> {
     Ok(Term::App(symbol, arguments))
 }
 
-/// A clause of its own for each number: the term writes its digits, the last one outermost.
-fn numbered(alloc: Global, number: u64) -> Mem<Clause> {
-    let mut term = Term::App(CONSTANT, Terms::new(alloc));
+fn constant(alloc: Global, symbol: u32) -> Term {
+    Term::App(symbol, Terms::new(alloc))
+}
+
+/// The binary digits of the number, the last one outermost.
+fn tower(alloc: Global, number: u64) -> Mem<Term> {
+    let mut term = constant(alloc, CONSTANT);
     for place in 1..TERM_SYMBOLS {
         let bit = (number >> (TERM_SYMBOLS - 1 - place)) & 1;
         term = applied(alloc, if bit == 0 { ZERO } else { ONE }, term)?;
     }
+    Ok(term)
+}
+
+/// The digits of the number to the base 4, the last one outermost.
+fn comb(alloc: Global, number: u64) -> Mem<Term> {
+    let mut term = constant(alloc, CONSTANT);
+    for place in 0..PAIRS {
+        let digit = (number >> (2 * (PAIRS - 1 - place))) & 3;
+        let mut arguments = Terms::new(alloc);
+        arguments.push(constant(alloc, FIRST_DIGIT + digit as u32))?;
+        arguments.push(term)?;
+        term = Term::App(PAIR, arguments);
+    }
+    Ok(term)
+}
+
+/// A clause of its own for each number.
+fn numbered(alloc: Global, shape: Shape, number: u64) -> Mem<Clause> {
+    let term = match shape {
+        Shape::Tower => tower(alloc, number)?,
+        Shape::Comb => comb(alloc, number)?,
+    };
     let mut literals = Literals::new(alloc);
     literals.push(Literal {
         positive: true,
         left: applied(alloc, PREDICATE, term)?,
-        right: Term::App(TRUTH, Terms::new(alloc)),
+        right: constant(alloc, TRUTH),
     })?;
     Ok(Clause {
         literals,
@@ -53,7 +94,7 @@ fn numbered(alloc: Global, number: u64) -> Mem<Clause> {
     })
 }
 
-fn entry(alloc: Global, given: u32, number: u64) -> Mem<Entry> {
+fn entry(alloc: Global, shape: Shape, given: u32, number: u64) -> Mem<Entry> {
     let mut lines = Derivation::new(alloc);
     lines.push(Line {
         step: Step::Refl {
@@ -61,10 +102,10 @@ fn entry(alloc: Global, given: u32, number: u64) -> Mem<Entry> {
             literal: number,
             bind: Terms::new(alloc),
         },
-        clause: numbered(alloc, number)?,
+        clause: numbered(alloc, shape, number)?,
     })?;
     let mut results = Clauses::new(alloc);
-    results.push(numbered(alloc, number)?)?;
+    results.push(numbered(alloc, shape, number)?)?;
     Ok(Entry {
         key: Key::Refl {
             clause: given,
@@ -74,10 +115,10 @@ fn entry(alloc: Global, given: u32, number: u64) -> Mem<Entry> {
     })
 }
 
-fn batch(alloc: Global, job: u64, given: u32, first: u64, count: u64) -> Mem<Batch> {
+fn batch(alloc: Global, shape: Shape, job: u64, given: u32, first: u64, count: u64) -> Mem<Batch> {
     let mut entries = MetEntries::new(alloc);
     for number in first..first + count {
-        entries.push(entry(alloc, given, number)?)?;
+        entries.push(entry(alloc, shape, given, number)?)?;
     }
     Ok(Batch {
         job,
@@ -93,10 +134,10 @@ fn nanoseconds(since: Instant, until: Instant) -> u128 {
 }
 
 /// The time of the claims and returns of so many batches, without the making of them.
-fn time_of_pool<R: Wait>(clock: &HostRuntime, rt: &R, alloc: Global, batches: u64) -> Mem<u128> {
+fn time_of_pool<R: Wait>(clock: &HostRuntime, rt: &R, alloc: Global, shape: Shape, batches: u64) -> Mem<u128> {
     let (bank, table) = Bank::new(alloc)?;
     let mut inputs = Clauses::new(alloc);
-    inputs.push(numbered(alloc, ENTRIES * batches)?)?;
+    inputs.push(numbered(alloc, shape, ENTRIES * batches)?)?;
     let options = Options {
         select: Selection::Nothing,
         split: false,
@@ -110,7 +151,7 @@ fn time_of_pool<R: Wait>(clock: &HostRuntime, rt: &R, alloc: Global, batches: u6
             return Err(NoMemory);
         };
         let claimed = now(clock)?;
-        let made = batch(alloc, ticket.job, ticket.number, turn * ENTRIES, ENTRIES)?;
+        let made = batch(alloc, shape, ticket.job, ticket.number, turn * ENTRIES, ENTRIES)?;
         let told = pool.history().len();
         let given = now(clock)?;
         let Back::Taken = pool.give_back(rt, alloc, &bank, made, told)? else {
@@ -123,12 +164,12 @@ fn time_of_pool<R: Wait>(clock: &HostRuntime, rt: &R, alloc: Global, batches: u6
 }
 
 /// The time of the interning of as many clauses, without the making of them.
-fn time_of_interning<R: Wait>(clock: &HostRuntime, rt: &R, alloc: Global, count: u64) -> Mem<u128> {
+fn time_of_interning<R: Wait>(clock: &HostRuntime, rt: &R, alloc: Global, shape: Shape, count: u64) -> Mem<u128> {
     let (bank, table) = Bank::new(alloc)?;
     let mut table = table;
     let mut clauses = Clauses::new(alloc);
     for number in 0..count {
-        clauses.push(numbered(alloc, number)?)?;
+        clauses.push(numbered(alloc, shape, number)?)?;
     }
     let mut interned = Vec::new(alloc);
     let start = now(clock)?;
@@ -146,11 +187,11 @@ fn now(clock: &HostRuntime) -> Mem<Instant> {
 }
 
 /// The made batches alone.
-fn time_of_making(clock: &HostRuntime, alloc: Global, batches: u64) -> Mem<u128> {
+fn time_of_making(clock: &HostRuntime, alloc: Global, shape: Shape, batches: u64) -> Mem<u128> {
     let mut spent = 0;
     for turn in 0..batches {
         let start = now(clock)?;
-        let _made = batch(alloc, 1, 0, turn * ENTRIES, ENTRIES)?;
+        let _made = batch(alloc, shape, 1, 0, turn * ENTRIES, ENTRIES)?;
         spent += nanoseconds(start, now(clock)?);
     }
     Ok(spent)
@@ -167,10 +208,11 @@ fn main(rt: HostRuntime) -> ExitCode {
     let mode = batches % 10;
     let batches = batches - mode;
     let entries = batches.saturating_mul(ENTRIES);
+    let shape = if mode > 3 { Shape::Comb } else { Shape::Tower };
     let time = match mode {
-        1 => time_of_pool(&rt, &rt, alloc, batches),
-        2 => time_of_making(&rt, alloc, batches),
-        _ => time_of_interning(&rt, &rt, alloc, entries),
+        1 | 4 => time_of_pool(&rt, &rt, alloc, shape, batches),
+        2 | 5 => time_of_making(&rt, alloc, shape, batches),
+        _ => time_of_interning(&rt, &rt, alloc, shape, entries),
     };
     let Ok(time) = time else { return ExitCode::from(7); };
     match println!(rt; "{mode}: {entries} entries: {time} ns") {

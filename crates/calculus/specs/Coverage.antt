@@ -1,13 +1,14 @@
 -- What simplification keeps: the ground instances of a clause that is reduced, subsumed, renamed or a tautology are covered by what
 -- takes its place and what was used (Bachmair and Ganzinger 1994). Covering clauses are none greater, which is part of "covered".
-use Rattle.std.specs.Prelude.{◌≡◌, ◌⊎◌, ℕ, Bool, List, [], ◌∷◌, All, Contains, IsTrue}
+use Rattle.std.specs.Prelude.{◌≡◌, ◌⊎◌, ℕ, Bool, List, [], ◌∷◌, filter_map, Option, All, Contains, IsTrue}
 use Rattle.fol_base.specs.Clause.{TreeClause}
 use Rattle.fol_base.specs.Canonical.{canonical_clause}
 use Rattle.fol_base.specs.Symbols.{FunctionSymbols}
 use Rattle.fol_base.specs.Ground.{GroundClause, GroundInstance}
 use Rattle.fol_base.specs.Subsumption.{Subsumes, all_different}
-use Rattle.fol_base.specs.Covered.{Covers}
+use Rattle.fol_base.specs.Covered.{Covered, Covers}
 use Rattle.kernel_steps.specs.Inference.{DropsTrivial, MergesEqual, CutsBy, Reduces, SomeClause, is_tautology}
+use Rattle.kernel_steps.specs.Moves.{AreMoves, Move, end_of_moves, units_of}
 use Rattle.kernel_steps.specs.Split.{literals_at}
 use Rattle.kernel_steps.specs.Symbols.{clause_symbols_pass}
 use Rattle.calculus.specs.Symbols.{HasSymbolsOf}
@@ -15,6 +16,10 @@ use Rattle.calculus.specs.Symbols.{HasSymbolsOf}
 -- each ground instance of c over the list of function symbols is covered by the clauses ds
 abbrev pub CoversInstancesOf : {is_predicate : ℕ → Bool} → FunctionSymbols is_predicate → List TreeClause → TreeClause → Type 0
 CoversInstancesOf functions ds c = (g : GroundClause) → GroundInstance functions c g → Covers functions ds g
+
+-- by the clauses that satisfy a predicate
+abbrev pub CoversEach : {is_predicate : ℕ → Bool} → FunctionSymbols is_predicate → (TreeClause → Type 0) → TreeClause → Type 0
+CoversEach functions Holds c = (g : GroundClause) → GroundInstance functions c g → Covered functions Holds g
 
 -- ---- one step
 
@@ -99,3 +104,24 @@ ReducedAwayCovered =
     → All (HasSymbolsOf functions) used → HasSymbolsOf functions c → ReducesThrough is_predicate (Contains used) c ds
     → IsTrue (is_tautology (end_of c ds)) ⊎ SomeClause (Contains used) (λ u. Subsumes is_predicate u (end_of c ds))
     → CoversInstancesOf functions used c
+
+-- ---- moves one after another
+
+-- the clauses by which moves are made, looked up by their numbers
+abbrev pub used_by_moves : (ℕ → Option TreeClause) → List Move → List TreeClause
+used_by_moves clauses ms = filter_map clauses (units_of ms)
+
+-- a clause that is reduced by moves, each result in canonical form: by the last one and the clauses used
+abbrev pub MovesCovered : Type 0
+MovesCovered =
+    (is_predicate : ℕ → Bool) (functions : FunctionSymbols is_predicate) (clauses : ℕ → Option TreeClause) (c : TreeClause) (ms : List Move)
+    → All (HasSymbolsOf functions) (used_by_moves clauses ms) → HasSymbolsOf functions c → AreMoves is_predicate clauses c ms
+    → CoversInstancesOf functions (end_of_moves c ms ∷ used_by_moves clauses ms) c
+
+-- a clause that moves lead to a tautology: by the clauses used alone; to what another clause subsumes: by that clause and those used
+abbrev pub MovedAwayCovered : Type 0
+MovedAwayCovered =
+    (is_predicate : ℕ → Bool) (functions : FunctionSymbols is_predicate) (clauses : ℕ → Option TreeClause) (c : TreeClause) (ms : List Move)
+    → All (HasSymbolsOf functions) (used_by_moves clauses ms) → HasSymbolsOf functions c → AreMoves is_predicate clauses c ms
+    → (IsTrue (is_tautology (end_of_moves c ms)) → CoversInstancesOf functions (used_by_moves clauses ms) c)
+    × ((d : TreeClause) → Subsumes is_predicate d (end_of_moves c ms) → CoversInstancesOf functions (d ∷ used_by_moves clauses ms) c)

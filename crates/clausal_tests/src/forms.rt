@@ -92,7 +92,8 @@ fn expect_counts(rt: &impl Abort, alloc: Global, text: &[u8], wanted: &str) {
 }
 
 /// Products of over 64 clauses are named, and clauses of over 4,000 symbols, also of those that define a name, and formulas of over
-/// 1,000,000 atoms are refused. A literal without arguments has 2 symbols. Many times `$false` take no room.
+/// 1,000,000 atoms are refused. A literal without arguments has 2 symbols. Many times `$false` take no room. A formula of 480 levels, and
+/// more symbols than 8 bits number.
 #[test]
 fn limits_of_formulas(rt: HostRuntime) {
     let alloc = rt.alloc();
@@ -105,8 +106,14 @@ fn limits_of_formulas(rt: HostRuntime) {
         ("cnf(a,axiom,", "p|", 1_999, "q(a)).", "TooHeavy a"),
         ("cnf(a,axiom,", "p|", 2_000, "p).", "TooHeavy a"),
         ("fof(a,axiom,p", "|$false", 50_000, ").", "1 3 hc0"),
-        ("fof(a,axiom,", "![X]:?[Y]:~", 160, "r(X,Y))."),
-        ("", "fof(a,axiom,?[X]:p(X)).", 66_000, ""),
+        (
+            "fof(a,axiom,",
+            "![X]:?[Y]:~",
+            160,
+            "r(X,Y)).",
+            "1 162 sk159",
+        ),
+        ("", "fof(a,axiom,?[X]:p(X)).", 300, "", "300 302 sk299"),
     ] {
         let text = repeated(&rt, alloc, before, part, count, after);
         expect_counts(&rt, alloc, text.as_slice(), wanted);

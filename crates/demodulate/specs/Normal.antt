@@ -1,9 +1,10 @@
 -- Rewriting step by step, and normal forms.
-use Rattle.std.specs.Prelude.{◌≡◌, ℕ, ◌<◌, ◌≤◌, List, map, Option, None, Some, option_map, IsTrue, if◌then◌else◌}
+use Rattle.std.specs.Prelude.{◌≡◌, ℕ, ◌<◌, ◌≤◌, Bool, List, [], ◌∷◌, map, Option, None, Some, option_map, IsTrue, if◌then◌else◌}
 use Rattle.fol_base.specs.Clause.{TreeClause, clause_size}
-use Rattle.fol_base.specs.Canonical.{IsCanonical}
+use Rattle.fol_base.specs.Canonical.{IsCanonical, canonical_clause}
 use Rattle.fol_base.specs.Literal.{clause_of}
 use Rattle.fol_base.specs.WellFormed.{SymbolUse, are_literals_of}
+use Rattle.kernel_steps.specs.Inference.{RewritesBy}
 use Rattle.kernel_steps.specs.declared.step.TheConstants.{CLAUSE_NUMBERS}
 use Rattle.kernel_steps.specs.declared.step.Reduced.{Reduced}
 use Rattle.bank_clause.specs.Clause.{clause_at}
@@ -40,6 +41,12 @@ IsLower clauses c d =
     (bound n : ℕ) → 0 < bound → clause_size c ≤ n → HaveSymbolsBelow bound clauses → IsTrue (has_symbols_below bound c)
     → (clause_rank bound n d < clause_rank bound n c) × IsTrue (has_symbols_below bound d)
 
+-- the unit rewrites the first clause, and the second one is the canonical form of the result
+pub record RewritesTo (is_predicate : ℕ → Bool) (unit c d : TreeClause) : Type 0 where
+  pub result : TreeClause
+  pub rewrites : RewritesBy is_predicate unit c result
+  pub canonical : d ≡ canonical_clause result
+
 -- A reduced clause was rewritten by the unit of a number, and goes on by that move.
 pub record IsRewritten (clauses : ℕ → Option TreeClause) (old new : Reduced) : Type 0 where
   pub number : ℕ
@@ -49,6 +56,9 @@ pub record IsRewritten (clauses : ℕ → Option TreeClause) (old new : Reduced)
   pub names : (clause_of new.clause).names ≡ (clause_of old.clause).names
   pub size : clause_size (clause_of new.clause) ≤ clause_size (clause_of old.clause)
   pub lower : IsLower clauses (clause_of old.clause) (clause_of new.clause)
+  pub rewrites :
+      (usage : SymbolUse)
+      → AreWellFormed usage clauses (clause_of old.clause) → RewritesTo usage.is_predicate unit (clause_of old.clause) (clause_of new.clause)
   pub goes_on :
       (usage : SymbolUse) (all : ℕ → Option TreeClause)
       → AreSomeOf clauses all → AreWellFormed usage clauses (clause_of old.clause)
@@ -61,6 +71,18 @@ pub record IsLeft (clauses : ℕ → Option TreeClause) (old new : Reduced) : Ty
 
 -- ---- normal forms
 
+-- one of the clauses does so
+pub record IsRewrittenBySome (is_predicate : ℕ → Bool) (clauses : ℕ → Option TreeClause) (c d : TreeClause) : Type 0 where
+  pub number : ℕ
+  pub unit : TreeClause
+  pub there : clauses number ≡ Some unit
+  pub rewrites : RewritesTo is_predicate unit c d
+
+-- from the first clause through those of the list to the last one, each time
+abbrev pub RewritesThrough : (ℕ → Bool) → (ℕ → Option TreeClause) → TreeClause → List TreeClause → TreeClause → Type 0
+RewritesThrough is_predicate clauses c [] d = d ≡ c
+RewritesThrough is_predicate clauses c (e ∷ es) d = IsRewrittenBySome is_predicate clauses c e × RewritesThrough is_predicate clauses e es d
+
 -- The clause was reduced by rewriting alone, and none of the clauses rewrites the result.
 pub record IsNormalForm (clauses : ℕ → Option TreeClause) (c : TreeClause) (made : Reduced) : Type 0 where
   pub canonical : IsCanonical (clause_of made.clause)
@@ -69,6 +91,9 @@ pub record IsNormalForm (clauses : ℕ → Option TreeClause) (c : TreeClause) (
   pub reduced :
       (usage : SymbolUse) (all : ℕ → Option TreeClause)
       → AreSomeOf clauses all → AreWellFormed usage clauses c → IsReduced usage.is_predicate all c made
+  pub alone :
+      (usage : SymbolUse)
+      → AreWellFormed usage clauses c → (through : List TreeClause) × RewritesThrough usage.is_predicate clauses c through (clause_of made.clause)
   pub normal : (usage : SymbolUse) → AreWellFormed usage clauses c → NoneRewrites usage.is_predicate clauses (clause_of made.clause)
 
 -- ---- the next line

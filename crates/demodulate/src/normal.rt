@@ -1,6 +1,6 @@
 // Normal forms: a clause rewritten until no unit rewrites it.
 
-ghost use Rattle.std.specs.Prelude.{◌≡◌, ◌≤◌, IfOk, IsTrue, filter, map, not};
+ghost use Rattle.std.specs.Prelude.{◌≡◌, ◌≤◌, IfOk, IsTrue};
 ghost use Rattle.fol_base.specs.Clause.{clause_size};
 ghost use Rattle.fol_base.specs.Canonical.{IsCanonical};
 ghost use Rattle.fol_base.specs.Literal.{clause_of};
@@ -12,10 +12,10 @@ ghost use Rattle.demodulate.specs.Normal.{IsNormalForm, kept};
 use crate::step::rewrite_once;
 use fol_base::Clause;
 use kernel_steps::Reduced;
-use plain_types::{Mem, NameLit};
+use plain_types::Mem;
 use reduction::laws::moves_extend_reductions;
 use reduction::unreduced;
-use rewriting::{Rewriters, Units};
+use rewriting::{Rewriters, Units, asserted_numbers};
 use std::alloc::Global;
 use term_bank::Bank;
 
@@ -49,16 +49,4 @@ pub fn normal_form(
             return Ok(made);
         }
     }
-}
-
-/// The numbers of the names that are asserted: the negative ones.
-fn asserted_numbers(alloc: Global, names: &[NameLit]) -> Mem<Vec<u32>>
-    ensures { IfOk result (λ asserted. asserted.items ≡ map (λ n. n.name) (filter (λ n. not n.positive) names.now)) }
-{
-    let asserted = names
-        .iter()
-        .filter(|name| !name.positive)
-        .map(|name| name.name)
-        .collect(alloc)?;
-    Ok(asserted)
 }

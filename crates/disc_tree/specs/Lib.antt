@@ -1,4 +1,5 @@
 pub mod Entries
+pub mod Firsts
 pub mod Path
 pub mod Prefixes
 pub mod LabelCode

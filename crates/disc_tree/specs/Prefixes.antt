@@ -1,5 +1,5 @@
 -- The compatible prefixes of a query without variables, by which the reads of a search are counted (McCune 1992).
-use Rattle.std.specs.Prelude.{◌≡◌, ◌⊎◌, ℕ, ◌+◌, ◌*◌, ◌≤◌, Bool, true, false, ◌&&◌, ◌||◌, List, [], ◌∷◌, ◌++◌, length, ⊤, if◌then◌else◌}
+use Rattle.std.specs.Prelude.{◌≡◌, ◌⊎◌, ℕ, suc, ◌+◌, ◌*◌, ◌≤◌, Bool, true, false, ◌&&◌, ◌||◌, List, [], ◌∷◌, ◌++◌, length, ⊤, if◌then◌else◌}
 use Rattle.fol_base.specs.Tree.{Tree}
 use Rattle.fol_base.specs.Ground.{is_ground}
 use Rattle.disc_tree.specs.declared.label.Label.{Label}
@@ -14,6 +14,13 @@ can_read ts [] = true
 can_read [] (l ∷ p) = false
 can_read (t ∷ ts) (Star ∷ p) = can_read ts p
 can_read (t ∷ ts) (Symbol f n ∷ p) = same_label (Symbol f n) (head t) && can_read (arguments t ++ ts) p
+
+-- how many beginnings of one path can be read along terms, the empty one included
+abbrev pub reads : List Tree → List Label → ℕ
+reads ts [] = 1
+reads [] (l ∷ p) = 1
+reads (t ∷ ts) (Star ∷ p) = suc (reads ts p)
+reads (t ∷ ts) (Symbol f n ∷ p) = if same_label (Symbol f n) (head t) then suc (reads (arguments t ++ ts) p) else 1
 
 -- each of the paths with a label before it
 abbrev pub behind : Label → List (List Label) → List (List Label)

@@ -17,6 +17,11 @@ abbrev pub here : List (Tree × ℕ) → List Row
 here [] = []
 here (e ∷ es) = ([], e) ∷ here es
 
+-- entries that have the same path
+abbrev pub all_at : List Label → List (Tree × ℕ) → List Row
+all_at p [] = []
+all_at p (e ∷ es) = (p, e) ∷ all_at p es
+
 -- the rows of a child, behind its label
 abbrev pub below : Label → List Row → List Row
 below l [] = []

@@ -3,7 +3,7 @@
 ghost use Rattle.std.specs.Prelude.{◌≡◌};
 ghost use Rattle.fol_base.specs.Term.{tree_of};
 ghost use Rattle.fol_base.specs.Tree.{list_of};
-ghost use Rattle.disc_tree.specs.Path.{head, arity, comes_before};
+ghost use Rattle.disc_tree.specs.Path.{head, arity, comes_before, same_label};
 
 use fol_base::Term;
 
@@ -32,6 +32,23 @@ impl Label {
         match self {
             Label::Star => 0,
             Label::Symbol(_, arity) => arity,
+        }
+    }
+
+    /// Whether two labels are the same.
+    pub(crate) fn is_same(self, other: Label) -> bool
+        ensures { result ≡ same_label self other }
+    {
+        match self {
+            Label::Star => match other {
+                Label::Star => true,
+                Label::Symbol(_, _) => false,
+            },
+            Label::Symbol(symbol, arity) => match other {
+                Label::Star => false,
+                Label::Symbol(other_symbol, other_arity) => symbol == other_symbol
+                    && arity == other_arity,
+            },
         }
     }
 

@@ -1,11 +1,12 @@
 // The laws of compatible terms, and worked examples: the contracts of functions without arguments and with
 // empty bodies.
 
-ghost use Rattle.std.specs.Prelude.{◌≡◌, true, false, [], ◌∷◌, IsTrue, IsFalse};
+ghost use Rattle.std.specs.Prelude.{◌≡◌, true, false, None, Some, [], ◌∷◌, IsTrue, IsFalse};
 ghost use Rattle.fol_base.specs.Examples.{x, a, b, f, f₂, g};
 ghost use Rattle.fol_base.specs.Compatible.{compatible, compatible_generalisation, compatible_instance};
 ghost use Rattle.disc_tree.specs.Entries.{IsIn, numbers_where};
-ghost use Rattle.disc_tree.specs.Examples.{three};
+ghost use Rattle.disc_tree.specs.Examples.{accepts_two, three};
+ghost use Rattle.disc_tree.specs.Firsts.{IsFirst};
 ghost use Rattle.disc_tree.specs.declared.label.Label.TheVariants.{Star, Symbol};
 ghost use Rattle.disc_tree.specs.Path.{path};
 ghost use Rattle.disc_tree.specs.Prefixes.{can_read, prefixes, compatible_prefixes};
@@ -33,6 +34,8 @@ pub fn examples()
     ensures variables { compatible_generalisation (x 0) (x 1) ≡ true }
     ensures variables_too { compatible_instance (x 0) (x 1) ≡ true }
     ensures there { IsIn (f₂ b (x 0), 2) three }
+    ensures first_accepted { IsFirst accepts_two (1 ∷ 2 ∷ 3 ∷ []) (Some 7) }
+    ensures none_accepted { IsFirst accepts_two (1 ∷ 3 ∷ []) None }
     ensures not_there { ¬ IsIn (f₂ b (x 1), 2) three }
 {}
 

@@ -2,6 +2,8 @@
 #![tactic(auto)]
 
 mod entry;
+mod first;
+mod fitting;
 mod label;
 pub mod laws;
 mod node;
@@ -9,6 +11,7 @@ mod query;
 mod scan;
 mod sorted;
 mod steps;
+mod tail;
 mod tree;
 mod work;
 

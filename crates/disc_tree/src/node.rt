@@ -7,17 +7,19 @@ ghost use Rattle.disc_tree.specs.Entries.{IsWith};
 ghost use Rattle.disc_tree.specs.Path.{path_of_all};
 ghost use Rattle.disc_tree.specs.Work.{trees_left};
 ghost use Rattle.disc_tree.specs.Rows.{rows, rows_at, weight, IsSound, IsAt, IsGap, IsChildAt, Rise, IsTaken, IsNone};
-ghost use Rattle.disc_tree.specs.Children.{children_of};
+ghost use Rattle.disc_tree.specs.Children.{children_of, rows_below, tail_rows};
 
 use crate::entry::Entry;
 use crate::label::Label;
 use crate::sorted::SortedEntries;
 use crate::steps::Steps;
+use crate::tail::Tail;
 use crate::work::{Rest, arguments_of};
 use fol_base::Term;
 use plain_types::Mem;
 use std::alloc::Global;
 use std::marker::Model;
+use std::mem;
 use std::sync::ledger::Ledger;
 
 /// What lies below a beginning of paths: the entries whose path ends here, and the children, in the order of their labels.
@@ -33,7 +35,15 @@ pub(crate) struct Node {
 #[cycle(nodes)]
 struct Branch {
     label: Label,
-    node: Node,
+    below: Below,
+}
+
+/// What lies below a child's label: a node, or a tail where only one path goes on.
+#[derive(Drop)]
+#[cycle(nodes)]
+pub(crate) enum Below {
+    Branching(Node),
+    Single(Tail),
 }
 
 impl Model for Node {
@@ -83,18 +93,18 @@ impl Node {
         self.entries.as_slice()
     }
 
-    /// The child with a label, at one step.
-    pub(crate) fn child<L: Ledger>(&self, label: Label, steps: &mut Steps<L>) -> Option<&Node>
+    /// What lies below the child with a label, at one step.
+    pub(crate) fn child<L: Ledger>(&self, label: Label, steps: &mut Steps<L>) -> Option<&Below>
         ensures child { MatchOption result (rows_at label self.now.1 ≡ [])
-            (λ child. rows child.now ≡ rows_at label self.now.1) }
-        ensures smaller { IfSome result (λ child. weight (rows child.now) < weight (rows self.now)) }
-        ensures some { IfSome result (λ child. 1 ≤ length (rows child.now)) }
+            (λ child. rows_below child.now ≡ rows_at label self.now.1) }
+        ensures smaller { IfSome result (λ child. weight (rows_below child.now) < weight (rows self.now)) }
+        ensures some { IfSome result (λ child. 1 ≤ length (rows_below child.now)) }
         ensures order { Rise self.now.1 }
         ensures step { steps.new ≡ steps.old + 1 }
     {
         steps.tick();
         match slot(&self.branches, label) {
-            Ok(at) => Some(&self.branches[at].node),
+            Ok(at) => Some(&self.branches[at].below),
             Err(_) => None,
         }
     }
@@ -108,16 +118,17 @@ impl Node {
         self.branches.len()
     }
 
-    /// The child at a place in the order of labels, with its label, at one step.
-    pub(crate) fn child_at<L: Ledger>(&self, index: usize, steps: &mut Steps<L>) -> (Label, &Node)
+    /// The label of the child at a place in the order of labels, and what lies below it, at one step.
+    pub(crate) fn child_at<L: Ledger>(&self, index: usize, steps: &mut Steps<L>) -> (Label, &Below)
         requires { index < length self.now.1 }
-        ensures child { IsChildAt result.0 (rows result.1.now) self.now.1 index }
-        ensures smaller { weight (rows result.1.now) < weight (rows self.now) }
+        ensures child { IsChildAt result.0 (rows_below result.1.now) self.now.1 index }
+        ensures some { 1 ≤ length (rows_below result.1.now) }
+        ensures smaller { weight (rows_below result.1.now) < weight (rows self.now) }
         ensures step { steps.new ≡ steps.old + 1 }
     {
         steps.tick();
         let branch = &self.branches[index];
-        (branch.label, &branch.node)
+        (branch.label, &branch.below)
     }
 
     /// Whether no entry is here or below.
@@ -128,6 +139,7 @@ impl Node {
     }
 
     /// Puts an entry at the end of the path of what is left. After want of memory the node is as before.
+    #[cycle(insert)]
     pub(crate) fn insert(&mut self, alloc: Global, rest: &Rest<'_>, entry: Entry) -> Mem<()>
         ensures ok { IfOk result (λ _. IsWith (path_of_all (trees_left rest.now), entry) (rows self.old) (rows self.new)) }
         ensures err { OnErr result (self.new ≡ self.old) }
@@ -140,35 +152,33 @@ impl Node {
         let label = Label::of(first);
         match slot(&self.branches, label) {
             Ok(at) => {
-                self.branches[at].node.insert(alloc, &next, entry)?;
+                self.branches[at].below.add(alloc, &next, entry)?;
                 Ok(())
             }
             Err(at) => {
-                let node = Node::chain(alloc, &next, entry)?;
-                self.branches.insert(at, Branch { label, node })?;
+                let tail = Tail::of(alloc, &next, entry)?;
+                let below = Below::Single(tail);
+                self.branches.insert(at, Branch { label, below })?;
                 Ok(())
             }
         }
     }
 
-    /// A node with one entry, at the end of the path of what is left.
-    fn chain(alloc: Global, rest: &Rest<'_>, entry: Entry) -> Mem<Node>
-        ensures { IfOk result (λ node. rows node ≡ (path_of_all (trees_left rest.now), entry) ∷ []) }
+    /// A node with the rows of a tail, whose labels and entries it takes. After want of memory the tail is as before.
+    fn of_tail(alloc: Global, tail: &mut Tail) -> Mem<Node>
+        requires { 1 ≤ length (tail_rows tail.old) }
+        ensures ok { IfOk result (λ node. rows node ≡ tail_rows tail.old) }
+        ensures err { OnErr result (tail.new ≡ tail.old) }
     {
-        let Rest::Then(first, more, below) = rest else {
-            return Ok(Node {
-                entries: SortedEntries::with_one(alloc, entry)?,
-                branches: Vec::new(alloc),
-            });
-        };
-        let after = Rest::of(more, below);
-        let next = Rest::of(arguments_of(first), &after);
-        let node = Node::chain(alloc, &next, entry)?;
         let mut branches = Vec::with_capacity(alloc, 1)?;
-        branches.push(Branch {
-            label: Label::of(first),
-            node,
-        })?;
+        let mut labels = mem::replace(&mut tail.labels, Vec::new(alloc));
+        let entries = mem::replace(&mut tail.entries, SortedEntries::new(alloc));
+        if labels.is_empty() {
+            return Ok(Node { entries, branches });
+        }
+        let label = labels.remove(0);
+        let below = Below::Single(Tail { labels, entries });
+        branches.push(Branch { label, below })?;
         Ok(Node {
             entries: SortedEntries::new(alloc),
             branches,
@@ -177,6 +187,7 @@ impl Node {
 
     /// Takes away the entry with a number and a term's variables, at the end of the path of what is left, and the branches that are empty
     /// without it. It says whether the entry was there.
+    #[cycle(remove)]
     pub(crate) fn remove(&mut self, rest: &Rest<'_>, term: &Term, number: u64) -> bool
         ensures removed { IsTrue result → IsTaken (path_of_all (trees_left rest.now)) (tree_variables (tree_of term.now)) number
             (rows self.old) (rows self.new) }
@@ -192,13 +203,62 @@ impl Node {
         let Ok(at) = slot(&self.branches, Label::of(first)) else {
             return false;
         };
-        if !self.branches[at].node.remove(&next, term, number) {
+        if !self.branches[at].below.take_away(&next, term, number) {
             return false;
         }
-        if self.branches[at].node.is_empty() {
-            let _ = self.branches.remove(at);
+        if self.branches[at].below.is_empty() {
+            mem::drop(self.branches.remove(at));
         }
         true
+    }
+}
+
+impl Below {
+    /// Whether no entry is here.
+    fn is_empty(&self) -> bool
+        ensures { IsTrue result ↔ (rows_below self.now ≡ []) }
+    {
+        match self {
+            Below::Branching(node) => node.is_empty(),
+            Below::Single(tail) => tail.is_empty(),
+        }
+    }
+
+    /// Puts an entry at the end of the path of what is left. A tail on which it doesn't end becomes a node. After want of memory the rows are
+    /// as before.
+    #[cycle(insert)]
+    fn add(&mut self, alloc: Global, rest: &Rest<'_>, entry: Entry) -> Mem<()>
+        requires { 1 ≤ length (rows_below self.old) }
+        ensures ok { IfOk result (λ _. IsWith (path_of_all (trees_left rest.now), entry) (rows_below self.old) (rows_below self.new)) }
+        ensures err { OnErr result (rows_below self.new ≡ rows_below self.old) }
+    {
+        match self {
+            Below::Branching(node) => node.insert(alloc, rest, entry),
+            Below::Single(tail) => {
+                if tail.is_at(rest) {
+                    return tail.put(entry);
+                }
+                let mut node = Node::of_tail(alloc, tail)?;
+                let result = node.insert(alloc, rest, entry);
+                *self = Below::Branching(node);
+                result
+            }
+        }
+    }
+
+    /// Takes away the entry with a number and a term's variables, at the end of the path of what is left. It says whether it was there.
+    #[cycle(remove)]
+    fn take_away(&mut self, rest: &Rest<'_>, term: &Term, number: u64) -> bool
+        ensures removed { IsTrue result → IsTaken (path_of_all (trees_left rest.now)) (tree_variables (tree_of term.now)) number
+            (rows_below self.old) (rows_below self.new) }
+        ensures absent { result ≡ false → IsNone (path_of_all (trees_left rest.now)) (tree_variables (tree_of term.now)) number
+            (rows_below self.old) }
+        ensures unchanged { result ≡ false → self.new ≡ self.old }
+    {
+        match self {
+            Below::Branching(node) => node.remove(rest, term, number),
+            Below::Single(tail) => tail.remove(rest, term, number),
+        }
     }
 }
 

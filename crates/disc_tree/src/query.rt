@@ -1,45 +1,21 @@
 // What a query finds.
 
-ghost use Rattle.std.specs.Prelude.{◌≡◌, ◌≤◌, ◌+◌, ◌++◌, [], suc, true, IfOk, if◌then◌else◌};
+ghost use Rattle.std.specs.Prelude.{◌≡◌, ◌≤◌, ◌++◌, [], suc, true, IfOk, if◌then◌else◌, length};
 ghost use Rattle.disc_tree.specs.Work.{trees_left, terms_left};
 ghost use Rattle.disc_tree.specs.Rows.{rows, rows_at, found_in, numbers_of, Rise};
+ghost use Rattle.disc_tree.specs.Children.{rows_below};
 ghost use Rattle.disc_tree.specs.Prefixes.{AreGround, StaysWithin, FollowsWithin, VisitsEach, FollowsEach};
 ghost use Rattle.disc_tree.specs.declared.label.Label.TheVariants.{Star};
 
+use crate::entry::Entry;
+use crate::fitting::{Varying, fits};
 use crate::label::Label;
-use crate::node::Node;
+use crate::node::{Below, Node};
 use crate::steps::Steps;
 use crate::work::{Rest, Skipped};
 use fol_base::Term;
 use plain_types::Mem;
 use std::sync::ledger::Ledger;
-
-/// Whose variables may stand for terms.
-#[derive(Clone, Copy)]
-pub(crate) struct Varying {
-    pub(crate) entry: bool,
-    pub(crate) query: bool,
-}
-
-impl Varying {
-    /// For terms that unify.
-    pub(crate) const BOTH: Varying = Varying {
-        entry: true,
-        query: true,
-    };
-
-    /// For generalisations.
-    pub(crate) const ENTRIES: Varying = Varying {
-        entry: true,
-        query: false,
-    };
-
-    /// For instances.
-    pub(crate) const QUERIES: Varying = Varying {
-        entry: false,
-        query: true,
-    };
-}
 
 /// Adds the numbers of the node's entries whose paths fit what is left, in the tree's order.
 #[cycle(collect)]
@@ -64,7 +40,7 @@ pub(crate) fn collect<L: Ledger>(
         return collect_children(node, &fewer, rest, varying, found, steps);
     }
     let Rest::Then(first, more, below) = rest else {
-        return push_numbers(node, found, steps);
+        return push_numbers(node.entries(steps), found);
     };
     let after = Rest::of(more, below);
     match first {
@@ -130,7 +106,7 @@ fn collect_child<L: Ledger>(
     ensures counter { steps.old ≤ steps.new }
 {
     match node.child(label, steps) {
-        Some(child) => collect(child, &Skipped::Closed, rest, varying, found, steps),
+        Some(child) => collect_below(child, &Skipped::Closed, rest, varying, found, steps),
         None => Ok(()),
     }
 }
@@ -152,17 +128,46 @@ fn collect_children<L: Ledger>(
     for index in 0..node.width(&mut *steps) {
         let (label, child) = node.child_at(index, &mut *steps);
         let inner = Skipped::of(label.arity(), &*skipped);
-        collect(child, &inner, &*rest, varying, found, &mut *steps)?;
+        collect_below(child, &inner, &*rest, varying, found, &mut *steps)?;
     }
     Ok(())
 }
 
-/// Adds the numbers of the entries at the node itself.
-fn push_numbers<L: Ledger>(node: &Node, found: &mut Vec<u64>, steps: &mut Steps<L>) -> Mem<()>
-    ensures found { IfOk result (λ _. found.new.items ≡ found.old.items ++ numbers_of node.now.0) }
-    ensures step { steps.new ≡ steps.old + 1 }
+/// The same for a node or a tail.
+#[cycle(collect)]
+fn collect_below<L: Ledger>(
+    below: &Below,
+    skipped: &Skipped<'_>,
+    rest: &Rest<'_>,
+    varying: Varying,
+    found: &mut Vec<u64>,
+    steps: &mut Steps<L>,
+) -> Mem<()>
+    requires { 1 ≤ length (rows_below below.now) }
+    ensures found { IfOk result (λ _. found.new.items
+        ≡ found.old.items ++ found_in varying.entry varying.query (terms_left skipped.now) (trees_left rest.now) (rows_below below.now)) }
+    ensures steps { terms_left skipped.now ≡ 0 → AreGround (trees_left rest.now)
+        → StaysWithin (trees_left rest.now) (rows_below below.now) steps.old steps.new }
+    ensures visits { IfOk result (λ _. varying.entry ≡ true → terms_left skipped.now ≡ 0 → AreGround (trees_left rest.now)
+        → VisitsEach (trees_left rest.now) (rows_below below.now) steps.old steps.new) }
+    ensures counter { steps.old ≤ steps.new }
 {
-    for entry in node.entries(steps) {
+    match below {
+        Below::Branching(node) => collect(node, skipped, rest, varying, found, steps),
+        Below::Single(tail) => {
+            if fits(&tail.labels, skipped, rest, varying, steps) {
+                push_numbers(tail.entries.as_slice(), found)?;
+            }
+            Ok(())
+        }
+    }
+}
+
+/// Adds the numbers of entries.
+fn push_numbers(entries: &[Entry], found: &mut Vec<u64>) -> Mem<()>
+    ensures { IfOk result (λ _. found.new.items ≡ found.old.items ++ numbers_of entries.now) }
+{
+    for entry in entries {
         found.push(entry.number())?;
     }
     Ok(())

@@ -1,15 +1,18 @@
 // The tree: a list of entries, each a term and a number.
 
-ghost use Rattle.std.specs.Prelude.{◌≡◌, ◌↔◌, ◌≤◌, ◌<◌, ◌+◌, ◌*◌, [], IfOk, OnErr, IsTrue, true, false};
+ghost use Rattle.std.specs.Prelude.{◌≡◌, ◌↔◌, ◌≤◌, ◌<◌, ◌+◌, ◌*◌, ◌++◌, [], IfOk, OnErr, IsTrue, true, false};
 ghost use Rattle.fol_base.specs.Term.{tree_of};
 ghost use Rattle.fol_base.specs.Compatible.{compatible, compatible_generalisation, compatible_instance, compatible_by};
 ghost use Rattle.fol_base.specs.Ground.{is_ground};
 ghost use Rattle.disc_tree.specs.Entries.{IsIn, IsWith, numbers_where};
+ghost use Rattle.disc_tree.specs.Firsts.{IsFirst};
 ghost use Rattle.disc_tree.specs.Prefixes.{compatible_prefixes};
 
 use crate::entry::Entry;
+use crate::first::first_in;
+use crate::fitting::Varying;
 use crate::node::Node;
-use crate::query::{Varying, collect};
+use crate::query::collect;
 use crate::steps::Steps;
 use crate::work::{Rest, Skipped};
 use fol_base::Term;
@@ -82,7 +85,9 @@ impl DiscTree {
     pub fn unifiable(&self, query: &Term) -> Mem<Numbers>
         ensures { IfOk result (λ numbers. numbers ≡ numbers_where (λ term. compatible term (tree_of query.now)) self.now) }
     {
-        self.find_uncounted(query, Varying::BOTH)
+        let mut found = Vec::new(self.alloc);
+        self.push_unifiable(query, &mut found)?;
+        Ok(Numbers::from_vec(found))
     }
 
     /// The same where only a variable of the entry stands for another term: of those that may be generalisations of the query.
@@ -90,7 +95,9 @@ impl DiscTree {
         ensures { IfOk result (λ numbers.
             numbers ≡ numbers_where (λ term. compatible_generalisation term (tree_of query.now)) self.now) }
     {
-        self.find_uncounted(query, Varying::ENTRIES)
+        let mut found = Vec::new(self.alloc);
+        self.push_generalisations(query, &mut found)?;
+        Ok(Numbers::from_vec(found))
     }
 
     /// The same where only a variable of the query does: of those that may be instances of it.
@@ -98,7 +105,66 @@ impl DiscTree {
         ensures { IfOk result (λ numbers.
             numbers ≡ numbers_where (λ term. compatible_instance term (tree_of query.now)) self.now) }
     {
-        self.find_uncounted(query, Varying::QUERIES)
+        let mut found = Vec::new(self.alloc);
+        self.push_instances(query, &mut found)?;
+        Ok(Numbers::from_vec(found))
+    }
+
+    /// Adds what `unifiable` answers to a list of the caller's. After want of memory only some of it may be there.
+    pub fn push_unifiable(&self, query: &Term, found: &mut Vec<u64>) -> Mem<()>
+        ensures { IfOk result (λ _. found.new.items
+            ≡ found.old.items ++ numbers_where (λ term. compatible term (tree_of query.now)) self.now) }
+    {
+        self.push_uncounted(query, Varying::BOTH, found)
+    }
+
+    /// Adds what `generalisations` answers to a list of the caller's. After want of memory only some of it may be there.
+    pub fn push_generalisations(&self, query: &Term, found: &mut Vec<u64>) -> Mem<()>
+        ensures { IfOk result (λ _. found.new.items
+            ≡ found.old.items ++ numbers_where (λ term. compatible_generalisation term (tree_of query.now)) self.now) }
+    {
+        self.push_uncounted(query, Varying::ENTRIES, found)
+    }
+
+    /// What a test makes of the numbers that `generalisations` answers, one after another, up to the first that it accepts by an answer other than
+    /// None: that answer, and None where it accepts none. No list is made, and what stands behind the accepted entry isn't read.
+    pub fn first_generalisation<T, F: Fn(u64) -> Mem<Option<T>>>(
+        &self,
+        query: &Term,
+        test: F,
+    ) -> Mem<Option<T>>
+        requires { F.IsAlwaysCallable test }
+        ensures { IfOk result (IsFirst (F.post test)
+            (numbers_where (λ term. compatible_generalisation term (tree_of query.now)) self.now)) }
+    {
+        self.first_from::<T, F, Brand>(query, &test, Blank::new(1))
+    }
+
+    /// The same on a new ledger, which nobody reads.
+    fn first_from<T, F: Fn(u64) -> Mem<Option<T>>, L: Ledger>(
+        &self,
+        query: &Term,
+        test: &F,
+        blank: Blank,
+    ) -> Mem<Option<T>>
+        requires test { F.IsAlwaysCallable test.now }
+        requires name { blank.name ≡ L.name }
+        requires parts { blank.parts ≡ L.parts }
+        requires some { 0 < blank.parts }
+        ensures { IfOk result (IsFirst (F.post test.now)
+            (numbers_where (λ term. compatible_generalisation term (tree_of query.now)) self.now)) }
+    {
+        let mut steps = Steps::<L>::new(blank);
+        let rest = Rest::Then(query, &[], &Rest::Nothing);
+        first_in(&self.root, &rest, test, &mut steps)
+    }
+
+    /// Adds what `instances` answers to a list of the caller's. After want of memory only some of it may be there.
+    pub fn push_instances(&self, query: &Term, found: &mut Vec<u64>) -> Mem<()>
+        ensures { IfOk result (λ _. found.new.items
+            ≡ found.old.items ++ numbers_where (λ term. compatible_instance term (tree_of query.now)) self.now) }
+    {
+        self.push_uncounted(query, Varying::QUERIES, found)
     }
 
     /// What `unifiable` answers. Each read of a node is a step: a child by its label or by its place, how many children there are, or the
@@ -143,35 +209,53 @@ impl DiscTree {
         ensures counter { steps.old ≤ steps.new }
     {
         let mut found = Vec::new(self.alloc);
-        let rest = Rest::Then(query, &[], &Rest::Nothing);
-        collect(
-            &self.root,
-            &Skipped::Closed,
-            &rest,
-            varying,
-            &mut found,
-            steps,
-        )?;
+        self.push_found(query, varying, &mut found, steps)?;
         Ok(Numbers::from_vec(found))
     }
 
-    /// The same for a caller that counts nothing.
-    fn find_uncounted(&self, query: &Term, varying: Varying) -> Mem<Numbers>
-        ensures { IfOk result (λ numbers.
-            numbers ≡ numbers_where (λ term. compatible_by varying.entry varying.query term (tree_of query.now)) self.now) }
+    /// Adds these numbers to a list.
+    fn push_found<L: Ledger>(
+        &self,
+        query: &Term,
+        varying: Varying,
+        found: &mut Vec<u64>,
+        steps: &mut Steps<L>,
+    ) -> Mem<()>
+        ensures found { IfOk result (λ _. found.new.items ≡ found.old.items
+            ++ numbers_where (λ term. compatible_by varying.entry varying.query term (tree_of query.now)) self.now) }
+        ensures steps { is_ground (tree_of query.now) ≡ true
+            → steps.new ≤ steps.old + 2 * compatible_prefixes (tree_of query.now) self.now }
+        ensures visits { IfOk result (λ _. varying.entry ≡ true → is_ground (tree_of query.now) ≡ true
+            → steps.old + compatible_prefixes (tree_of query.now) self.now ≤ steps.new) }
+        ensures counter { steps.old ≤ steps.new }
     {
-        self.find_from::<Brand>(query, varying, Blank::new(1))
+        let rest = Rest::Then(query, &[], &Rest::Nothing);
+        collect(&self.root, &Skipped::Closed, &rest, varying, found, steps)
+    }
+
+    /// The same for a caller that counts nothing.
+    fn push_uncounted(&self, query: &Term, varying: Varying, found: &mut Vec<u64>) -> Mem<()>
+        ensures { IfOk result (λ _. found.new.items ≡ found.old.items
+            ++ numbers_where (λ term. compatible_by varying.entry varying.query term (tree_of query.now)) self.now) }
+    {
+        self.push_from::<Brand>(query, varying, found, Blank::new(1))
     }
 
     /// The same on a new ledger, which nobody reads.
-    fn find_from<L: Ledger>(&self, query: &Term, varying: Varying, blank: Blank) -> Mem<Numbers>
+    fn push_from<L: Ledger>(
+        &self,
+        query: &Term,
+        varying: Varying,
+        found: &mut Vec<u64>,
+        blank: Blank,
+    ) -> Mem<()>
         requires name { blank.name ≡ L.name }
         requires parts { blank.parts ≡ L.parts }
         requires some { 0 < blank.parts }
-        ensures { IfOk result (λ numbers.
-            numbers ≡ numbers_where (λ term. compatible_by varying.entry varying.query term (tree_of query.now)) self.now) }
+        ensures { IfOk result (λ _. found.new.items ≡ found.old.items
+            ++ numbers_where (λ term. compatible_by varying.entry varying.query term (tree_of query.now)) self.now) }
     {
         let mut steps = Steps::<L>::new(blank);
-        self.find(query, varying, &mut steps)
+        self.push_found(query, varying, found, &mut steps)
     }
 }

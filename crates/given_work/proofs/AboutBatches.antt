@@ -1,5 +1,6 @@
 -- Entries and lines of a batch, what goes and what stays.
 pub mod BatchLines
+pub mod DroppedLemmas
 pub mod EntryLemmas
 pub mod GoingLemmas
 pub mod Justifiers

@@ -5,5 +5,7 @@ pub mod AboutBatches
 pub mod AboutMeeting
 -- AboutIndexes: what the index holds.
 pub mod AboutIndexes
+-- AboutLearning: what an index learns of a history.
+pub mod AboutLearning
 -- AboutWhole: the whole of a job's work, laws and examples.
 pub mod AboutWhole

@@ -1,14 +1,19 @@
 -- What an index that was told the clauses of a job makes of its ticket.
-use Rattle.std.specs.Prelude.{◌≡◌, false, List, Some, All}
+use Rattle.std.specs.Prelude.{◌≡◌, ℕ, false, List, length, Some, All}
 use Rattle.bank_clause.specs.Clause.{clause_at}
 use Rattle.bank_clause.specs.declared.member.Member.{Member}
 use Rattle.subsume.specs.Members.{numbers_of}
+use Rattle.pool_core.specs.Answers.{IsTicket}
+use Rattle.pool_core.specs.View.{PoolView}
 use Rattle.pool_core.specs.Record.{GivenJob, clauses_of, given_job}
 use Rattle.pool_core.specs.Replay.{Origin, replay}
 use Rattle.pool_core.specs.Inputs.{AreInputs, IsHistoryOf, IsRightBatch}
 use Rattle.pool_core.specs.declared.batch.Batch.{Batch}
 use Rattle.pool_core.specs.declared.event.Event.{Event}
 use Rattle.pool_core.specs.declared.ticket.Ticket.{Ticket}
+use Rattle.given_work.specs.View.{IndexView}
+use Rattle.given_work.specs.Learning.{AreNews, learned}
+use Rattle.given_work.specs.Learned.{HasLearned}
 use Rattle.given_work.specs.Removing.{AreTold}
 use Rattle.given_work.specs.Working.{IsRightUnder}
 
@@ -20,6 +25,21 @@ pub record AreToldFor (origin : Origin) (history : List Event) (ticket : Ticket)
   pub left : ticket.left ≡ job.left
   pub numbers : numbers_of ms ≡ job.told
   pub looked_up : All (λ (m : Member). clauses_of (replay origin history) m.number ≡ Some (clause_at m.clause)) ms
+
+-- An index may learn the news of a ticket that was asked for at the place up to which it was told, and has then learned the whole history.
+abbrev pub TicketsAreLearned : Type 0
+TicketsAreLearned =
+    (pool : PoolView) (index : IndexView) (ticket : Ticket)
+    → HasLearned pool index → IsTicket pool.origin pool.history index.told ticket
+    → AreNews index.members ticket.news
+    × HasLearned pool (record { options = index.options; told = ticket.as_of; members = learned index.members ticket.news })
+
+-- An index that learned the whole history knows exactly the clauses that the job of a ticket was told.
+abbrev pub LearnedAreToldFor : Type 0
+LearnedAreToldFor =
+    (pool : PoolView) (index : IndexView) (told : ℕ) (ticket : Ticket)
+    → HasLearned pool index → index.told ≡ length pool.history → IsTicket pool.origin pool.history told ticket
+    → AreToldFor pool.origin pool.history ticket index.members
 
 -- Where nothing is split, they may be worked with.
 abbrev pub ToldForJobsAreTold : Type 0

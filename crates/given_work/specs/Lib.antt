@@ -1,5 +1,6 @@
 pub mod View
 pub mod Learning
+pub mod Learned
 pub mod Store
 pub mod Occurring
 pub mod Sets
@@ -8,6 +9,7 @@ pub mod Index
 pub mod Telling
 pub mod Going
 pub mod Meeting
+pub mod Dropped
 pub mod Removing
 pub mod Working
 pub mod Laws

@@ -1,10 +1,15 @@
 // What becomes of the inferences of a given clause: an entry for each.
 
-ghost use Rattle.std.specs.Prelude.{◌≡◌, None, All, IfOk};
+ghost use Rattle.std.specs.Prelude.{◌≡◌, List, None, All, IfOk};
 ghost use Rattle.fol_base.specs.Literal.{clause_of};
+ghost use Rattle.bank_clause.specs.declared.member.Member.{Member};
+ghost use Rattle.simplification.specs.Simplified.{IsSimplified};
+ghost use Rattle.pool_core.specs.declared.batch.Fate.TheVariants.{Dropped};
+ghost use Rattle.given_work.specs.Dropped.{AreDropped, outcome_by};
 ghost use Rattle.given_work.specs.Telling.{AreSetsOfBank};
 ghost use Rattle.given_work.specs.Meeting.{AreFirstEntries, IsConcludedWith, IsEntryOf, IsFateBy, IsFateOf, IsKeptWith, IsMadeWith};
 
+use crate::dropped::DroppedConclusions;
 use crate::going::one_clause;
 use fol_base::Clause;
 use kernel_steps::{Derivation, Line, Reduced, Step};
@@ -27,21 +32,29 @@ pub(crate) fn entries_of(
     ensures { IfOk result (AreFirstEntries by.now.equations.now by.now.units.now by.now.members.now inferences.items left) }
 {
     let mut entries = Vec::new(alloc);
+    let mut dropped = DroppedConclusions::new(alloc);
     for inference in inferences {
         if entries.len() >= left as usize {
             return Ok(MetEntries::from_vec(entries));
         }
-        entries.push(entry_of(alloc, by, inference)?)?;
+        entries.push(entry_of(alloc, by, &mut dropped, inference)?)?;
     }
     Ok(MetEntries::from_vec(entries))
 }
 
 /// The entry of an inference.
-fn entry_of(alloc: Global, by: &Simplifiers<'_>, inference: Inference) -> Mem<Entry>
+fn entry_of(
+    alloc: Global,
+    by: &Simplifiers<'_>,
+    dropped: &mut DroppedConclusions,
+    inference: Inference,
+) -> Mem<Entry>
     requires of_bank { AreSetsOfBank by.now.bank.now by.now.equations.now by.now.units.now by.now.members.now }
     requires all { by.now.left_out ≡ None }
     requires made { IsMadeWith by.now.equations.now by.now.units.now by.now.members.now inference }
-    ensures { IfOk result (IsEntryOf by.now.equations.now by.now.units.now by.now.members.now inference) }
+    requires dropped { AreDropped by.now.equations.now by.now.units.now by.now.members.now dropped.old }
+    ensures entry { IfOk result (IsEntryOf by.now.equations.now by.now.units.now by.now.members.now inference) }
+    ensures dropped { IfOk result (λ _. AreDropped by.now.equations.now by.now.units.now by.now.members.now dropped.new) }
 {
     let Inference { key, result } = inference;
     match result {
@@ -50,33 +63,64 @@ fn entry_of(alloc: Global, by: &Simplifiers<'_>, inference: Inference) -> Mem<En
             fate: Fate::Heavy,
         }),
         Made::Conclusion(step, clause) => {
-            let fate = fate_of(alloc, by, step, clause)?;
+            let fate = fate_of(alloc, by, dropped, step, clause)?;
             Ok(Entry { key, fate })
         }
     }
 }
 
-/// What becomes of a conclusion.
-fn fate_of(alloc: Global, by: &Simplifiers<'_>, step: Step, clause: Clause) -> Mem<Fate>
+/// What becomes of a conclusion. One that is equal to a dropped one is dropped, too.
+fn fate_of(
+    alloc: Global,
+    by: &Simplifiers<'_>,
+    dropped: &mut DroppedConclusions,
+    step: Step,
+    clause: Clause,
+) -> Mem<Fate>
     requires of_bank { AreSetsOfBank by.now.bank.now by.now.equations.now by.now.units.now by.now.members.now }
     requires all { by.now.left_out ≡ None }
     requires concluded { IsConcludedWith by.now.equations.now by.now.units.now by.now.members.now step (clause_of clause) }
-    ensures { IfOk result (IsFateOf by.now.equations.now by.now.units.now by.now.members.now step (clause_of clause)) }
+    requires dropped { AreDropped by.now.equations.now by.now.units.now by.now.members.now dropped.old }
+    ensures fate { IfOk result (IsFateOf by.now.equations.now by.now.units.now by.now.members.now step (clause_of clause)) }
+    ensures dropped { IfOk result (λ _. AreDropped by.now.equations.now by.now.units.now by.now.members.now dropped.new) }
 {
-    let outcome = simplify(alloc, by, &clause)?;
-    let fate = fate_by(alloc, step, clause, outcome)?;
-    Ok(fate)
+    match dropped.cause(&clause) {
+        Some(cause) => Ok(Fate::Dropped(cause)),
+        None => {
+            let outcome = simplify(alloc, by, &clause)?;
+            let fate = fate_by(alloc, dropped, step, clause, outcome)?;
+            Ok(fate)
+        }
+    }
 }
 
-/// What becomes of a conclusion that was simplified.
-fn fate_by(alloc: Global, step: Step, clause: Clause, outcome: Simplified) -> Mem<Fate>
-    ensures { IfOk result (IsFateBy step clause outcome) }
+/// What becomes of a conclusion that was simplified. One that is dropped is noted.
+fn fate_by(
+    alloc: Global,
+    dropped: &mut DroppedConclusions,
+    step: Step,
+    clause: Clause,
+    outcome: Simplified,
+) -> Mem<Fate>
+    ensures fate { IfOk result (IsFateBy step clause outcome) }
+    ensures dropped { IfOk result (λ _. (es us ms : List Member) → AreDropped es us ms dropped.old
+        → IsSimplified es us ms None (clause_of clause) outcome → AreDropped es us ms dropped.new) }
 {
     match outcome {
-        Simplified::Tautology => Ok(Fate::Dropped(Redundancy::Tautology)),
-        Simplified::Subsumed(number) => Ok(Fate::Dropped(Redundancy::Subsumed(number))),
+        Simplified::Tautology => drop_as(dropped, clause, Redundancy::Tautology),
+        Simplified::Subsumed(number) => drop_as(dropped, clause, Redundancy::Subsumed(number)),
         Simplified::Reduced(reduced) => kept(alloc, step, clause, reduced),
     }
+}
+
+/// A conclusion that is dropped, which is noted.
+fn drop_as(dropped: &mut DroppedConclusions, clause: Clause, cause: Redundancy) -> Mem<Fate>
+    ensures fate { IfOk result (λ fate. fate ≡ Dropped cause) }
+    ensures dropped { IfOk result (λ _. (es us ms : List Member) → AreDropped es us ms dropped.old
+        → IsSimplified es us ms None (clause_of clause) (outcome_by cause) → AreDropped es us ms dropped.new) }
+{
+    dropped.put(clause, cause)?;
+    Ok(Fate::Dropped(cause))
 }
 
 /// A conclusion that is kept, reduced. The line of the inference has the number that the clause that was handed in has in the lines of its

@@ -152,63 +152,16 @@ fn parent_beside(victim: u32, parent: u64) -> u64
 fn beside_victim(victim: u32, step: Step) -> Step
     ensures { result ≡ with_parents (number_beside victim) step }
 {
-    match step {
-        Step::Para {
-            first,
-            second,
-            from,
-            from_side,
-            into,
-            into_side,
-            place,
-            first_bind,
-            second_bind,
-        } => Step::Para {
-            first: parent_beside(victim, first),
-            second: parent_beside(victim, second),
-            from,
-            from_side,
-            into,
-            into_side,
-            place,
-            first_bind,
-            second_bind,
-        },
-        Step::Refl {
-            parent,
-            literal,
-            bind,
-        } => Step::Refl {
-            parent: parent_beside(victim, parent),
-            literal,
-            bind,
-        },
-        Step::Factor {
-            parent,
-            becomes,
-            becomes_side,
-            other,
-            other_side,
-            bind,
-        } => Step::Factor {
-            parent: parent_beside(victim, parent),
-            becomes,
-            becomes_side,
-            other,
-            other_side,
-            bind,
-        },
-        Step::Merge {
-            parent,
-            stays,
-            goes,
-            bind,
-        } => Step::Merge {
-            parent: parent_beside(victim, parent),
-            stays,
-            goes,
-            bind,
-        },
-        step => step,
+    let mut step = step;
+    match &mut step {
+        Step::Para { first, second, .. } => {
+            *first = parent_beside(victim, *first);
+            *second = parent_beside(victim, *second);
+        }
+        Step::Refl { parent, .. } => *parent = parent_beside(victim, *parent),
+        Step::Factor { parent, .. } => *parent = parent_beside(victim, *parent),
+        Step::Merge { parent, .. } => *parent = parent_beside(victim, *parent),
+        _ => {}
     }
+    step
 }

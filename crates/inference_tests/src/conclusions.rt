@@ -21,7 +21,7 @@ const F: u32 = 6;
 const A: u32 = 1;
 
 /// Whether the inference has this conclusion.
-fn concludes(found: &Inference, wanted: &Clause) -> bool {
+pub(crate) fn concludes(found: &Inference, wanted: &Clause) -> bool {
     match &found.result {
         Made::Conclusion(_, clause) => same_clause(clause, wanted),
         Made::Heavy => false,
@@ -38,10 +38,11 @@ fn conclude(rt: &impl Abort, alloc: Global, found: &Inferences, wanted: &str) ->
             .any(|inference| concludes(inference, clause)))
 }
 
-/// The superpositions between two clauses with the numbers 0 and 1, where the first negative literal of greatest size is chosen.
-fn found_between<R: Wait + Abort>(
+/// The superpositions between two clauses with the numbers 0 and 1.
+pub(crate) fn found_between<R: Wait + Abort>(
     rt: &R,
     alloc: Global,
+    mode: Selection,
     first: &Clause,
     second: &Clause,
 ) -> Inferences {
@@ -49,11 +50,11 @@ fn found_between<R: Wait + Abort>(
     let first = member(rt, alloc, &bank, &mut table, 0, first);
     let second = member(rt, alloc, &bank, &mut table, 1, second);
     assert!(rt; first.number != second.number);
-    between(alloc, &bank, &first, &second, Selection::Negative).expect(rt, "memory")
+    between(alloc, &bank, &first, &second, mode).expect(rt, "memory")
 }
 
-/// Two clauses, and the conclusions of the superpositions between them. f, g are functions and a to c constants; p, q, r are predicates.
-/// The later letter is greater.
+/// Two clauses, and the conclusions of the superpositions between them, where the first negative literal of greatest size is chosen. f, g are
+/// functions and a to c constants; p, q, r are predicates. The later letter is greater.
 const BETWEEN: &[(&str, &str, &str)] = &[
     ("p(a)", "~p(X0) | q(X0)", "~$ | q(a)"),
     ("p(X0)", "~q(X0)", ""),
@@ -80,24 +81,32 @@ fn two_clauses_conclude(rt: HostRuntime) {
     for (index, (first, second, wanted)) in BETWEEN.iter().enumerate() {
         let first = clause(alloc, first).expect(&rt, "memory");
         let second = clause(alloc, second).expect(&rt, "memory");
-        let found = found_between(&rt, alloc, &first, &second);
+        let found = found_between(&rt, alloc, Selection::Negative, &first, &second);
         assert!(rt; conclude(&rt, alloc, &found, wanted), "row {index}");
     }
 }
 
+/// The number of a clause that meets no other.
+pub(crate) const GIVEN: u32 = 3;
+
 /// The rules on one clause.
 #[derive(Clone, Copy)]
-enum Alone {
-    Within,
+pub(crate) enum Alone {
+    Within(Selection),
     Resolve,
     Factor(Selection),
 }
 
-fn found_alone<R: Wait + Abort>(rt: &R, alloc: Global, rule: Alone, given: &Clause) -> Inferences {
+pub(crate) fn found_alone<R: Wait + Abort>(
+    rt: &R,
+    alloc: Global,
+    rule: Alone,
+    given: &Clause,
+) -> Inferences {
     let (bank, mut table) = Bank::new(alloc).expect(rt, "memory");
-    let given = member(rt, alloc, &bank, &mut table, 3, given);
+    let given = member(rt, alloc, &bank, &mut table, GIVEN, given);
     let found = match rule {
-        Alone::Within => within(alloc, &bank, &given, Selection::Negative),
+        Alone::Within(mode) => within(alloc, &bank, &given, mode),
         Alone::Resolve => resolutions(alloc, &bank, &given, Selection::Negative),
         Alone::Factor(mode) => factorings(alloc, &bank, &given, mode),
     };
@@ -105,8 +114,12 @@ fn found_alone<R: Wait + Abort>(rt: &R, alloc: Global, rule: Alone, given: &Clau
 }
 
 const ALONE: &[(Alone, &str, &str)] = &[
-    (Alone::Within, "p(a)", ""),
-    (Alone::Within, "f(f(X0)) = X0", "f(X0) = f(X0)"),
+    (Alone::Within(Selection::Negative), "p(a)", ""),
+    (
+        Alone::Within(Selection::Negative),
+        "f(f(X0)) = X0",
+        "f(X0) = f(X0)",
+    ),
     (Alone::Resolve, "X0 != a | p(X0)", "p(a)"),
     (Alone::Resolve, "a != b", ""),
     (Alone::Resolve, "X0 != f(X0)", ""),
@@ -182,7 +195,7 @@ fn large_conclusions_are_heavy(rt: HostRuntime) {
     let rule = clause(alloc, "~p(X0) | p(f(X0,X0))").expect(&rt, "memory");
     for (depth, size) in [(9, Some(2_051)), (10, None)] {
         let unit = tree_unit(&rt, alloc, depth);
-        let found = found_between(&rt, alloc, &unit, &rule);
+        let found = found_between(&rt, alloc, Selection::Negative, &unit, &rule);
         assert!(rt; found.len() == 1);
         let inference = found.as_slice().first().expect(&rt, "an inference");
         assert!(rt; is_into_root(&inference.key));

@@ -11,6 +11,8 @@ mod meetings;
 #[cfg(test)]
 mod normal_forms;
 #[cfg(test)]
+mod plain_superposition;
+#[cfg(test)]
 mod random_clauses;
 #[cfg(test)]
 mod random_sets;
@@ -20,5 +22,7 @@ mod removals;
 mod samples;
 #[cfg(test)]
 mod simplified;
+#[cfg(test)]
+mod small_pairs;
 #[cfg(test)]
 mod subsumption;

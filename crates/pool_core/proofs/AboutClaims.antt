@@ -3,6 +3,7 @@ pub mod HistoryLemmas
 pub mod StateLemmas
 pub mod PickLemmas
 pub mod ClaimLemmas
+pub mod ClaimedRecords
 pub mod HandLemmas
 pub mod GiveUpLemmas
 pub mod MemberLemmas

@@ -1,5 +1,5 @@
 -- The answers of a pool to claims and returns, and what each adds to the history.
-use Rattle.std.specs.Prelude.{◌≡◌, ℕ, suc, ◌<◌, ◌==◌, List, [], ◌∷◌, ◌++◌, map, find, length, Option, None, Some, option_map, All, IsTrue, IsFalse}
+use Rattle.std.specs.Prelude.{◌≡◌, ℕ, suc, ◌<◌, ◌==◌, List, [], ◌∷◌, ◌++◌, ◌||◌, map, find, length, Option, None, Some, is_none, is_some, option_map, All, IsTrue, IsFalse}
 use Rattle.bank_clause.specs.Clause.{clause_at, IsClauseOf, IsMemberOf}
 use Rattle.pool_core.specs.Tags.{name_count}
 use Rattle.pool_core.specs.Record.{PoolRecord, GivenJob, Death, clauses_of, given_job, lives, is_dead, position_of, propositional_clauses, jobs_out}
@@ -96,6 +96,12 @@ death_of r n = option_map (λ (d : Death). d.event) (find (λ (d : Death). n == 
 abbrev pub dead_justifier : PoolRecord → Work → Option ℕ
 dead_justifier r (Gone m) = find (is_dead r) m.justifiers
 dead_justifier r (Met entries removals) = None
+
+-- A return takes memory where the given clause lives, and a justifier by which it goes has died or the pool is neither refuted nor spent: else
+-- nothing is registered and no ticket is made.
+abbrev pub TakesMemory : PoolRecord → Batch → Type 0
+TakesMemory r batch =
+    IsGivenOut r batch.job (λ j. IsTrue (lives r j.number)) × IsTrue (is_some (dead_justifier r batch.work) || is_none r.ended)
 
 -- An answer to a return of a batch for a job that is out, after which the history is the new one: the given clause has died; or it lives, but a
 -- justifier by which it goes has died; or the batch is taken.

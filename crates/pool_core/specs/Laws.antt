@@ -1,7 +1,8 @@
 -- Laws of lawful histories, for every list of events.
-use Rattle.std.specs.Prelude.{◌≡◌, ◌≢◌, ◌⊎◌, ℕ, ◌+◌, ◌*◌, ◌^◌, ◌<◌, ◌≤◌, Bool, true, false, not, ◌&&◌, ◌==◌, nat_lt, List, [], ◌∷◌, ◌++◌, map, length, take, Some, filter, All, AllPairs, Contains, IsTrue, IsFalse}
+use Rattle.std.specs.Prelude.{◌≡◌, ◌≢◌, ◌⊎◌, ℕ, ◌+◌, ◌*◌, ◌^◌, ◌<◌, ◌≤◌, Bool, true, false, not, ◌&&◌, ◌==◌, nat_lt, List, [], ◌∷◌, ◌++◌, map, length, take, Option, Some, filter, All, AllPairs, Contains, IsTrue, IsFalse}
 use Rattle.std.specs.List.{list_any, list_all, range_with_len}
 use Rattle.fol_base.specs.Clause.{TreeClause, clause_size}
+use Rattle.fol_base.specs.Selection.{SelectionMode}
 use Rattle.kernel_steps.specs.Named.{IsInference}
 use Rattle.kernel_steps.specs.Sized.{IsSizedInference}
 use Rattle.kernel_steps.specs.declared.key.Key.{Key}
@@ -128,6 +129,12 @@ SetAsideAreHeavy =
     → IsLawful is_predicate origin history
     → let r = replay origin history in
     All (λ key. Contains r.counted key × IsHeavyAmong is_predicate origin.options r key) r.set_aside
+
+-- An inference is heavy or it isn't, whichever most general unifier shows it.
+abbrev pub HeavyOrNot : Type 0
+HeavyOrNot =
+    (is_predicate : ℕ → Bool) (mode : SelectionMode) (clauses : ℕ → Option TreeClause) (key : Key) (c d : TreeClause) (heavy too : Bool)
+    → IsSizedInference is_predicate mode clauses key c heavy → IsSizedInference is_predicate mode clauses key d too → heavy ≡ too
 
 -- ---- deaths
 

@@ -22,6 +22,8 @@ pub mod Wholeness
 pub mod Derived
 pub mod Told
 pub mod Events
+pub mod CountedList
+pub mod ClauseHash
 pub mod RegisterCode
 pub mod Register
 pub mod RegisterLiving

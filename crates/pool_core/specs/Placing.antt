@@ -17,6 +17,7 @@ use Rattle.bank_clause.specs.Clause.{clause_at, IsKnown}
 use Rattle.clause_queue.specs.Pairs.{without}
 use Rattle.kernel_steps.specs.declared.key.Key.{Key}
 use Rattle.pool_core.specs.Answers.{dead_justifier}
+use Rattle.pool_core.specs.ClauseHash.{clause_hash}
 use Rattle.pool_core.specs.Inputs.{IsRightBatch}
 use Rattle.pool_core.specs.Lawful.{IsGivenOut}
 use Rattle.pool_core.specs.Record.{PoolRecord, Death, lives}
@@ -52,7 +53,7 @@ HasParentsBelow bound l = AllByRecursion (λ n. n < bound) (step_parents l.step)
 -- lines among them.
 pub record IsInterned (bank : Bank) (table : Table) (lines : List Line) (result : Interned) : Type 0 where
   pub led : result_of lines ≡ Some (clause_at result.clause)
-  pub key : result.key ≡ result.clause
+  pub hashed : result.hash ≡ clause_hash result.clause
   pub no_names : result.clause.names ≡ []
   pub of_bank : AreLiteralsOf bank result.clause.literals
   pub known : All (IsKnown table) result.clause.literals

@@ -7,6 +7,7 @@ use Rattle.kernel_steps.specs.declared.step.Line.{Line}
 use Rattle.term_bank.specs.declared.bank.Bank.{Bank}
 use Rattle.term_bank.specs.declared.table.Table.{Table}
 use Rattle.pool_core.specs.View.{PoolView}
+use Rattle.pool_core.specs.CountedList.{keys_in}
 use Rattle.pool_core.specs.Events.{events_of}
 use Rattle.pool_core.specs.Record.{PoolRecord, Registered, Death, GivenJob, clause_numbered}
 use Rattle.pool_core.specs.Registering.{has_none}
@@ -76,7 +77,7 @@ pub record IsStateOf (a : Inside) (r : PoolRecord) : Type 0 where
   pub proof : IsProofStateOf a.table.bank a.table a.proof r
   pub positions : a.positions.items ≡ r.positions
   pub jobs : a.jobs.entries ≡ map job_entry r.given
-  pub counted : a.counted.items ≡ r.counted
+  pub counted : keys_in a.counted ≡ r.counted
   pub set_aside : a.set_aside.items ≡ r.set_aside
   pub last_job : a.last_job ≡ r.jobs
   pub place : a.place ≡ r.claims % 6

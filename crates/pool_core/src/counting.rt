@@ -6,6 +6,7 @@ ghost use Rattle.kernel_steps.specs.declared.step.Line.{Line};
 ghost use Rattle.std.specs.Vec.Iter.{into_iter_items};
 ghost use Rattle.term_bank.specs.declared.bank.Bank.{Bank};
 ghost use Rattle.term_bank.specs.declared.table.Table.{Table};
+ghost use Rattle.pool_core.specs.CountedList.{keys_in};
 ghost use Rattle.pool_core.specs.Counting.{counts, keys_of, lines_of_entries, lines_of_fate};
 ghost use Rattle.pool_core.specs.Placing.{
   AreInterned,
@@ -28,6 +29,7 @@ ghost use Rattle.pool_core.specs.Register.{is_living_at};
 ghost use Rattle.pool_core.specs.Returning.{replaced, proposed, worked};
 
 use crate::batch::{Entry, Fate, MetEntries, Removal, Removals, Work};
+use crate::counted_keys::CountedKeys;
 use crate::interning::{Interned, Prepared};
 use crate::options::Options;
 use crate::pool::ProofState;
@@ -41,7 +43,7 @@ impl ProofState {
         &mut self,
         bank: &Bank,
         options: Options,
-        counted: &mut Vec<Key>,
+        counted: &mut CountedKeys,
         number: u32,
         event: u64,
         work: Work,
@@ -53,12 +55,12 @@ impl ProofState {
         requires given { IsOfGiven number work }
         requires work { IsSomeWork bank.now self.old number work prepared }
         requires room { HasRoom self.old (lines_of_entries (entries_of work) ++ lines_of_removals (removals_of work)) (length (removals_of work)) 0 }
-        requires counted_room { vec_len counted.old + (length (entries_of work) + length (removals_of work)) ≤ vec_capacity counted.old }
+        requires counted_room { vec_len counted.old.keys + (length (entries_of work) + length (removals_of work)) ≤ vec_capacity counted.old.keys }
         ensures worked { (table : Table) (r : PoolRecord) (pairs : List (ℕ × ℕ)) → event ≡ r.events
-            → IsWorkOf bank.now table self.old number work prepared pairs r → counted.old.items ≡ r.counted
-            → IsCountedStateOf bank.now table self.new counted.new.items (worked options number work r) }
+            → IsWorkOf bank.now table self.old number work prepared pairs r → keys_in counted.old ≡ r.counted
+            → IsCountedStateOf bank.now table self.new (keys_in counted.new) (worked options number work r) }
         ensures noted { (table : Table) (r : PoolRecord) (pairs : List (ℕ × ℕ)) → event ≡ r.events
-            → IsWorkOf bank.now table self.old number work prepared pairs r → counted.old.items ≡ r.counted
+            → IsWorkOf bank.now table self.old number work prepared pairs r → keys_in counted.old ≡ r.counted
             → NotesDeaths r (worked options number work r) self.old.notes.items self.new.notes.items }
         ensures room { (out : ℕ)
             → HasRoom self.old (lines_of_entries (entries_of work) ++ lines_of_removals (removals_of work)) (length (removals_of work)) out
@@ -103,7 +105,7 @@ impl ProofState {
         &mut self,
         bank: &Bank,
         options: Options,
-        counted: &mut Vec<Key>,
+        counted: &mut CountedKeys,
         entries: MetEntries,
         results: Vec<Interned>,
     )
@@ -111,21 +113,21 @@ impl ProofState {
         requires open { self.old.ended ≡ None }
         requires results { AreArrivals bank.now self.old (lines_of_entries entries) results.items }
         requires room { HasRoom self.old (lines_of_entries entries) 0 0 }
-        requires counted_room { vec_len counted.old + length entries ≤ vec_capacity counted.old }
+        requires counted_room { vec_len counted.old.keys + length entries ≤ vec_capacity counted.old.keys }
         ensures counted { (table : Table) (r : PoolRecord) → AreInterned bank.now table (lines_of_entries entries) results.items
-            → IsCountedStateOf bank.now table self.old counted.old.items r
-            → IsCountedStateOf bank.now table self.new counted.new.items (counts options (keys_of entries) (lines_of_entries entries) r) }
+            → IsCountedStateOf bank.now table self.old (keys_in counted.old) r
+            → IsCountedStateOf bank.now table self.new (keys_in counted.new) (counts options (keys_of entries) (lines_of_entries entries) r) }
         ensures room { (lss : List (List Line)) (deaths out : ℕ)
             → HasRoom self.old (lines_of_entries entries ++ lss) deaths out → HasRoom self.new lss deaths out }
-        ensures counted_len { vec_len counted.new ≡ vec_len counted.old + length entries }
-        ensures counted_room { vec_capacity counted.new ≡ vec_capacity counted.old }
+        ensures counted_len { vec_len counted.new.keys ≡ vec_len counted.old.keys + length entries }
+        ensures counted_room { vec_capacity counted.new.keys ≡ vec_capacity counted.old.keys }
         ensures notes { self.new.notes.items ≡ self.old.notes.items }
     {
         let is_spent = counted.len() + entries.len() >= options.inferences as usize;
         let mut results = results.into_iter();
         for entry in entries.into_vec() {
             let Entry { key, fate } = entry;
-            counted.push_reserved(key);
+            counted.push(&key);
             if let Fate::Kept { lines, .. } = fate {
                 let Some(interned) = results.next() else {
                     unreachable!();
@@ -141,7 +143,7 @@ impl ProofState {
         &mut self,
         bank: &Bank,
         options: Options,
-        counted: &mut Vec<Key>,
+        counted: &mut CountedKeys,
         event: u64,
         removals: Removals,
         results: Vec<Interned>,
@@ -149,12 +151,12 @@ impl ProofState {
         requires unsplit { options.split ≡ false }
         requires results { AreArrivals bank.now self.old (lines_of_removals removals) results.items }
         requires room { HasRoom self.old (lines_of_removals removals) (length removals) 0 }
-        requires counted_room { vec_len counted.old + length removals ≤ vec_capacity counted.old }
+        requires counted_room { vec_len counted.old.keys + length removals ≤ vec_capacity counted.old.keys }
         ensures proposed { (table : Table) (r : PoolRecord) → event ≡ r.events → AreInterned bank.now table (lines_of_removals removals) results.items
-            → IsCountedStateOf bank.now table self.old counted.old.items r
-            → IsCountedStateOf bank.now table self.new counted.new.items (fold (proposed options) r removals) }
+            → IsCountedStateOf bank.now table self.old (keys_in counted.old) r
+            → IsCountedStateOf bank.now table self.new (keys_in counted.new) (fold (proposed options) r removals) }
         ensures noted { (table : Table) (r : PoolRecord) → event ≡ r.events → AreInterned bank.now table (lines_of_removals removals) results.items
-            → IsCountedStateOf bank.now table self.old counted.old.items r
+            → IsCountedStateOf bank.now table self.old (keys_in counted.old) r
             → NotesDeaths r (fold (proposed options) r removals) self.old.notes.items self.new.notes.items }
         ensures room { (out : ℕ) → HasRoom self.old (lines_of_removals removals) (length removals) out → HasRoom self.new [] 0 out }
     {
@@ -190,7 +192,7 @@ impl ProofState {
         &mut self,
         bank: &Bank,
         options: Options,
-        counted: &mut Vec<Key>,
+        counted: &mut CountedKeys,
         victim: u32,
         fate: Fate,
         interned: Option<Interned>,
@@ -199,14 +201,14 @@ impl ProofState {
         requires open { self.old.ended ≡ None }
         requires interned { IsReplacement bank.now self.old fate interned }
         requires room { HasRoom self.old (option_to_list (lines_of_fate fate)) 0 0 }
-        requires counted_room { vec_len counted.old < vec_capacity counted.old }
+        requires counted_room { vec_len counted.old.keys < vec_capacity counted.old.keys }
         ensures replaced { (table : Table) (r : PoolRecord) → IsResultOf bank.now table fate interned
-            → IsCountedStateOf bank.now table self.old counted.old.items r
-            → IsCountedStateOf bank.now table self.new counted.new.items (replaced options victim fate r) }
+            → IsCountedStateOf bank.now table self.old (keys_in counted.old) r
+            → IsCountedStateOf bank.now table self.new (keys_in counted.new) (replaced options victim fate r) }
         ensures room { (lss : List (List Line)) (deaths out : ℕ)
             → HasRoom self.old (option_to_list (lines_of_fate fate) ++ lss) deaths out → HasRoom self.new lss deaths out }
-        ensures counted_len { vec_len counted.new ≤ vec_len counted.old + 1 }
-        ensures counted_room { vec_capacity counted.new ≡ vec_capacity counted.old }
+        ensures counted_len { vec_len counted.new.keys ≤ vec_len counted.old.keys + 1 }
+        ensures counted_room { vec_capacity counted.new.keys ≡ vec_capacity counted.old.keys }
         ensures notes { self.new.notes.items ≡ self.old.notes.items }
     {
         let Fate::Kept { lines, .. } = fate else {
@@ -215,7 +217,7 @@ impl ProofState {
         let Some(interned) = interned else {
             unreachable!();
         };
-        counted.push_reserved(Key::Replaced(victim));
+        counted.push(&Key::Replaced(victim));
         let is_spent = counted.len() >= options.inferences as usize;
         self.arrive_counted(bank, is_spent, lines, interned);
         self.spend(is_spent, counted.len() as u64);

@@ -10,6 +10,7 @@ ghost use Rattle.pool_core.specs.declared.batch.Entry.{Entry};
 ghost use Rattle.pool_core.specs.declared.batch.Removal.{Removal};
 
 use crate::batch::{Entry, Fate, Removal, Work};
+use crate::clause_hash::clause_hash;
 use crate::keys::copied_key;
 use bank_clause::BankClause;
 use kernel_steps::Key;
@@ -18,11 +19,11 @@ use std::alloc::Global;
 use std::sync::Wait;
 use term_bank::{Bank, Table};
 
-/// A result with its terms in the bank, to be registered, and an equal one, by which it is found.
+/// A result with its terms in the bank, to be registered, and the hash by which it is found.
 #[derive(Drop)]
 pub struct Interned {
     pub(crate) clause: BankClause,
-    pub(crate) key: BankClause,
+    pub(crate) hash: u64,
 }
 
 /// Results, in the order of a batch, and how many lines lead to them.
@@ -75,8 +76,8 @@ impl Results {
             return Err(NoMemory);
         };
         let clause = BankClause::of_clause(rt, alloc, bank, table, clause)?;
-        let key = clause.copied()?;
-        self.clauses.push(Interned { clause, key })?;
+        let hash = clause_hash(&clause);
+        self.clauses.push(Interned { clause, hash })?;
         self.lines = count;
         Ok(())
     }

@@ -13,14 +13,14 @@ mod splitting;
 mod stale;
 mod telling;
 
-pub use claiming::{answer_examples, claim_examples, given_up_examples};
+pub use claiming::{answer_examples, claim_examples, given_up_examples, memory_examples};
 pub use components::{component_examples, components_are_finest, line_name_examples};
 pub use counting::{after_spent_examples, heavy_examples, removal_examples, spent_examples};
 pub use histories::{
-    batches_stay_right, claimed_in_time, counted_once, deaths_are_justified, jobs_are_counted,
-    jobs_were_given, lines_are_derived, numbers_fit, outcomes_stay, picks_are_chosen,
-    positions_are_registered, positions_stay, refuted_is_refutation, registered_are_whole,
-    set_aside_are_heavy, spent_is_the_count, told_have_positions,
+    batches_stay_right, claimed_in_time, counted_once, deaths_are_justified, heavy_or_not,
+    jobs_are_counted, jobs_were_given, lines_are_derived, numbers_fit, outcomes_stay,
+    picks_are_chosen, positions_are_registered, positions_stay, refuted_is_refutation,
+    registered_are_whole, set_aside_are_heavy, spent_is_the_count, told_have_positions,
 };
 pub use lawful::{lawful_examples, unlawful_examples};
 pub use resolving::{cut_unit, resolved_units};

@@ -2,7 +2,10 @@
 #![tactic(auto)]
 
 mod batch;
+mod chains;
 mod claiming;
+mod clause_hash;
+mod counted_keys;
 mod counting;
 mod event;
 mod giving_up;

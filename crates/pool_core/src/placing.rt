@@ -32,65 +32,22 @@ fn placed(step: Step, register: &Register, first: u64) -> Step
     requires { AllByRecursion (λ n. first + n < 2 ^ 64) (step_parents step) }
     ensures { result ≡ with_parents (line_number (map registered_at register.now.clauses) first) step }
 {
-    match step {
+    let mut step = step;
+    match &mut step {
         Step::Para {
             first: one,
             second,
-            from,
-            from_side,
-            into,
-            into_side,
-            place,
-            first_bind,
-            second_bind,
-        } => Step::Para {
-            first: line_number(register, first, one),
-            second: line_number(register, first, second),
-            from,
-            from_side,
-            into,
-            into_side,
-            place,
-            first_bind,
-            second_bind,
-        },
-        Step::Refl {
-            parent,
-            literal,
-            bind,
-        } => Step::Refl {
-            parent: line_number(register, first, parent),
-            literal,
-            bind,
-        },
-        Step::Factor {
-            parent,
-            becomes,
-            becomes_side,
-            other,
-            other_side,
-            bind,
-        } => Step::Factor {
-            parent: line_number(register, first, parent),
-            becomes,
-            becomes_side,
-            other,
-            other_side,
-            bind,
-        },
-        Step::Merge {
-            parent,
-            stays,
-            goes,
-            bind,
-        } => Step::Merge {
-            parent: line_number(register, first, parent),
-            stays,
-            goes,
-            bind,
-        },
-        step => step,
+            ..
+        } => {
+            *one = line_number(register, first, *one);
+            *second = line_number(register, first, *second);
+        }
+        Step::Refl { parent, .. } => *parent = line_number(register, first, *parent),
+        Step::Factor { parent, .. } => *parent = line_number(register, first, *parent),
+        Step::Merge { parent, .. } => *parent = line_number(register, first, *parent),
+        _ => {}
     }
+    step
 }
 
 /// The number of the line that a parent in a batch is.

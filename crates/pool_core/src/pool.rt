@@ -10,6 +10,7 @@ ghost use Rattle.pool_core.specs.Outcomes.{is_of_living, outcome_of};
 ghost use Rattle.pool_core.specs.Record.{is_awake, lives};
 ghost use Rattle.pool_core.specs.Replay.{replay};
 
+use crate::counted_keys::CountedKeys;
 use crate::history::History;
 use crate::options::Options;
 use crate::outcome::Outcome;
@@ -74,7 +75,7 @@ pub struct Pool {
     pub(crate) history: History,
     /// For each event how many activations and deaths came before it. It has the room that the history has.
     pub(crate) notes_before: Vec<usize>,
-    pub(crate) counted: Vec<Key>,
+    pub(crate) counted: CountedKeys,
     pub(crate) set_aside: Vec<Key>,
     pub(crate) last_job: u64,
     /// The place of the next given claim among six.
@@ -138,7 +139,7 @@ impl Pool {
             jobs: BTreeMap::new(alloc),
             history: History::new(alloc),
             notes_before: Vec::new(alloc),
-            counted: Vec::new(alloc),
+            counted: CountedKeys::new(alloc),
             set_aside: Vec::new(alloc),
             last_job: 0,
             place: 0,

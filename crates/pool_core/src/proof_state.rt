@@ -61,8 +61,8 @@ impl ProofState {
         if self.ended.is_some() {
             return;
         }
-        let Interned { clause, key } = interned;
-        if let Some(copy) = self.register.find(&clause) {
+        let Interned { clause, hash } = interned;
+        if let Some(copy) = self.register.find(&clause, hash) {
             clause.agree(bank, &self.register.get(copy as usize).clause);
             return;
         }
@@ -70,7 +70,8 @@ impl ProofState {
         let size = clause.size();
         let is_empty = clause.literals().is_empty();
         place_steps(&mut self.steps, &self.register, lines);
-        self.register.push(clause, key, self.steps.len() as u64 - 1);
+        self.register
+            .push(clause, hash, self.steps.len() as u64 - 1);
         self.queue.push(number, size).unwrap();
         if is_empty {
             self.ended = Some(Outcome::Refuted);

@@ -2,11 +2,12 @@
 
 ghost use Rattle.std.specs.Prelude.{◌≡◌, ℕ, ◌+◌, ◌<◌, ◌≤◌, ◌^◌, ◌++◌, [], ◌∷◌, None, Some, false, is_none, is_some, find, true, length, position, slice_get, slice_set, IfSome, OnOk};
 ghost use Rattle.std.specs.List.{list_all};
+ghost use Rattle.pool_core.specs.ClauseHash.{clause_hash};
 ghost use Rattle.pool_core.specs.Register.{is_living_copy, death_at, is_living_at, at_position, dead_in, made_active};
 ghost use Rattle.pool_core.specs.declared.register.Registration.{Registration};
 
+use crate::chains::Chains;
 use bank_clause::BankClause;
-use indexmap::IndexMap;
 use kernel_steps::CLAUSE_NUMBERS;
 use plain_types::{Mem, NoMemory};
 use std::alloc::Global;
@@ -30,8 +31,8 @@ pub struct Registration {
 #[derive(Drop)]
 pub struct Register {
     registrations: Vec<Registration>,
-    /// The living clauses with their numbers.
-    living: IndexMap<BankClause, u32>,
+    /// The numbers by the hashes of the clauses. Those of dead clauses stay.
+    chains: Chains,
 }
 
 impl Model for Register {
@@ -45,7 +46,7 @@ impl Model for Register {
 
     ghost view = { registrations_of };
 
-    ghost invariant = { λ a. IsRegister a.living a.registrations.items };
+    ghost invariant = { λ a. IsRegister a.chains a.registrations.items };
 }
 
 impl Register {
@@ -55,7 +56,7 @@ impl Register {
     {
         Register {
             registrations: Vec::new(alloc),
-            living: IndexMap::new(alloc),
+            chains: Chains::new(alloc),
         }
     }
 
@@ -67,12 +68,30 @@ impl Register {
         self.registrations.len()
     }
 
-    /// The number of the living clause that is equal to this one by the numbers of its terms.
-    pub(crate) fn find(&self, clause: &BankClause) -> Option<u32>
+    /// The number of the living clause that is equal to this one, whose hash is told, by the numbers of its terms.
+    pub(crate) fn find(&self, clause: &BankClause, hash: u64) -> Option<u32>
+        requires { hash ≡ clause_hash clause.now }
         ensures found { result ≡ position (is_living_copy clause.now) self.now.clauses }
         ensures within { IfSome result (λ number. number < length self.now.clauses) }
     {
-        self.living.get(clause).copied()
+        let mut next = self.chains.newest_of(hash);
+        while next > 0 {
+            let number = next - 1;
+            if self.is_living_copy(number, clause) {
+                return Some(number as u32);
+            }
+            next = self.chains.older_than(number);
+        }
+        None
+    }
+
+    /// Whether the clause of a number lives, and is equal to this one by the numbers of its terms.
+    fn is_living_copy(&self, number: usize, clause: &BankClause) -> bool
+        requires { number < length self.now.clauses }
+        ensures { (s : Registration) → slice_get self.now.clauses number ≡ Some s → result ≡ is_living_copy clause.now s }
+    {
+        let registration = self.get(number);
+        registration.death.is_none() && *clause == registration.clause
     }
 
     /// The registered clause of a number.
@@ -128,21 +147,20 @@ impl Register {
             return Err(NoMemory);
         }
         self.registrations.reserve(more)?;
-        self.living.reserve(more)?;
+        self.chains.reserve(more)?;
         Ok(())
     }
 
-    /// Registers a clause of which no living one is a copy. The key is equal to it, and there is room.
-    pub(crate) fn push(&mut self, clause: BankClause, key: BankClause, line: u64)
+    /// Registers a clause of which no living one is a copy, and whose hash is told. There is room.
+    pub(crate) fn push(&mut self, clause: BankClause, hash: u64, line: u64)
         requires room { 0 < self.old.spare }
-        requires key { key ≡ clause }
+        requires hash { hash ≡ clause_hash clause }
         requires new { position (is_living_copy clause) self.old.clauses ≡ None }
         ensures pushed { self.new.clauses ≡ self.old.clauses ++
             record { clause = clause; line = line; position = None; death = None; is_active = false } ∷ [] }
         ensures room { self.old.spare ≤ self.new.spare + 1 }
     {
-        let number = self.registrations.len() as u32;
-        self.living.insert(key, number).unwrap();
+        self.chains.push(hash);
         self.registrations.push_reserved(Registration {
             clause,
             line,
@@ -172,14 +190,13 @@ impl Register {
         self.registrations[number].is_active = true;
     }
 
-    /// Notes the event in which a living clause died. It isn't found any more.
+    /// Notes the event in which a living clause died. It isn't found any more, though it stays in its chain.
     pub(crate) fn bury(&mut self, number: usize, event: u64)
         requires living { (s : Registration) × (slice_get self.old.clauses number ≡ Some s) × (is_none s.death ≡ true) }
         ensures clauses { (s : Registration) → slice_get self.old.clauses number ≡ Some s
             → self.new.clauses ≡ slice_set self.old.clauses number (dead_in event s) }
         ensures room { self.old.spare ≤ self.new.spare }
     {
-        self.living.swap_remove(&self.registrations[number].clause);
         self.registrations[number].death = Some(event);
     }
 }

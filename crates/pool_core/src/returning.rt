@@ -2,7 +2,7 @@
 
 ghost use Rattle.std.specs.Prelude.{◌≡◌, ◌<◌, ◌≤◌, ◌++◌, [], ◌∷◌, Some, length, IfOk, IfErr, OnOk, OnErr, IsTrue};
 ghost use Rattle.term_bank.specs.Bank.{identity};
-ghost use Rattle.pool_core.specs.Answers.{IsAnswerToReturn, IsTicket, IsTicketOf, IsBackOf, dead_justifier, death_of};
+ghost use Rattle.pool_core.specs.Answers.{IsAnswerToReturn, IsTicket, IsTicketOf, IsBackOf, TakesMemory, dead_justifier, death_of};
 ghost use Rattle.pool_core.specs.Inputs.{IsRightBatch};
 ghost use Rattle.pool_core.specs.Lawful.{IsGivenOut};
 ghost use Rattle.pool_core.specs.Noted.{IsTicketAgain};
@@ -35,8 +35,8 @@ impl From<NotTaken> for NoMemory {
 
 impl Pool {
     /// The answer to the batch of a job that is out, of a caller that knows the activations and deaths of the first `told` events: the given
-    /// clause has died; or it lives, but a clause that justifies that it goes has died; or the batch is taken. After want of memory the pool is
-    /// as before, and the batch comes back.
+    /// clause has died; or it lives, but a clause that justifies that it goes has died; or the batch is taken. Want of memory comes only where
+    /// something is to be told or registered; the pool is as before then, and the batch comes back.
     pub fn give_back<R: Wait>(
         &mut self,
         rt: &R,
@@ -52,6 +52,7 @@ impl Pool {
         ensures origin { self.new.origin ≡ self.old.origin }
         ensures answer { IfOk result (λ back. IsAnswerToReturn self.old.origin self.old.history told batch back self.new.history) }
         ensures of_bank { IfOk result (IsBackOf self.old.bank) }
+        ensures memory { IfErr result (λ _. TakesMemory (replay self.old.origin self.old.history) batch) }
         ensures unchanged { OnErr result (self.new ≡ self.old) }
         ensures batch { IfErr result (λ refused. refused.batch ≡ batch) }
     {

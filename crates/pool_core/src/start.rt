@@ -11,6 +11,7 @@ ghost use Rattle.pool_core.specs.Started.{IsStarted, IsSomeStart, with_input};
 ghost use Rattle.pool_core.specs.Registering.{with_inputs};
 ghost use Rattle.pool_core.specs.Record.{PoolRecord, nothing_registered};
 
+use crate::clause_hash::clause_hash;
 use crate::outcome::Outcome;
 use crate::register::Register;
 use bank_clause::BankClause;
@@ -83,7 +84,8 @@ impl Start {
             return Ok(());
         }
         let made = BankClause::of_clause(rt, alloc, bank, table, clause)?;
-        if let Some(copy) = self.register.find(&made) {
+        let hash = clause_hash(&made);
+        if let Some(copy) = self.register.find(&made, hash) {
             made.agree(bank, &self.register.get(copy as usize).clause);
             return Ok(());
         }
@@ -92,9 +94,8 @@ impl Start {
         let size = made.size();
         let place = self.register.len() as u32;
         let is_empty = made.literals().is_empty();
-        let key = made.copied()?;
         self.queue.push(place, size)?;
-        self.register.push(made, key, self.steps.len() as u64);
+        self.register.push(made, hash, self.steps.len() as u64);
         self.steps.push_reserved(Step::Clausify(number));
         if is_empty {
             self.ended = Some(Outcome::Refuted);

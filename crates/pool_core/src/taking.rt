@@ -1,14 +1,16 @@
 // Batches that are taken: first all memory that a return needs, and then what takes none.
 
-ghost use Rattle.std.specs.Prelude.{◌≡◌, ◌+◌, ◌≤◌, ◌++◌, [], ◌∷◌, true, is_some, length, IfOk, IfErr, OnOk, OnErr, vec_len, vec_capacity};
+ghost use Rattle.std.specs.Prelude.{◌≡◌, ◌+◌, ◌≤◌, ◌++◌, [], ◌∷◌, None, true, is_some, length, IfOk, IfErr, OnOk, OnErr, vec_len, vec_capacity};
 ghost use Rattle.term_bank.specs.Bank.{identity};
 ghost use Rattle.term_bank.specs.Table.{IsTableOf};
+ghost use Rattle.pool_core.specs.CountedList.{keys_in};
 ghost use Rattle.pool_core.specs.Counting.{lines_of_entries};
 ghost use Rattle.pool_core.specs.Placing.{KnowsMore, HasRoom, IsFitWork, IsInBank, IsTakeable, entries_of, removals_of, lines_of_removals, heavy_keys_of};
 ghost use Rattle.pool_core.specs.Replay.{replay};
 ghost use Rattle.pool_core.specs.declared.event.Event.TheVariants.{Return};
 
 use crate::batch::{Batch, Work};
+use crate::counted_keys::CountedKeys;
 use crate::event::Event;
 use crate::interning::{Prepared, prepare};
 use crate::pool::{Pool, ProofState};
@@ -34,6 +36,7 @@ impl Pool {
         ensures bank { self.new.bank ≡ self.old.bank }
         ensures origin { self.new.origin ≡ self.old.origin }
         ensures history { OnOk result (self.new.history ≡ self.old.history ++ Return batch ∷ []) }
+        ensures open { OnErr result ((replay self.old.origin self.old.history).ended ≡ None) }
         ensures unchanged { OnErr result (self.new ≡ self.old) }
         ensures batch { IfErr result (λ refused. refused.batch ≡ batch) }
     {
@@ -116,7 +119,7 @@ fn take_memory<R: Wait>(
     bank: &Bank,
     table: &mut Table,
     proof: &mut ProofState,
-    counted: &mut Vec<Key>,
+    counted: &mut CountedKeys,
     set_aside: &mut Vec<Key>,
     out: usize,
     work: &Work,
@@ -134,9 +137,9 @@ fn take_memory<R: Wait>(
     ensures ended { proof.new.ended ≡ proof.old.ended }
     ensures room { OnOk result
         (HasRoom proof.new (lines_of_entries (entries_of work.now) ++ lines_of_removals (removals_of work.now)) (length (removals_of work.now)) out) }
-    ensures counted { counted.new.items ≡ counted.old.items }
+    ensures counted { keys_in counted.new ≡ keys_in counted.old }
     ensures counted_room { OnOk result
-        (vec_len counted.new + (length (entries_of work.now) + length (removals_of work.now)) ≤ vec_capacity counted.new) }
+        (vec_len counted.new.keys + (length (entries_of work.now) + length (removals_of work.now)) ≤ vec_capacity counted.new.keys) }
     ensures set_aside { OnOk result (set_aside.new.items ≡ set_aside.old.items ++ heavy_keys_of work.now) }
     ensures not_set_aside { OnErr result (set_aside.new.items ≡ set_aside.old.items) }
 {

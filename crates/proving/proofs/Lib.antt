@@ -1,8 +1,5 @@
 -- A map of the proofs.
--- Lists of told numbers (ToldLemmas), what events tell (EventLemmas), what an index learns (LearnedLemmas), and its work (TicketLemmas).
-mod ToldLemmas
-mod EventLemmas
-mod LearnedLemmas
+-- An index that learned what a ticket tells: TicketLemmas.
 mod TicketLemmas
 -- What a claim can't answer: ClaimLemmas.
 mod ClaimLemmas

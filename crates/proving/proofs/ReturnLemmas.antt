@@ -24,7 +24,8 @@ use Rattle.pool_core.proofs.AboutRecords.FrameLemmas.{by-if}
 use Rattle.pool_core.proofs.AboutClaims.HistoryLemmas.{replay-end}
 use Rattle.pool_core.proofs.AboutRecords.NewsLemmas.{worked-given}
 use Rattle.given_work.specs.View.{IndexView}
-use Rattle.proving.specs.Progress.{HasLearned, HasNoJob, HasOut, IsGiven, IsIndexOf, IsLater}
+use Rattle.given_work.specs.Learned.{HasLearned}
+use Rattle.proving.specs.Progress.{HasNoJob, HasOut, IsGiven, IsIndexOf, IsLater}
 
 -- ---- later pools
 

@@ -1,5 +1,5 @@
 -- What an index knows of a pool, and how a pool goes on.
-use Rattle.std.specs.Prelude.{◌≡◌, ℕ, ◌≤◌, false, List, [], map, length, take, IsSome}
+use Rattle.std.specs.Prelude.{◌≡◌, ℕ, false, length, IsSome}
 use mathlib.Core.List.{IsPrefix}
 use Rattle.term_bank.specs.Bank.{identity}
 use Rattle.term_bank.specs.declared.bank.Bank.{Bank}
@@ -8,19 +8,10 @@ use Rattle.pool_core.specs.View.{PoolView}
 use Rattle.pool_core.specs.Record.{jobs_out}
 use Rattle.pool_core.specs.Outcomes.{outcome_of}
 use Rattle.pool_core.specs.Replay.{replay}
-use Rattle.pool_core.specs.News.{change_of, news_since}
 use Rattle.pool_core.specs.Answers.{IsTicket, IsTicketOf}
-use Rattle.pool_core.specs.declared.ticket.Change.{Change}
 use Rattle.pool_core.specs.declared.ticket.Ticket.{Ticket}
 use Rattle.given_work.specs.View.{IndexView}
-use Rattle.given_work.specs.Learning.{learned}
-
--- The index learned the changes of the first `told` events of the pool's history, in their order and no others.
-pub record HasLearned (pool : PoolView) (index : IndexView) : Type 0 where
-  pub told : index.told ≤ length pool.history
-  pub changes : List Change
-  pub of_history : map change_of changes ≡ news_since pool.origin (take index.told pool.history) 0
-  pub members : index.members ≡ learned [] changes
+use Rattle.given_work.specs.Learned.{HasLearned}
 
 -- The index may be used on tickets of the pool.
 pub record IsIndexOf (bank : Bank) (pool : PoolView) (index : IndexView) : Type 0 where

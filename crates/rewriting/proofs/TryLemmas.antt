@@ -1,6 +1,7 @@
 -- One entry of the index at a term: what it gives.
-use Rattle.std.proofs.Common.{◌≡◌, ℕ, Bool, true, false, not, ◌&&◌, List, [], ◌∷◌, map, refl, ap, sym, ◌∙◌, subst, Bor}
-use Rattle.std.specs.Prelude.{Option, None, Some, IsTrue, IfSome, MatchOption, slice_get, option_map, option_and_then, if◌then◌else◌}
+use Rattle.std.proofs.Common.{◌≡◌, ℕ, ◌<◌, ◌≤◌, ◌+◌, ◌*◌, Bool, true, false, not, ◌&&◌, List, [], ◌∷◌, map, refl, ap, sym, ◌∙◌, subst, Bor, arith}
+use Rattle.std.specs.Prelude.{filter, sum_by, Option, None, Some, IsTrue, IfSome, MatchOption, slice_get, option_map, option_and_then, if◌then◌else◌}
+use Rattle.plain_types.specs.declared.sequence.NameLit.{NameLit}
 use Rattle.fol_base.specs.Subsumption.{assertions, is_among}
 use Rattle.bank_clause.specs.Clause.{clause_at}
 use Rattle.bank_clause.specs.Parts.{assertion}
@@ -8,14 +9,17 @@ use Rattle.bank_clause.specs.declared.member.Member.{Member}
 use Rattle.rewriting.specs.declared.units.Unit.{Unit}
 use Rattle.std.proofs.lemmas.Bool.{true≢false, false_from_ne_true, and_parts, and_from}
 use Rattle.std.proofs.lemmas.Option.{none-some, same_Some}
-use Rattle.fol_base.specs.Tree.{Tree, is_variable, VariablesBelow}
-use Rattle.fol_base.specs.Instance.{Substitution, instance}
-use Rattle.fol_base.specs.Clause.{TreeLiteral, TreeClause}
+use Rattle.fol_base.specs.Tree.{Tree, variable, application, Trees, no_trees, tree_then, tree_size, trees_size, is_variable, VariablesBelow}
+use Rattle.fol_base.specs.Instance.{Substitution, instance, instances}
+use Rattle.fol_base.specs.Clause.{TreeLiteral, TreeClause, literal_size, clause_size}
 use Rattle.fol_base.specs.Sides.{side_of, other_side_of}
 use Rattle.fol_base.specs.Order.{tree_greater}
 use Rattle.fol_base.specs.declared.clause.Side.{Side}
+use Rattle.fol_base.specs.declared.clause.Side.TheVariants.{Left, Right}
+use Rattle.fol_base.proofs.AboutTerms.TreeLemmas.{tree_size-positive}
 use Rattle.fol_base.proofs.AboutOrders.TreeOrderLemmas.{tree_greater-itself, tree_greater-trans}
 use Rattle.kbo_order.proofs.AboutLaws.StableLemmas.{trees_stable}
+use Rattle.kbo_order.proofs.AboutReading.HeadLemmas.{smaller-not_greater}
 use Rattle.unifier.specs.Laws.{are_of_one_kind, AreFunctionPairs}
 use Rattle.unifier.specs.Matching.{by_pairs, are_below, IsMatched, NoMatcher}
 use Rattle.rewriting.specs.Units.{has_other_variables, may_rewrite, side_number, usable, usable_clause, is_kept, clause_numbered}
@@ -33,8 +37,8 @@ no_matcher e s spot old none σ r = none σ tt r.matches
 pub atom_variable :
     (e : TreeLiteral) (s : Side) (spot : Spot) (old : Tree)
     → spot.is_atom ≡ true → is_variable (side_of s e) ≡ true → (σ : Substitution) → IsRedex e s spot old σ → ⊥
-atom_variable e s spot old atom variable σ r =
-    true≢false (sym (and_from (is_variable (side_of s e)) spot.is_atom variable atom) ∙ r.no_atom)
+atom_variable e s spot old atom hidden σ r =
+    true≢false (sym (and_from (is_variable (side_of s e)) spot.is_atom hidden atom) ∙ r.no_atom)
 
 pub not_taken :
     (e : TreeLiteral) (s : Side) (spot : Spot) (old : Tree) (found : List (ℕ × Tree))
@@ -188,6 +192,35 @@ pub one-way :
     (e : TreeLiteral) (s : Side) (spot : Spot) (old : Tree) → may_rewrite s e ≡ false → (σ : Substitution) → IsRedex e s spot old σ → ⊥
 one-way e s spot old refused σ r = true≢false (sym (redex-may e s spot old σ r) ∙ refused)
 
+-- ---- sizes
+
+mutual
+  -- an instance is no smaller
+  instance-no_smaller : (σ : Substitution) (t : Tree) → tree_size t ≤ tree_size (instance σ t)
+  instance-no_smaller σ (variable v) = tree_size-positive (σ v)
+  instance-no_smaller σ (application f ts) = omega (arith, instances-no_smaller σ ts)
+
+  instances-no_smaller : (σ : Substitution) (ts : Trees) → trees_size ts ≤ trees_size (instances σ ts)
+  instances-no_smaller σ no_trees = omega arith
+  instances-no_smaller σ (tree_then t ts) = omega (arith, instance-no_smaller σ t, instances-no_smaller σ ts)
+
+either-side_size : (e : TreeLiteral) (s : Side) → literal_size e ≡ tree_size (side_of s e) + tree_size (other_side_of s e)
+either-side_size e Left = refl
+either-side_size e Right = omega arith
+
+-- an equation that is more than twice as large as a term has no redex there: a side that matches is no larger, so the other one is larger
+pub too_large :
+    (c : TreeClause) (e : TreeLiteral) (s : Side) (spot : Spot) (old : Tree)
+    → c.literals ≡ e ∷ [] → 2 * tree_size old < clause_size c → (σ : Substitution) → IsRedex e s spot old σ → ⊥
+too_large c e s spot old alone large σ r =
+    let side : Tree = side_of s e in
+    let other : Tree = other_side_of s e in
+    let whole : clause_size c ≡ literal_size e = ap (sum_by literal_size) alone ∙ omega arith in
+    let matched : tree_size (instance σ side) ≡ tree_size old = ap tree_size r.matches in
+    let larger : tree_size old < tree_size (instance σ other) =
+    omega (arith, whole, matched, large, either-side_size e s, instance-no_smaller σ side, instance-no_smaller σ other) in
+    true≢false (sym r.greater ∙ sym (smaller-not_greater old (instance σ other) larger))
+
 -- such a side has the other's variables
 pub may-has : (e : TreeLiteral) (s : Side) → may_rewrite s e ≡ true → has_other_variables s e ≡ true
 may-has e s may = (and_parts (has_other_variables s e) (not (tree_greater (other_side_of s e) (side_of s e))) may).0
@@ -218,6 +251,17 @@ pub usable-is :
 usable-is ms out names n o u may is some may_is =
     ap (option_and_then (usable_clause out names n)) (sym is ∙ ap (option_map (λ (b : Bor Unit). b.now.clause)) some)
     ∙ ap (λ (b : Bool). if b then Some (clause_at u.now.clause) else None) (sym may_is)
+
+pub asserted-are : (ns : List NameLit) → map (λ (n : NameLit). n.name) (filter (λ (n : NameLit). not n.positive) ns) ≡ assertions ns
+asserted-are [] = refl
+asserted-are (n ∷ ns) = from n.positive (asserted-are ns)
+  where
+    from :
+        (b : Bool) → map (λ (k : NameLit). k.name) (filter (λ (k : NameLit). not k.positive) ns) ≡ assertions ns
+        → map (λ (k : NameLit). k.name) (if not b then n ∷ filter (λ (k : NameLit). not k.positive) ns else filter (λ (k : NameLit). not k.positive) ns)
+        ≡ (if b then assertions ns else (n.name ∷ assertions ns))
+    from true h = h
+    from false h = ap (λ ks. n.name ∷ ks) h
 
 pub numbers-asserted : (ns : List ℕ) → assertions (map assertion ns) ≡ ns
 numbers-asserted [] = refl

@@ -1,5 +1,5 @@
 -- The map of units: what is kept of each unit, and which sides are found.
-use Rattle.std.proofs.Common.{◌≡◌, ℕ, ◌<◌, ◌^◌, Bool, List, [], ◌∷◌, map, refl, ap, sym, ◌∙◌, subst, Bor}
+use Rattle.std.proofs.Common.{◌≡◌, ℕ, ◌<◌, ◌^◌, List, [], ◌∷◌, map, ap, sym, ◌∙◌, subst, Bor}
 use Rattle.std.specs.Prelude.{Option, None, Some, option_copied, cond, nat_eq, IfSome, IsTrue}
 use Rattle.std.specs.Map.{lookup}
 use Rattle.fol_base.specs.Tree.{Tree}

@@ -8,7 +8,9 @@ mod searching;
 mod spot;
 mod trying;
 mod units;
+mod usable;
 
 pub use members::rewritable;
 pub use searching::{Found, Rewrite, Rewriters};
 pub use units::{Units, is_unit};
+pub use usable::{asserted_numbers, is_kept};

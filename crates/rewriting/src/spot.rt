@@ -63,13 +63,14 @@ impl<'s> Spot<'s> {
     }
 }
 
-/// Whether an instance is smaller than a term.
-pub(crate) fn is_smaller(new: &Term, terms: &Matched<'_>, old: &Term) -> bool
-    requires { tree_size (tree_of old.now) < SIZE_LIMIT }
+/// Whether an instance is smaller than a term, which has a size.
+pub(crate) fn is_smaller(new: &Term, terms: &Matched<'_>, old: &Term, size: u64) -> bool
+    requires size { size ≡ tree_size (tree_of old.now) }
+    requires small { size < SIZE_LIMIT }
     ensures exact { result ≡ tree_greater (tree_of old.now) (instance (by_pairs terms.now) (tree_of new.now)) }
     ensures size { IsTrue result → tree_size (instance (by_pairs terms.now) (tree_of new.now)) < SIZE_LIMIT }
 {
-    if instance_size(new, terms) > old.size() {
+    if instance_size(new, terms) > size {
         return false;
     }
     greater_under(old, &Unbound, new, terms)

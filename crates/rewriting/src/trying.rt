@@ -1,7 +1,7 @@
 // Which unit rewrites one term, at the spot where it stands.
 
-ghost use Rattle.std.specs.Prelude.{◌≡◌, ◌==◌, ◌&&◌, ◌<◌, IfOk, IfSome, IsTrue};
-ghost use Rattle.std.specs.List.{list_any};
+ghost use Rattle.std.specs.Prelude.{◌≡◌, ◌&&◌, ◌<◌, ◌*◌, ◌↔◌, IfOk, IfSome, IsTrue};
+ghost use Rattle.fol_base.specs.Clause.{clause_size};
 ghost use Rattle.fol_base.specs.Lent.{lent_of};
 ghost use Rattle.fol_base.specs.Subsumption.{assertions, is_among};
 ghost use Rattle.fol_base.specs.Instance.{instance};
@@ -21,6 +21,7 @@ use crate::index::side_of_number;
 use crate::searching::{Rewrite, Rewriters};
 use crate::spot::{Spot, is_smaller};
 use crate::units::Unit;
+use crate::usable::{are_among, is_kept};
 use bank_clause::BankClause;
 use fol_base::{LendsLiterals, LiteralRef, Side, Term};
 use plain_types::Mem;
@@ -41,24 +42,30 @@ impl<'a> Rewriters<'a> {
         ensures { IfOk result (IsFoundAt (usable_by self.now) (spot_of spot.entry) (tree_of term.now)) }
     {
         let found = self.units.candidates(term)?;
+        if found.is_empty() {
+            return Ok(None);
+        }
+        let size = term.size();
         for entry in found.as_slice() {
-            if let Some(rewrite) = self.try_entry(alloc, *entry, term, spot)? {
+            if let Some(rewrite) = self.try_entry(alloc, *entry, term, size, spot)? {
                 return Ok(Some(rewrite));
             }
         }
         Ok(None)
     }
 
-    /// The rewrite of a term by the side that has a number. None exactly where that side doesn't rewrite it.
+    /// The rewrite of a term, which has a size, by the side that has a number. None exactly where that side doesn't rewrite it.
     fn try_entry<'t>(
         &self,
         alloc: Global,
         entry: u64,
         term: &'t Term,
+        size: u64,
         spot: Spot<'_>,
     ) -> Mem<Option<Rewrite<'t>>>
         requires units { AreClausesOf self.now.bank.now self.now.units.now }
-        requires size { tree_size (tree_of term.now) < SIZE_LIMIT }
+        requires size { size ≡ tree_size (tree_of term.now) }
+        requires small { size < SIZE_LIMIT }
         requires limit { LimitFits (spot_of spot) }
         ensures { IfOk result (IsTried (usable_by self.now) (spot_of spot.entry) (tree_of term.now) entry) }
     {
@@ -69,8 +76,11 @@ impl<'a> Rewriters<'a> {
         if !unit.by.has(side) {
             return Ok(None);
         }
+        if is_too_large(&unit.clause, size) {
+            return Ok(None);
+        }
         let literals = unit.clause.lend(self.bank);
-        match match_side(alloc, literals.literal(0), side, term, spot)? {
+        match match_side(alloc, literals.literal(0), side, term, size, spot)? {
             None => Ok(None),
             Some(terms) => Ok(Some(Rewrite {
                 number,
@@ -103,17 +113,28 @@ impl<'a> Rewriters<'a> {
     }
 }
 
-/// What the variables of an equation become where a side of it rewrites a term at a spot; the other side has no others. None exactly
-/// where it doesn't.
+/// Whether a unit has more than twice as many symbols as a term of a size. Then it doesn't rewrite the term: a side that matches it has at
+/// most as many, so the other side has more, and so has each instance of that one, which isn't smaller than the term.
+fn is_too_large(unit: &BankClause, size: u64) -> bool
+    requires { size < SIZE_LIMIT }
+    ensures { IsTrue result ↔ 2 * size < clause_size (clause_at unit.now) }
+{
+    u64::from(unit.size()) > 2 * size
+}
+
+/// What the variables of an equation become where a side of it rewrites a term, which has a size, at a spot; the other side has no other
+/// variables. None exactly where it doesn't.
 fn match_side<'t>(
     alloc: Global,
     equation: LiteralRef<'_>,
     side: Side,
     term: &'t Term,
+    size: u64,
     spot: Spot<'_>,
 ) -> Mem<Option<Matched<'t>>>
     requires variables { IsTrue (has_other_variables side (lent_of equation)) }
-    requires size { tree_size (tree_of term.now) < SIZE_LIMIT }
+    requires size { size ≡ tree_size (tree_of term.now) }
+    requires small { size < SIZE_LIMIT }
     requires limit { LimitFits (spot_of spot) }
     ensures { IfOk result (IsMatchedSide (lent_of equation.entry) side (spot_of spot.entry) (tree_of term.now)) }
 {
@@ -124,7 +145,7 @@ fn match_side<'t>(
     match match_onto(alloc, pattern, term, &Matched::empty(alloc))? {
         None => Ok(None),
         Some(terms) => {
-            if takes(spot, term, equation.other_side(side), &terms) {
+            if takes(spot, term, size, equation.other_side(side), &terms) {
                 Ok(Some(terms))
             } else {
                 Ok(None)
@@ -133,14 +154,15 @@ fn match_side<'t>(
     }
 }
 
-/// Whether an instance may take the place of a term at a spot: it is smaller, and within the limit.
-fn takes(spot: Spot<'_>, old: &Term, new: &Term, terms: &Matched<'_>) -> bool
-    requires size { tree_size (tree_of old.now) < SIZE_LIMIT }
+/// Whether an instance may take the place of a term, which has a size, at a spot: it is smaller, and within the limit.
+fn takes(spot: Spot<'_>, old: &Term, size: u64, new: &Term, terms: &Matched<'_>) -> bool
+    requires size { size ≡ tree_size (tree_of old.now) }
+    requires small { size < SIZE_LIMIT }
     requires limit { LimitFits (spot_of spot) }
     ensures { result ≡ (tree_greater (tree_of old.now) (instance (by_pairs terms.now) (tree_of new.now))
         && is_within (spot_of spot.entry).limit (instance (by_pairs terms.now) (tree_of new.now))) }
 {
-    is_smaller(new, terms, old) && spot.admits(new, terms)
+    is_smaller(new, terms, old, size) && spot.admits(new, terms)
 }
 
 /// Whether a variable would stand for an atom at a spot.
@@ -148,29 +170,6 @@ fn is_atom_variable(spot: Spot<'_>, pattern: &Term) -> bool
     ensures { result ≡ (is_variable (tree_of pattern.now) && (spot_of spot.entry).is_atom) }
 {
     is_variable(pattern) && spot.is_atom
-}
-
-/// Whether a number isn't the one that is left out.
-fn is_kept(left_out: Option<u32>, number: u64) -> bool
-    ensures { result ≡ is_kept left_out number }
-{
-    match left_out {
-        None => true,
-        Some(out) => number != u64::from(out),
-    }
-}
-
-/// Whether all numbers of a list are in another one.
-fn are_among(numbers: &[u32], others: &[u32]) -> bool
-    ensures { result ≡ is_among numbers.now others.now }
-{
-    numbers.iter().all(|number| is_among(*number, others))
-}
-
-fn is_among(number: u32, others: &[u32]) -> bool
-    ensures { result ≡ list_any (λ m. number == m) others.now }
-{
-    others.iter().any(|other| number == *other)
 }
 
 /// Whether a term is a variable.

@@ -5,7 +5,6 @@ pub mod EntryLemmas
 pub mod FixedLemmas
 pub mod HistoryLemmas
 pub mod MeetingLemmas
-pub mod MoveLemmas
 pub mod RegisteredLemmas
 pub mod RemovalLemmas
 pub mod ReturnLemmas

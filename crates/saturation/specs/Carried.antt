@@ -11,7 +11,7 @@ use Rattle.kernel_steps.specs.declared.key.Key.{Key}
 use Rattle.sat_core.specs.Clause.{Valuation}
 use Rattle.pool_core.specs.Record.{PoolRecord, clauses_of, clause_numbered, lives, is_awake_under}
 use Rattle.pool_core.specs.Outcomes.{premises}
-use Rattle.saturation.specs.Cover.{CoversEach}
+use Rattle.calculus.specs.Coverage.{CoversEach}
 
 -- a registered clause that lives and is awake
 abbrev pub IsHeld : Valuation → PoolRecord → TreeClause → Type 0

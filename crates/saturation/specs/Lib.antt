@@ -1,4 +1,3 @@
-pub mod Cover
 pub mod Carried
 pub mod Found
 pub mod Laws

@@ -1,5 +1,5 @@
-// Laws of the saturation of a pool, and worked examples: each is the contract of a function without arguments. Bodies only call the laws of the
-// calculus, on which the proofs stand.
+// Laws of the saturation of a pool, and worked examples: each is the contract of a function without arguments. The proofs stand on those of the laws
+// of the calculus.
 
 mod carried;
 mod examples;

@@ -2,3 +2,4 @@ pub mod Usable
 pub mod Steps
 pub mod Reducing
 pub mod Simplified
+pub mod Examples

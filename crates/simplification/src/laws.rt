@@ -1,14 +1,28 @@
 // Worked examples: the contract of a function without arguments and with an empty body.
 
 ghost use Rattle.std.specs.Prelude.{◌≡◌, [], ◌∷◌, None, Some};
-ghost use Rattle.fol_base.specs.Examples.{a, b, clause, equation, is_predicate};
-ghost use Rattle.reduction.specs.Examples.{units};
+ghost use Rattle.fol_base.specs.Examples.{a, b, c, clause, equation, f, is_predicate, p};
+ghost use Rattle.fol_base.specs.Rules.{disequation};
+ghost use Rattle.reduction.specs.Examples.{given, units};
 ghost use Rattle.simplification.specs.Usable.{without};
-ghost use Rattle.simplification.specs.Simplified.{LeadsToTautology};
+ghost use Rattle.simplification.specs.Simplified.{IsOutcome, LeadsToTautology};
+ghost use Rattle.simplification.specs.Examples.{alone, as_it_was, members};
+ghost use Rattle.simplification.specs.declared.simplifying.Simplified.TheVariants.{Subsumed};
 
 /// Of two units, which have the numbers 0 and 1, the one that isn't left out may be used; and a tautology, to which no step needs to lead.
 pub fn simplification_examples()
     ensures left_out { without (Some 1) units 1 ≡ None }
     ensures kept { without (Some 1) units 0 ≡ Some (clause (equation a b ∷ [])) }
     ensures tautology { LeadsToTautology is_predicate units (clause (equation a a ∷ [])) }
+{}
+
+/// What becomes of p(a), which stands alone in a set: where it is left out, it stays as it was, and isn't subsumed; else it is subsumed by
+/// itself, and doesn't stay. Nor does a tautology stay, or a clause that a unit rewrites.
+pub fn outcome_examples()
+    ensures stays { IsOutcome is_predicate (without (Some 0) members) alone (as_it_was (p a)) }
+    ensures left_out { IsOutcome is_predicate (without (Some 0) members) alone (Subsumed 0) → ⊥ }
+    ensures subsumed { IsOutcome is_predicate (without None members) alone (Subsumed 0) }
+    ensures not_subsumed { IsOutcome is_predicate (without None members) alone (as_it_was (p a)) → ⊥ }
+    ensures tautology { IsOutcome is_predicate units (clause (equation a a ∷ [])) (as_it_was (equation a a)) → ⊥ }
+    ensures rewritten { IsOutcome is_predicate units given (as_it_was (disequation (f b) c)) → ⊥ }
 {}

@@ -1,6 +1,6 @@
 // A clause reduced until no reducing step applies.
 
-ghost use Rattle.std.specs.Prelude.{◌≡◌, ◌≤◌, IfOk, OnErr, IsTrue, filter, map, not};
+ghost use Rattle.std.specs.Prelude.{◌≡◌, ◌≤◌, IfOk, IsTrue};
 ghost use Rattle.fol_base.specs.Canonical.{IsCanonical};
 ghost use Rattle.fol_base.specs.Clause.{clause_size};
 ghost use Rattle.fol_base.specs.Literal.{clause_of};
@@ -14,9 +14,9 @@ use crate::stepping::step;
 use cutting::is_tautology;
 use demodulate::laws::rewriting_ends;
 use kernel_steps::Reduced;
-use plain_types::{Mem, NameLit};
+use plain_types::Mem;
 use reduction::laws::moves_extend_reductions;
-use rewriting::Rewriters;
+use rewriting::{Rewriters, asserted_numbers};
 use std::alloc::Global;
 
 /// How reducing ended.
@@ -57,16 +57,4 @@ pub fn reduce(alloc: Global, by: &Simplifiers<'_>, reduced: &mut Reduced) -> Mem
             return Ok(Reduction::Tautology);
         }
     }
-}
-
-/// The numbers of the names that are asserted: the negative ones.
-fn asserted_numbers(alloc: Global, names: &[NameLit]) -> Mem<Vec<u32>>
-    ensures { IfOk result (λ asserted. asserted.items ≡ map (λ n. n.name) (filter (λ n. not n.positive) names.now)) }
-{
-    let asserted = names
-        .iter()
-        .filter(|name| !name.positive)
-        .map(|name| name.name)
-        .collect(alloc)?;
-    Ok(asserted)
 }

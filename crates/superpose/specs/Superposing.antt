@@ -1,15 +1,18 @@
 -- Superposition from one site into another.
 use mathlib.Core.Bool.{beq}
-use Rattle.std.specs.Prelude.{◌≡◌, ℕ, Bool, true, false, ◌&&◌, not, List, [], ◌∷◌, slice_get, Option, None, Some, IsTrue}
-use Rattle.fol_base.specs.Tree.{Tree, tree_eq, is_truth, is_variable}
+use Rattle.std.specs.Prelude.{◌≡◌, ℕ, ◌+◌, ◌-◌, ◌*◌, max, nat_lt, Bool, true, false, ◌&&◌, not, List, [], ◌∷◌, slice_get, Option, None, Some, IsTrue}
+use Rattle.fol_base.specs.Tree.{Tree, tree_eq, tree_size, is_truth, is_variable}
 use Rattle.fol_base.specs.Instance.{Substitution, instance}
 use Rattle.fol_base.specs.Place.{subterm}
-use Rattle.fol_base.specs.Clause.{TreeLiteral, TreeClause, clause_variables}
+use Rattle.fol_base.specs.Clause.{TreeLiteral, TreeClause, clause_instance, clause_size, clause_variables}
 use Rattle.fol_base.specs.Ground.{literals_instance}
 use Rattle.fol_base.specs.Canonical.{bound_of}
 use Rattle.fol_base.specs.Selection.{SelectionMode, chosen, eligible}
 use Rattle.fol_base.specs.Sides.{side_of, other_side_of}
 use Rattle.fol_base.specs.WellFormed.{SymbolUse, are_literals_of}
+use Rattle.fol_base.specs.declared.clause.Side.{Side}
+use Rattle.fol_base.specs.declared.clause.Side.TheVariants.{Left, Right}
+use Rattle.fol_base.specs.declared.limits.TheConstants.{MOST_SYMBOLS}
 use Rattle.kernel_steps.specs.Inference.{other_side_not_above}
 use Rattle.kernel_steps.specs.declared.key.Key.{Key}
 use Rattle.kernel_steps.specs.declared.key.Key.TheVariants.{Para}
@@ -17,7 +20,7 @@ use Rattle.bank_clause.specs.Clause.{clause_at}
 use Rattle.bank_clause.specs.declared.member.Member.{Member}
 use Rattle.unifier.specs.Bindings.{IsUnified}
 use Rattle.unifier.specs.Renaming.{fits}
-use Rattle.unifier.specs.SolvedForm.{SolvedForm}
+use Rattle.unifier.specs.SolvedForm.{SolvedForm, substitution_of}
 use Rattle.eq_rules.specs.Trying.{IsTried}
 use Rattle.eq_rules.specs.declared.inference.Made.{Made}
 use Rattle.superpose.specs.Sites.{can_start, can_enter}
@@ -99,6 +102,11 @@ abbrev pub are_alike : LiteralSide → LiteralPlace → TreeLiteral → TreeLite
 are_alike s t l m old =
     not (is_truth old) && beq (is_truth (other_side_of s.side l)) (is_root t.place && is_truth (other_side_of t.at.side m))
 
+-- at the root of a positive literal two atoms meet, whose other sides are both `$true`
+abbrev pub are_positive_atoms : LiteralSide → LiteralPlace → TreeLiteral → TreeLiteral → Bool
+are_positive_atoms s t l m =
+    (m.positive && is_root t.place) && (is_truth (other_side_of s.side l) && is_truth (other_side_of t.at.side m))
+
 -- a most general unifier of a side of one clause and the term at a place of another that are alike, with no variables but the clauses'
 pub record SuperposesBy (b : SolvedForm) (c : TreeClause) (s : LiteralSide) (d : TreeClause) (t : LiteralPlace) : Type 0 where
   pub starts : StartsAt c.literals s
@@ -112,3 +120,20 @@ pub record AreSites (mode : SelectionMode) (c : TreeClause) (s : LiteralSide) (d
   pub starts : can_start mode c.literals s ≡ true
   pub enters : can_enter mode d.literals t.at ≡ true
   pub choice_is : choice ≡ chosen mode d.literals
+
+-- ---- sizes
+
+-- a clause's size under a unifier
+abbrev pub size_under : SolvedForm → Side → TreeClause → ℕ
+size_under b z c = clause_size (clause_instance (substitution_of b z) c)
+
+-- Whether one of two clauses, or what is inferred from them, has more symbols than a clause may have that is kept, by the sizes of both and
+-- of the side from which it starts: this goes twice, with its literal and at the place.
+abbrev pub is_heavy : ℕ → ℕ → ℕ → Bool
+is_heavy left right side = nat_lt MOST_SYMBOLS (max (max left right) (left + right - 2 * side))
+
+-- the same of a superposition by a unifier
+abbrev pub IsHeavyUnder : SolvedForm → TreeClause → LiteralSide → TreeClause → Bool → Type 0
+IsHeavyUnder b c s d heavy =
+    (l : TreeLiteral) → slice_get c.literals s.literal ≡ Some l
+    → heavy ≡ is_heavy (size_under b Left c) (size_under b Right d) (tree_size (instance (substitution_of b Left) (side_of s.side l)))

@@ -7,6 +7,7 @@ ghost use Rattle.fol_base.specs.Clause.{clause_variables};
 ghost use Rattle.fol_base.specs.Canonical.{bound_of};
 ghost use Rattle.fol_base.specs.Ground.{literals_instance};
 ghost use Rattle.kernel_steps.specs.Names.{sorted_names};
+ghost use Rattle.kernel_steps.specs.declared.step.Step.TheVariants.{Para};
 ghost use Rattle.bank_clause.specs.Clause.{clause_at, IsMemberOf};
 ghost use Rattle.superpose.specs.Superposing.{EntersAt};
 ghost use Rattle.superpose.specs.Concluding.{IsSuperpositionStep, superposed_at};
@@ -80,25 +81,38 @@ pub fn conclude_superposition(
         &into.place,
     )? {
         None => unreachable!(),
-        Some(made) => {
-            let clause = Clause {
-                literals: made,
-                names: names_of(alloc, &first.clause, &second.clause)?,
-            };
-            let step = Step::Para {
-                first: u64::from(first.number),
-                second: u64::from(second.number),
-                from: literal,
-                from_side: from.side,
-                into: target,
-                into_side: into.at.side,
-                place: into.place.copy(alloc)?,
-                first_bind,
-                second_bind,
-            };
-            Ok(Made::Conclusion(step, clause))
+        Some(literals) => {
+            let names = names_of(alloc, &first.clause, &second.clause)?;
+            let step = para_step(alloc, first, from, second, into, first_bind, second_bind)?;
+            Ok(Made::Conclusion(step, Clause { literals, names }))
         }
     }
+}
+
+/// The step of the superposition that puts in these terms.
+fn para_step(
+    alloc: Global,
+    first: &Member,
+    from: LiteralSide,
+    second: &Member,
+    into: &LiteralPlace,
+    first_bind: Terms,
+    second_bind: Terms,
+) -> Mem<Step>
+    ensures { IfOk result (λ step. step ≡ Para first.now.number second.now.number
+        from.literal from.side into.now.at.literal into.now.at.side into.now.place first_bind second_bind) }
+{
+    Ok(Step::Para {
+        first: u64::from(first.number),
+        second: u64::from(second.number),
+        from: from.literal as u64,
+        from_side: from.side,
+        into: into.at.literal as u64,
+        into_side: into.at.side,
+        place: into.place.copy(alloc)?,
+        first_bind,
+        second_bind,
+    })
 }
 
 /// The names of a conclusion from two premises.

@@ -21,7 +21,7 @@ ghost use Rattle.superpose.specs.Sites.{
   places,
   start_sites,
 };
-ghost use Rattle.superpose.specs.Superposing.{allows, are_alike, enters_under, others_coincide, para_key, starts_under};
+ghost use Rattle.superpose.specs.Superposing.{allows, are_alike, are_positive_atoms, enters_under, is_heavy, others_coincide, para_key, starts_under};
 ghost use Rattle.superpose.specs.Pairing.{entry_of, is_between, is_from_into, is_superposition, keys_between};
 
 /// Each superposition starts from a site of the first clause and goes into one of the second: an index of the sites misses none. And no
@@ -62,6 +62,10 @@ pub fn superposition_examples()
     ensures not_allowed { IsFalse (allows
         (equation (f a) b ∷ []) (side_at 0 Left) (equation (f a) b ∷ []) (place_at 0 Left []) None variable variable) }
     ensures atoms { IsTrue (are_alike (side_at 0 Left) (place_at 0 Left []) (p a) (not_p (x 0)) (p (x 0)).left) }
+    ensures positive_atoms { IsTrue (are_positive_atoms (side_at 0 Left) (place_at 0 Left []) (p a) (p (x 0))) }
+    ensures opposite_atoms { IsFalse (are_positive_atoms (side_at 0 Left) (place_at 0 Left []) (p a) (not_p (x 0))) }
+    ensures heavy { IsTrue (is_heavy 2000 2100 49) }
+    ensures light { IsFalse (is_heavy 2000 2100 50) }
     ensures atom_and_term { IsFalse (are_alike (side_at 0 Left) (place_at 0 Left (0 ∷ [])) (p a) (not_p a) a) }
 {}
 

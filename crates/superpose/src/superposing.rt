@@ -1,9 +1,10 @@
 // Superposition from one site into another: the side of an equation is unified with the term at a place, and the order is asked under the
 // unifier before anything is built.
 
-ghost use Rattle.std.specs.Prelude.{◌≡◌, ◌<◌, ◌&&◌, true, List, None, Some, length, slice_get, sum_by, IfOk};
+ghost use Rattle.std.specs.Prelude.{◌≡◌, ◌↔◌, ◌<◌, ◌≤◌, ◌+◌, ◌*◌, ◌&&◌, true, List, None, Some, length, slice_get, sum_by, IfOk};
 ghost use Rattle.fol_base.specs.Instance.{Substitution, substitution};
-ghost use Rattle.fol_base.specs.Clause.{TreeLiteral, literal_size};
+ghost use Rattle.fol_base.specs.Clause.{TreeLiteral, clause_size, literal_size};
+ghost use Rattle.fol_base.specs.declared.clause.Side.TheVariants.{Left, Right};
 ghost use Rattle.fol_base.specs.Ground.{literals_instance};
 ghost use Rattle.fol_base.specs.Term.{tree_of};
 ghost use Rattle.fol_base.specs.Lent.{lent_of};
@@ -24,15 +25,18 @@ ghost use Rattle.superpose.specs.Superposing.{
   starts_under,
   others_coincide,
   are_alike,
+  are_positive_atoms,
+  is_heavy,
+  size_under,
+  IsHeavyUnder,
 };
 
 use crate::concluding::conclude_superposition;
 use crate::sites::{LiteralPlace, Premise, Sites};
-use bank_clause::BankLiterals;
+use bank_clause::{BankClause, BankLiterals};
 use eq_rules::{LiteralSide, Made, is_not_below};
 use fol_base::{
-    LendsLiterals, LiteralRef, MOST_SYMBOLS, SIZE_LIMIT, Side, Term, Terms, at, instance_size,
-    same_instance,
+    LendsLiterals, LiteralRef, MOST_SYMBOLS, SIZE_LIMIT, Side, Term, Terms, at, same_instance,
 };
 use kbo_order::COMPARED_SIZE_LIMIT;
 use literal_selection::eligible_under;
@@ -91,6 +95,9 @@ pub fn superposition_at(
     let second_literals = second.member.clause.lend(bank);
     let equation = first_literals.literal(from.literal);
     let target = second_literals.literal(into.at.literal);
+    if are_positive_atoms(equation, from, target, into) {
+        return Ok(None);
+    }
     let Some(old) = at(target.side(into.at.side), &into.place) else {
         unreachable!();
     };
@@ -101,6 +108,20 @@ pub fn superposition_at(
         None => Ok(None),
         Some(unifier) => superposition_by(alloc, bank, first, from, second, into, &unifier),
     }
+}
+
+/// Whether the place is the root of a positive literal and both literals are atoms: then both other sides are `$true`, whatever is put in.
+fn are_positive_atoms(
+    equation: LiteralRef<'_>,
+    from: LiteralSide,
+    target: LiteralRef<'_>,
+    into: &LiteralPlace,
+) -> bool
+    ensures { result ≡ are_positive_atoms from into.now (lent_of equation.entry) (lent_of target.entry) }
+{
+    is_positive_root(target, into)
+        && equation.other_side(from.side).is_truth()
+        && target.other_side(into.at.side).is_truth()
 }
 
 /// Whether a side and the term at a place are of one kind: an atom's other side is `$true`, and below the root function terms stand.
@@ -118,8 +139,9 @@ fn are_alike(
     !old.is_truth() && is_atom == is_atom_here
 }
 
-/// What becomes of the superposition by a unifier of the side and the term at the place. Where the clauses alone tell that the order allows
-/// it, a clause that is too large isn't built.
+/// What becomes of the superposition by a unifier of the side and the term at the place. The sizes under the unifier are told only where
+/// the clauses' own sizes don't show that they are small. Where the clauses alone tell that the order allows it, a clause that is too large
+/// isn't built.
 fn superposition_by(
     alloc: Global,
     bank: &Bank,
@@ -141,17 +163,72 @@ fn superposition_by(
 {
     let left = &first.member.clause;
     let right = &second.member.clause;
+    let literals = left.lend(bank);
+    let equation = literals.literal(from.literal);
+    let unified_size = unifier.term_size(Side::Left, equation.side(from.side))?;
+    if are_surely_small(left, right, unified_size) {
+        return ordered_superposition(alloc, bank, first, from, second, into, unifier, false);
+    }
     let left_size = unifier.instance_size(bank, Side::Left, left.literals())?;
     let right_size = unifier.instance_size(bank, Side::Right, right.literals())?;
-    let largest = left_size.max(right_size);
-    if largest > MOST_SYMBOLS {
-        if are_settled(bank, first, from, second, into) {
-            return Ok(Some(Made::Heavy));
-        }
+    if left_size.max(right_size) > MOST_SYMBOLS && are_settled(bank, first, from, second, into) {
+        return Ok(Some(Made::Heavy));
     }
     if left_size >= SIZE_LIMIT || right_size >= SIZE_LIMIT {
         return Err(NoMemory);
     }
+    let heavy = is_heavy(left_size, right_size, unified_size);
+    ordered_superposition(alloc, bank, first, from, second, into, unifier, heavy)
+}
+
+/// Whether the sizes of two clauses show that they have, with what is inferred from them, at most `MOST_SYMBOLS` symbols under a unifier of
+/// terms that become one of `unified_size` symbols: no variable becomes a larger term than that.
+fn are_surely_small(left: &BankClause, right: &BankClause, unified_size: u64) -> bool
+    ensures { (result ≡ true) ↔ (unified_size * (clause_size (clause_at left.now) + clause_size (clause_at right.now)) ≤ MOST_SYMBOLS) }
+{
+    let size = u64::from(left.size()) + u64::from(right.size());
+    unified_size.saturating_mul(size) <= MOST_SYMBOLS
+}
+
+/// Whether one of two clauses of so many symbols, or what is inferred from them by a side of `unified_size` symbols, has over
+/// `MOST_SYMBOLS` symbols.
+fn is_heavy(left_size: u64, right_size: u64, unified_size: u64) -> bool
+    requires left { left_size < SIZE_LIMIT }
+    requires right { right_size < SIZE_LIMIT }
+    requires unified { 2 * unified_size ≤ left_size + right_size }
+    ensures { result ≡ is_heavy left_size right_size unified_size }
+{
+    let made_size = left_size + right_size - 2 * unified_size;
+    left_size.max(right_size).max(made_size) > MOST_SYMBOLS
+}
+
+/// What becomes of the superposition by a unifier under which the clauses are small enough for the order to be asked, where it is known
+/// whether they, or the conclusion, have over `MOST_SYMBOLS` symbols.
+fn ordered_superposition(
+    alloc: Global,
+    bank: &Bank,
+    first: &Premise<'_>,
+    from: LiteralSide,
+    second: &Premise<'_>,
+    into: &LiteralPlace,
+    unifier: &Bindings,
+    heavy: bool,
+) -> Mem<Option<Made>>
+    requires first_member { IsMemberOf bank.now first.now.member.now }
+    requires second_member { IsMemberOf bank.now second.now.member.now }
+    requires first_settled { AreSettled (clause_at first.now.member.now.clause).literals first.now.sites.now.choice first.now.sites.now.settled.items }
+    requires second_settled { AreSettled (clause_at second.now.member.now.clause).literals second.now.sites.now.choice second.now.sites.now.settled.items }
+    requires unified { SuperposesBy unifier.now
+        (clause_at first.now.member.now.clause) from (clause_at second.now.member.now.clause) into.now }
+    requires left_small { size_under unifier.now Left (clause_at first.now.member.now.clause) < SIZE_LIMIT }
+    requires right_small { size_under unifier.now Right (clause_at second.now.member.now.clause) < SIZE_LIMIT }
+    requires heavy { IsHeavyUnder unifier.now (clause_at first.now.member.now.clause) from (clause_at second.now.member.now.clause) heavy }
+    ensures { IfOk result (λ made. (mode : SelectionMode)
+        → AreSites mode (clause_at first.now.member.now.clause) from (clause_at second.now.member.now.clause) into.now second.now.sites.now.choice
+        → IsSuperposition mode first.now.member.now from second.now.member.now into.now made) }
+{
+    let left = &first.member.clause;
+    let right = &second.member.clause;
     let left_bound = left.variable_bound();
     let right_bound = right.variable_bound();
     let left_terms = unifier.terms(Side::Left, left_bound)?;
@@ -172,10 +249,7 @@ fn superposition_by(
     ) {
         return Ok(None);
     }
-    let equation = left_literals.literal(from.literal);
-    let gone = instance_size(equation.side(from.side), &left_terms);
-    let made_size = left_size + right_size - 2 * gone;
-    if largest.max(made_size) > MOST_SYMBOLS {
+    if heavy {
         return Ok(Some(Made::Heavy));
     }
     let made = conclude_superposition(

@@ -1,5 +1,5 @@
 -- The map of units and the tree of their left sides.
-use Rattle.std.proofs.Common.{◌≡◌, ℕ, ◌<◌, ◌^◌, Bool, true, false, List, [], ◌∷◌, ◌++◌, map, length, refl, ap, sym, ◌∙◌, subst, ◌⊎◌, ⊎_elim, Bor, arith}
+use Rattle.std.proofs.Common.{◌≡◌, ℕ, ◌<◌, ◌^◌, Bool, true, false, List, [], ◌∷◌, ◌++◌, map, length, refl, ap, sym, ◌∙◌, subst, ⊎_elim, Bor, arith}
 use Rattle.std.specs.Prelude.{Option, None, Some, option_copied, nat_eq, IfSome, slice_get}
 use Rattle.std.specs.Map.{lookup}
 use Rattle.std.proofs.lemmas.Bool.{or_cases}
@@ -13,7 +13,7 @@ use Rattle.bank_clause.specs.declared.member.Member.{Member}
 use Rattle.disc_tree.specs.Entries.{IsIn, IsWith, numbers_where}
 use Rattle.rewriting.proofs.IndexLemmas.{in-fewer, in-found, in-left, in-more, in-right}
 use Rattle.rewriting.proofs.NumberedLemmas as by_number
-use Rattle.unit_index.specs.Indexed.{HasCandidates, IsIndexedAt, KeepsOthers, member_of}
+use Rattle.unit_index.specs.Indexed.{HasCandidates, HasOneLiteral, IsIndexedAt, KeepsOthers, member_of}
 
 abbrev pub clause_of_member : Member → BankClause
 clause_of_member m = m.clause
@@ -88,6 +88,12 @@ pub lent-low :
     → AreIndexedAt lefts es → option_copied o ≡ lookup (nat_eq n) es → IfSome o (λ (m : Bor Member). n < 2 ^ 32)
 lent-low lefts n es None at h = tt
 lent-low lefts n es (Some m) at h = (at n m.now (sym h)).low
+
+pub lent-one :
+    (lefts : List (Tree × ℕ)) (n : ℕ) (es : List (ℕ × Member)) (o : Option (Bor Member))
+    → AreIndexedAt lefts es → option_copied o ≡ lookup (nat_eq n) es → IfSome o (λ (m : Bor Member). HasOneLiteral (clause_at m.now.clause))
+lent-one lefts n es None at h = tt
+lent-one lefts n es (Some m) at h = ap (λ (ls : List TreeLiteral). length ls) (at n m.now (sym h)).alone
 
 pub candidates :
     (lefts : List (Tree × ℕ)) (es : List (ℕ × Member)) (l : TreeLiteral) (first second numbers : List ℕ)

@@ -1,9 +1,10 @@
 -- Cuts by the units of a set.
-use Rattle.std.specs.Prelude.{◌≡◌, ℕ, ◌<◌, Bool, true, false, List, Option, Some, IsTrue}
-use Rattle.fol_base.specs.Clause.{TreeClause}
+use Rattle.std.specs.Prelude.{◌≡◌, ℕ, ◌<◌, Bool, true, false, List, [], ◌∷◌, Option, Some, IsTrue}
+use Rattle.fol_base.specs.Clause.{TreeLiteral, TreeClause}
 use Rattle.fol_base.specs.Literal.{clause_of}
 use Rattle.kernel_steps.specs.declared.step.TheConstants.{CLAUSE_NUMBERS}
 use Rattle.kernel_steps.specs.declared.step.Reduced.{Reduced}
+use Rattle.bank_clause.specs.Clause.{clause_at}
 use Rattle.bank_clause.specs.declared.clause.BankClause.{BankClause}
 use Rattle.bank_clause.specs.declared.member.Member.{Member}
 use Rattle.disc_tree.specs.Entries.{IsIn}
@@ -25,6 +26,12 @@ abbrev pub CutsNoneAt : List Member → Option ℕ → TreeClause → ℕ → Ty
 CutsNoneAt units out c n =
     (u : BankClause) → clause_numbered n units ≡ Some u → IsTrue (is_kept out n) → CutsNone (numbered n u) c
 
+-- the unit with a number cuts none, if its literal has a sign
+abbrev pub SignedCutsNone : List Member → Option ℕ → Bool → TreeClause → ℕ → Type 0
+SignedCutsNone units out positive c n =
+    (u : BankClause) (l : TreeLiteral)
+    → clause_numbered n units ≡ Some u → (clause_at u).literals ≡ l ∷ [] → l.positive ≡ positive → IsTrue (is_kept out n) → CutsNone (numbered n u) c
+
 -- none of all units cuts one
 abbrev pub NoneCuts : List Member → Option ℕ → TreeClause → Type 0
 NoneCuts units out c = (n : ℕ) → CutsNoneAt units out c n
@@ -36,12 +43,13 @@ abbrev pub IsCutOrNone : List Member → Option ℕ → Reduced → Reduced → 
 IsCutOrNone units out old new true = IsCutBySome units out old new
 IsCutOrNone units out old new false = (new ≡ old) × NoneCuts units out (clause_of old.clause)
 
--- none of those with numbers of a list
-abbrev pub IsCutOrNoneOf : List Member → Option ℕ → List ℕ → Reduced → Reduced → Bool → Type 0
-IsCutOrNoneOf units out ns old new true = IsCutBySome units out old new
-IsCutOrNoneOf units out ns old new false = (new ≡ old) × ((n : ℕ) → IsIn n ns → CutsNoneAt units out (clause_of old.clause) n)
+-- none of those with a sign and with numbers of a list
+abbrev pub IsCutOrNoneOf : List Member → Option ℕ → Bool → List ℕ → Reduced → Reduced → Bool → Type 0
+IsCutOrNoneOf units out positive ns old new true = IsCutBySome units out old new
+IsCutOrNoneOf units out positive ns old new false =
+    (new ≡ old) × ((n : ℕ) → IsIn n ns → SignedCutsNone units out positive (clause_of old.clause) n)
 
--- not the one with this number
-abbrev pub IsCutOrNotBy : List Member → Option ℕ → ℕ → Reduced → Reduced → Bool → Type 0
-IsCutOrNotBy units out n old new true = IsCutBySome units out old new
-IsCutOrNotBy units out n old new false = (new ≡ old) × CutsNoneAt units out (clause_of old.clause) n
+-- not the one with this number, if it has a sign
+abbrev pub IsCutOrNotBy : List Member → Option ℕ → Bool → ℕ → Reduced → Reduced → Bool → Type 0
+IsCutOrNotBy units out positive n old new true = IsCutBySome units out old new
+IsCutOrNotBy units out positive n old new false = (new ≡ old) × SignedCutsNone units out positive (clause_of old.clause) n

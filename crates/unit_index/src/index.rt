@@ -107,6 +107,7 @@ impl UnitIndex {
         ensures clause { option_map (λ m. m.now.clause) result ≡ clause_numbered number self.now }
         ensures number { IfSome result (λ m. m.now.number ≡ number) }
         ensures low { IfSome result (λ _. number < 2 ^ 32) }
+        ensures one { IfSome result (λ m. HasOneLiteral (clause_at m.now.clause)) }
     {
         self.units.get(&number)
     }

@@ -18,8 +18,8 @@ use Rattle.kernel_steps.specs.Derivation.{complement}
 use Rattle.kernel_steps.specs.Inference.{NamedSuperposition, NamedResolution, NamedFactoring, makes_tautology}
 use Rattle.kernel_steps.specs.declared.key.Key.TheVariants.{Para, Refl, Factor}
 use Rattle.calculus.specs.Lifting.{has_equal_sides, among, IsMember, HasConclusionsOf, GroundConclusionsCovered, GroundConclusionsListed}
-use Rattle.calculus.specs.Coverage.{CoversInstancesOf}
-use Rattle.calculus.proofs.AboutCovering.CoverLemmas.{CoversEach, tautology-true}
+use Rattle.calculus.specs.Coverage.{CoversEach, CoversInstancesOf}
+use Rattle.calculus.proofs.AboutCovering.CoverLemmas.{tautology-true}
 use Rattle.calculus.proofs.AboutLifting.LiftRules.{resolutions_lift, factorings_lift, superpositions_lift}
 use Rattle.calculus.proofs.AboutCovering.ReachLemmas.{resolutions_reach_all, factorings_reach_all, superpositions_reach_all}
 use Rattle.fol_base.specs.declared.clause.Side.{Side}

@@ -29,7 +29,7 @@ use Rattle.kernel_steps.specs.Split.{literals_at}
 use Rattle.kernel_steps.specs.Symbols.{symbols_pass, literal_symbols_pass}
 use Rattle.kernel_steps.proofs.AboutSoundness.RuleTruth.{complement-truth, equivalent-truth}
 use Rattle.calculus.specs.Symbols.{is_allowed, HasSymbolsOf}
-use Rattle.calculus.specs.Coverage.{DroppedLiteralsCovered, SubsumedCovered, PartsCover, TautologiesCovered, RenamedCovered}
+use Rattle.calculus.specs.Coverage.{CoversEach, DroppedLiteralsCovered, SubsumedCovered, PartsCover, TautologiesCovered, RenamedCovered}
 use Rattle.calculus.proofs.AboutCovering.ClauseLemmas.{In-either, All-In, some-In, removed-not_greater}
 use Rattle.calculus.proofs.AboutCovering.SymbolLemmas.{literal-variable-passes, function_term-over}
 use Rattle.calculus.proofs.AboutLifting.PlacedLemmas.{Placed, placed, places_in, places_in-different, placed-there, placed-instance, placed-true, placed-part}
@@ -49,10 +49,6 @@ covered-by_one functions Holds c g whole holds made not_greater entails = record
 }
 
 -- ---- by the clauses that satisfy a predicate, and by those of a list
-
--- each ground instance of c is covered by the clauses that satisfy the predicate
-abbrev pub CoversEach : {is_predicate : ℕ → Bool} → FunctionSymbols is_predicate → (TreeClause → Type 0) → TreeClause → Type 0
-CoversEach functions Holds c = (g : GroundClause) → GroundInstance functions c g → Covered functions Holds g
 
 -- the clauses that satisfy the predicate, and this one
 abbrev pub Together : (TreeClause → Type 0) → TreeClause → TreeClause → Type 0

@@ -44,7 +44,7 @@ mutual
       (λ later. kept_variables κ ts v (ap rest_of e) later)
       (In-either v (tree_variables t) (trees_variables ts) there)
 
-kept_literals :
+pub kept_literals :
     (κ : Substitution) (ls : List TreeLiteral) (v : ℕ)
     → literals_instance κ ls ≡ ls → In v (flat_map literal_variables ls) → κ v ≡ variable v
 kept_literals κ [] v e there = absurd there

@@ -11,6 +11,8 @@ ghost use Rattle.calculus.specs.Coverage.{
   ReductionsKeepNames,
   ReductionsCompose,
   ReducedAwayCovered,
+  MovesCovered,
+  MovedAwayCovered,
 };
 
 /// The ground instances of a clause of which a literal `t != t` goes, two equal literals are merged, or a unit cuts a literal are
@@ -64,4 +66,12 @@ pub fn reductions_compose()
 /// covered by the clauses that may be used, for every list of function symbols that holds those of all these clauses.
 pub fn reduced_away_covered()
     ensures { ReducedAwayCovered }
+{}
+
+/// The ground instances of a clause that is reduced by moves, each of which drops or merges literals or rewrites or cuts by a unit, are
+/// covered by the last result and the units, for every list of function symbols that holds those of all these clauses. Where the last
+/// result is a tautology or subsumed, the units and the clause that subsumes it cover them. So is every reduced clause that the rules make.
+pub fn moves_covered()
+    ensures reduced { MovesCovered }
+    ensures away { MovedAwayCovered }
 {}

@@ -1,15 +1,13 @@
 -- The loop to the normal form: what lasts, and that it ends.
-use Rattle.std.proofs.Common.{◌≡◌, ℕ, ◌+◌, ◌<◌, ◌≤◌, max, Bool, true, false, ◌==◌, nat_lt, List, [], ◌∷◌, map, refl, ap, sym, ◌∙◌, subst, ⊎_elim, arith}
-use Rattle.std.specs.Prelude.{Option, None, Some, option_map, IsTrue, MatchBool, filter, not, if◌then◌else◌}
+use Rattle.std.proofs.Common.{◌≡◌, ℕ, ◌+◌, ◌<◌, ◌≤◌, max, Bool, true, false, ◌==◌, nat_lt, List, [], ◌∷◌, ◌++◌, refl, ap, sym, ◌∙◌, subst, ⊎_elim, arith}
+use Rattle.std.specs.Prelude.{Option, None, Some, option_map, IsTrue, MatchBool, if◌then◌else◌}
 use Rattle.std.specs.List.{list_all}
 use Rattle.std.proofs.lemmas.Bool.{and_from, cases_Bool, cond-true, cond-false, lt-ltb}
 use Rattle.std.proofs.lemmas.Option.{none-some, same_Some}
-use Rattle.plain_types.specs.declared.sequence.NameLit.{NameLit}
 use Rattle.fol_base.specs.Tree.{Tree, variable, application, Trees, no_trees, tree_then}
 use Rattle.fol_base.specs.Clause.{TreeLiteral, TreeClause, clause_size}
 use Rattle.fol_base.specs.Canonical.{IsCanonical}
 use Rattle.fol_base.specs.Literal.{clause_of}
-use Rattle.fol_base.specs.Subsumption.{assertions}
 use Rattle.fol_base.specs.WellFormed.{SymbolUse}
 use Rattle.kernel_steps.specs.Symbols.{symbols_pass, all_symbols_pass, literal_symbols_pass}
 use Rattle.kernel_steps.specs.declared.step.Reduced.{Reduced}
@@ -21,7 +19,7 @@ use Rattle.reduction.specs.Extending.{StepsGoOn}
 use Rattle.rewriting.specs.Units.{clause_numbered, is_kept}
 use Rattle.rewriting.specs.Laws.{AreWellFormed}
 use Rattle.demodulate.specs.Rank.{clause_rank, has_symbols_below}
-use Rattle.demodulate.specs.Normal.{kept, AreSomeOf, HaveSymbolsBelow, IsRewritten, IsLeft, IsNormalForm}
+use Rattle.demodulate.specs.Normal.{kept, AreSomeOf, HaveSymbolsBelow, IsRewrittenBySome, RewritesThrough, IsRewritten, IsLeft, IsNormalForm}
 
 -- ---- a bound of symbols
 
@@ -112,7 +110,17 @@ pub record Lasts (ms : List Member) (out : Option ℕ) (c : TreeClause) (made : 
   pub reduced :
       (usage : SymbolUse) (all : ℕ → Option TreeClause) → AreSomeOf (kept ms out) all → AreWellFormed usage (kept ms out) c
       → IsReduced usage.is_predicate all c made
+  pub alone :
+      (usage : SymbolUse)
+      → AreWellFormed usage (kept ms out) c → (through : List TreeClause) × RewritesThrough usage.is_predicate (kept ms out) c through (clause_of made.clause)
   pub formed : (usage : SymbolUse) → AreWellFormed usage (kept ms out) c → AreWellFormed usage (kept ms out) (clause_of made.clause)
+
+-- one rewrite more
+rewrites-on :
+    (p : ℕ → Bool) (clauses : ℕ → Option TreeClause) (c e d : TreeClause) (through : List TreeClause)
+    → RewritesThrough p clauses c through e → IsRewrittenBySome p clauses e d → RewritesThrough p clauses c (through ++ d ∷ []) d
+rewrites-on p clauses c e d [] same by = (subst (λ (k : TreeClause). IsRewrittenBySome p clauses k d) same by, refl)
+rewrites-on p clauses c e d (f ∷ fs) h by = (h.0, rewrites-on p clauses f e d fs h.1 by)
 
 pub begins :
     (ms : List Member) (out : Option ℕ) (c : TreeClause) (made : Reduced)
@@ -125,6 +133,7 @@ begins ms out c made canonical reduced same = record {
   below =
       ap (has_symbols_below (bound_for c ms)) same ∙ literals-below (bound_for c ms) c.literals (omega arith);
   reduced = λ usage all some formed. reduced usage.is_predicate all;
+  alone = λ usage formed. ([], same);
   formed = λ usage formed. subst (λ (d : TreeClause). AreWellFormed usage (kept ms out) d) (sym same) formed;
 }
 
@@ -139,6 +148,17 @@ goes_on law ms out c old new before step = record {
   reduced = λ usage all some formed.
       law usage.is_predicate all c (Some step.number) old new (before.reduced usage all some formed)
       (step.goes_on usage all some (before.formed usage formed)).0;
+  alone = λ usage formed.
+      let rewritten = before.alone usage formed in
+      let by : IsRewrittenBySome usage.is_predicate (kept ms out) (clause_of old.clause) (clause_of new.clause) = record {
+        number = step.number;
+        unit = step.unit;
+        there = step.there;
+        rewrites = step.rewrites usage (before.formed usage formed);
+      } in (
+        rewritten.0 ++ clause_of new.clause ∷ [],
+        rewrites-on usage.is_predicate (kept ms out) c (clause_of old.clause) (clause_of new.clause) rewritten.0 rewritten.1 by,
+      );
   formed = λ usage formed.
       ((step.goes_on usage (kept ms out) (λ n d h. h) (before.formed usage formed)).1, formed.1);
 }
@@ -161,21 +181,9 @@ ends ms out c old new before left =
       names = before.names;
       size = before.size;
       reduced = before.reduced;
+      alone = before.alone;
       normal = λ usage formed. left.normal usage (before.formed usage formed);
     })
-
--- ---- the asserted names
-
-pub asserted-are : (ns : List NameLit) → map (λ (n : NameLit). n.name) (filter (λ (n : NameLit). not n.positive) ns) ≡ assertions ns
-asserted-are [] = refl
-asserted-are (n ∷ ns) = from n.positive (asserted-are ns)
-  where
-    from :
-        (b : Bool) → map (λ (k : NameLit). k.name) (filter (λ (k : NameLit). not k.positive) ns) ≡ assertions ns
-        → map (λ (k : NameLit). k.name) (if not b then n ∷ filter (λ (k : NameLit). not k.positive) ns else filter (λ (k : NameLit). not k.positive) ns)
-        ≡ (if b then assertions ns else (n.name ∷ assertions ns))
-    from true h = h
-    from false h = ap (λ ks. n.name ∷ ks) h
 
 -- ---- answers
 

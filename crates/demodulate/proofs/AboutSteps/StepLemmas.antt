@@ -32,7 +32,7 @@ use Rattle.rewriting.specs.Redex.{AreNormal}
 use Rattle.rewriting.specs.Laws.{AreWellFormed, MayRewrite, NoneRewrites}
 use Rattle.rewriting.proofs.LawLemmas.{normal_clauses_stay}
 use Rattle.demodulate.specs.Rank.{clause_rank}
-use Rattle.demodulate.specs.Normal.{kept, AreSomeOf, IsLower, IsRewritten, IsNextLine}
+use Rattle.demodulate.specs.Normal.{kept, AreSomeOf, IsLower, RewritesTo, IsRewritten, IsNextLine}
 use Rattle.demodulate.specs.declared.step.NextLine.{NextLine}
 use Rattle.demodulate.proofs.AboutSteps.StepParts.{of_found}
 use Rattle.demodulate.proofs.AboutSteps.SymbolLemmas.{made-passes, instance-passes}
@@ -185,10 +185,22 @@ module _
             (made-passes (λ f arity. nat_lt f bound) unit c it.line.made r unit_below below),
       )
 
+  formed-among : (usage : SymbolUse) → AreWellFormed usage (kept ms out) c → AreWellFormed usage clauses c
+  formed-among usage formed = (formed.0, λ n u h. formed.1 n u (usable-kept ms out names n u h).0)
+
+  rewrites-to : (usage : SymbolUse) → AreWellFormed usage (kept ms out) c → RewritesTo usage.is_predicate unit c (clause_of new.clause)
+  rewrites-to usage formed = record {
+    result = it.line.made;
+    rewrites =
+        line_rewrites clauses c it.redex it.found parent next.line it.line usage may (formed-among usage formed) it.canonical it.asserted it.names sorted
+        small;
+    canonical = new-is;
+  }
+
   module _
       (usage : SymbolUse) (all : ℕ → Option TreeClause) (some : AreSomeOf (kept ms out) all) (formed : AreWellFormed usage (kept ms out) c) where
     formed-here : AreWellFormed usage clauses c
-    formed-here = (formed.0, λ n u h. formed.1 n u (usable-kept ms out names n u h).0)
+    formed-here = formed-among usage formed
 
     unit-all : all next.unit ≡ Some unit
     unit-all = some next.unit unit there
@@ -274,5 +286,6 @@ module _
         let same : clause_size (clause_of new.clause) ≡ clause_size (clause_of next.line.clause) = ap clause_size x.clause in
         omega (arith, same, line_size clauses c it.redex it.found parent next.line it.line);
     lower = lower;
+    rewrites = rewrites-to;
     goes_on = goes-on;
   }

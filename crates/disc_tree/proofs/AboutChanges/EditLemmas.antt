@@ -5,11 +5,12 @@ use Rattle.std.proofs.lemmas.List.{take-append-drop}
 use Rattle.fol_base.specs.Tree.{Tree, variable, application, trees_of, list_of, trees_size}
 use Rattle.fol_base.proofs.AboutTerms.TreeLemmas.{trees_size-append, trees_of-list_of}
 use Rattle.disc_tree.specs.declared.label.Label.{Label}
+use Rattle.disc_tree.specs.declared.node.Below.{Below}
 use Rattle.disc_tree.specs.declared.node.Branch.{Branch}
 use Rattle.disc_tree.specs.Path.{comes_before, head, arguments, path_of_all}
 use Rattle.disc_tree.specs.Entries.{IsIn, IsWith}
 use Rattle.disc_tree.specs.Rows.{Row, Child, here, below, all_below, rows, IsBefore, AreBefore, Rise, NoneIsEmpty, IsSound, IsAt, IsGap, IsNone, IsNoEntry}
-use Rattle.disc_tree.specs.Children.{child_of, children_of}
+use Rattle.disc_tree.specs.Children.{child_of, children_of, rows_below}
 use Rattle.disc_tree.proofs.AboutPaths.SlotLemmas.{child-get, children-length}
 use Rattle.disc_tree.proofs.AboutPaths.PathLemmas.{path-front}
 use Rattle.disc_tree.proofs.AboutPaths.LabelLemmas.{before-irreflexive}
@@ -98,44 +99,52 @@ pub at-branch :
 at-branch l bs i b a e =
     at-child l (children_of bs) i (child_of b) a (child-get bs i b (omega (arith, a.in_range, children-length bs)) e)
 
-abbrev exchanged : Branch → Content → Branch
-exchanged b n = record { label = b.label; node = n }
+abbrev exchanged : Branch → Below → Branch
+exchanged b n = record { label = b.label; below = n }
 
 children-edited :
-    (l : Label) (bs : List Branch) (i : ℕ) (b : Branch) (n : Content) (a : IsAt l (children_of bs) i)
-    → b ≡ get_or bs i b → children_of (slice_set bs i (exchanged b n)) ≡ a.front ++ (l, rows n) ∷ a.back
+    (l : Label) (bs : List Branch) (i : ℕ) (b : Branch) (n : Below) (a : IsAt l (children_of bs) i)
+    → b ≡ get_or bs i b → children_of (slice_set bs i (exchanged b n)) ≡ a.front ++ (l, rows_below n) ∷ a.back
 children-edited l bs i b n a e =
-    branch-set l bs i (exchanged b n) (rows n) a
-    (ap (λ (c : Child). let d : Child = (c.0, rows n) in d) (at-branch l bs i b a e))
+    branch-set l bs i (exchanged b n) (rows_below n) a
+    (ap (λ (c : Child). let d : Child = (c.0, rows_below n) in d) (at-branch l bs i b a e))
 
 pub sound-edited :
-    (l : Label) (bs : List Branch) (i : ℕ) (b : Branch) (n : Content) (a : IsAt l (children_of bs) i)
-    → b ≡ get_or bs i b → IsSound (children_of bs) → 1 ≤ length (rows n) → IsSound (children_of (slice_set bs i (exchanged b n)))
+    (l : Label) (bs : List Branch) (i : ℕ) (b : Branch) (n : Below) (a : IsAt l (children_of bs) i)
+    → b ≡ get_or bs i b → IsSound (children_of bs) → 1 ≤ length (rows_below n) → IsSound (children_of (slice_set bs i (exchanged b n)))
 sound-edited l bs i b n a e s h =
-    subst IsSound (sym (children-edited l bs i b n a e)) (sound-exchanged l (children_of bs) i (rows n) a s h)
+    subst IsSound (sym (children-edited l bs i b n a e)) (sound-exchanged l (children_of bs) i (rows_below n) a s h)
+
+-- a child whose rows stay the same
+pub children-kept :
+    (l : Label) (bs : List Branch) (i : ℕ) (b : Branch) (n : Below) (a : IsAt l (children_of bs) i)
+    → b ≡ get_or bs i b → rows_below n ≡ rows_below b.below → children_of (slice_set bs i (exchanged b n)) ≡ children_of bs
+children-kept l bs i b n a e h =
+    children-edited l bs i b n a e
+    ∙ ap (λ rs. a.front ++ (l, rs) ∷ a.back) (h ∙ ap (λ (c : Child). c.1) (at-branch l bs i b a e)) ∙ sym a.parts
 
 pub rows-with-more :
-    (xs : List (Tree × ℕ)) (l : Label) (bs : List Branch) (i : ℕ) (b : Branch) (n : Content) (r : Row) (a : IsAt l (children_of bs) i)
-    → b ≡ get_or bs i b → IsWith r (rows b.node) (rows n)
+    (xs : List (Tree × ℕ)) (l : Label) (bs : List Branch) (i : ℕ) (b : Branch) (n : Below) (r : Row) (a : IsAt l (children_of bs) i)
+    → b ≡ get_or bs i b → IsWith r (rows_below b.below) (rows_below n)
     → IsWith (l ∷ r.0, r.1) (rows (xs, children_of bs)) (rows (xs, children_of (slice_set bs i (exchanged b n))))
 rows-with-more xs l bs i b n r a e w =
     subst (λ cs. IsWith (l ∷ r.0, r.1) (rows (xs, children_of bs)) (rows (xs, cs))) (sym (children-edited l bs i b n a e))
-    (subst (λ cs. IsWith (l ∷ r.0, r.1) (rows (xs, cs)) (rows (xs, a.front ++ (l, rows n) ∷ a.back))) (sym a.parts)
-    (with-exchanged xs l r a.child_rows (rows n) a.front a.back
-    (subst (λ rs. IsWith r rs (rows n)) (ap (λ (c : Child). c.1) (at-branch l bs i b a e)) w)))
+    (subst (λ cs. IsWith (l ∷ r.0, r.1) (rows (xs, cs)) (rows (xs, a.front ++ (l, rows_below n) ∷ a.back))) (sym a.parts)
+    (with-exchanged xs l r a.child_rows (rows_below n) a.front a.back
+    (subst (λ rs. IsWith r rs (rows_below n)) (ap (λ (c : Child). c.1) (at-branch l bs i b a e)) w)))
 
 rows-with-fewer-parts :
-    (xs : List (Tree × ℕ)) (l : Label) (bs : List Branch) (i : ℕ) (b : Branch) (n : Content) (r : Row) (a : IsAt l (children_of bs) i)
-    → b ≡ get_or bs i b → IsWith r (rows n) (rows b.node)
-    → IsWith (l ∷ r.0, r.1) (rows (xs, a.front ++ (l, rows n) ∷ a.back)) (rows (xs, children_of bs))
+    (xs : List (Tree × ℕ)) (l : Label) (bs : List Branch) (i : ℕ) (b : Branch) (n : Below) (r : Row) (a : IsAt l (children_of bs) i)
+    → b ≡ get_or bs i b → IsWith r (rows_below n) (rows_below b.below)
+    → IsWith (l ∷ r.0, r.1) (rows (xs, a.front ++ (l, rows_below n) ∷ a.back)) (rows (xs, children_of bs))
 rows-with-fewer-parts xs l bs i b n r a e w =
-    subst (λ cs. IsWith (l ∷ r.0, r.1) (rows (xs, a.front ++ (l, rows n) ∷ a.back)) (rows (xs, cs))) (sym a.parts)
-    (with-exchanged xs l r (rows n) a.child_rows a.front a.back
-    (subst (λ rs. IsWith r (rows n) rs) (ap (λ (c : Child). c.1) (at-branch l bs i b a e)) w))
+    subst (λ cs. IsWith (l ∷ r.0, r.1) (rows (xs, a.front ++ (l, rows_below n) ∷ a.back)) (rows (xs, cs))) (sym a.parts)
+    (with-exchanged xs l r (rows_below n) a.child_rows a.front a.back
+    (subst (λ rs. IsWith r (rows_below n) rs) (ap (λ (c : Child). c.1) (at-branch l bs i b a e)) w))
 
 pub rows-with-fewer :
-    (xs : List (Tree × ℕ)) (l : Label) (bs : List Branch) (i : ℕ) (b : Branch) (n : Content) (r : Row) (a : IsAt l (children_of bs) i)
-    → b ≡ get_or bs i b → IsWith r (rows n) (rows b.node)
+    (xs : List (Tree × ℕ)) (l : Label) (bs : List Branch) (i : ℕ) (b : Branch) (n : Below) (r : Row) (a : IsAt l (children_of bs) i)
+    → b ≡ get_or bs i b → IsWith r (rows_below n) (rows_below b.below)
     → IsWith (l ∷ r.0, r.1) (rows (xs, children_of (slice_set bs i (exchanged b n)))) (rows (xs, children_of bs))
 rows-with-fewer xs l bs i b n r a e w =
     subst (λ cs. IsWith (l ∷ r.0, r.1) (rows (xs, cs)) (rows (xs, children_of bs))) (sym (children-edited l bs i b n a e))
@@ -144,14 +153,14 @@ rows-with-fewer xs l bs i b n r a e w =
 -- ---- an empty child cut off
 
 children-pruned :
-    (l : Label) (bs : List Branch) (i : ℕ) (b : Branch) (n : Content) (a : IsAt l (children_of bs) i)
+    (l : Label) (bs : List Branch) (i : ℕ) (b : Branch) (n : Below) (a : IsAt l (children_of bs) i)
     → b ≡ get_or bs i b → children_of (remove (slice_set bs i (exchanged b n)) i) ≡ a.front ++ a.back
 children-pruned l bs i b n a e =
     children-remove (slice_set bs i (exchanged b n)) i ∙ ap (λ cs. remove cs i) (children-edited l bs i b n a e)
-    ∙ remove-part a.front (l, rows n) a.back i a.place
+    ∙ remove-part a.front (l, rows_below n) a.back i a.place
 
 pub sound-pruned :
-    (l : Label) (bs : List Branch) (i : ℕ) (b : Branch) (n : Content) (a : IsAt l (children_of bs) i)
+    (l : Label) (bs : List Branch) (i : ℕ) (b : Branch) (n : Below) (a : IsAt l (children_of bs) i)
     → b ≡ get_or bs i b → IsSound (children_of bs) → IsSound (children_of (remove (slice_set bs i (exchanged b n)) i))
 sound-pruned l bs i b n a e s =
     subst IsSound (sym (children-pruned l bs i b n a e)) (record {
@@ -168,12 +177,12 @@ rows-pruned xs l rs front back e =
     ∙ sym (all_below-append front back))
 
 pub rows-with-branch :
-    (xs : List (Tree × ℕ)) (l : Label) (bs : List Branch) (i : ℕ) (b : Branch) (n : Content) (r : Row) (a : IsAt l (children_of bs) i)
-    → b ≡ get_or bs i b → IsWith r (rows n) (rows b.node) → rows n ≡ []
+    (xs : List (Tree × ℕ)) (l : Label) (bs : List Branch) (i : ℕ) (b : Branch) (n : Below) (r : Row) (a : IsAt l (children_of bs) i)
+    → b ≡ get_or bs i b → IsWith r (rows_below n) (rows_below b.below) → rows_below n ≡ []
     → IsWith (l ∷ r.0, r.1) (rows (xs, children_of (remove (slice_set bs i (exchanged b n)) i))) (rows (xs, children_of bs))
 rows-with-branch xs l bs i b n r a e w h =
     subst (λ rs. IsWith (l ∷ r.0, r.1) rs (rows (xs, children_of bs)))
-    (rows-pruned xs l (rows n) a.front a.back h ∙ ap (λ cs. rows (xs, cs)) (sym (children-pruned l bs i b n a e)))
+    (rows-pruned xs l (rows_below n) a.front a.back h ∙ ap (λ cs. rows (xs, cs)) (sym (children-pruned l bs i b n a e)))
     (rows-with-fewer-parts xs l bs i b n r a e w)
 
 -- an entry of the node's own taken out
@@ -264,7 +273,7 @@ none-in-gap xs l p cs i vs n g x h named =
 pub none-in-child :
     (xs : List (Tree × ℕ)) (l : Label) (p : List Label) (bs : List Branch) (i : ℕ) (b : Branch) (vs : List ℕ) (n : ℕ)
     (a : IsAt l (children_of bs) i)
-    → b ≡ get_or bs i b → Rise (children_of bs) → IsNone p vs n (rows b.node) → IsNone (l ∷ p) vs n (rows (xs, children_of bs))
+    → b ≡ get_or bs i b → Rise (children_of bs) → IsNone p vs n (rows_below b.below) → IsNone (l ∷ p) vs n (rows (xs, children_of bs))
 none-in-child xs l p bs i b vs n a e r none x h named =
     let rise : Rise (a.front ++ (l, a.child_rows) ∷ a.back) = subst Rise a.parts r in
     ⊎_elim (not-here l p x xs)
@@ -336,12 +345,3 @@ work-falls whole ms after next args t w m n g =
     falls (variable v) = omega arith
     falls (application f us) =
         omega (arith, trees_size-append (list_of us) ms, ap trees_size (trees_of-list_of us))
-
--- a new branch with one row
-pub rows-of-branch :
-    (xs : List (Tree × ℕ)) (bs old : List Branch) (b : Branch) (l : Label) (r : Row)
-    → xs ≡ [] → old ≡ [] → bs ≡ old ++ b ∷ [] → b.label ≡ l → rows b.node ≡ r ∷ []
-    → rows (xs, children_of bs) ≡ (l ∷ r.0, r.1) ∷ []
-rows-of-branch xs bs old b l r x o e h k =
-    ap (λ ys. rows (ys, children_of bs)) x ∙ ap (λ cs. rows ([], children_of cs)) (e ∙ ap (λ cs. cs ++ b ∷ []) o)
-    ∙ ap (λ m. below m (rows b.node) ++ []) h ∙ ap (λ rs. below l rs ++ []) k

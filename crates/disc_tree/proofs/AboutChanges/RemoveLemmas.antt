@@ -56,18 +56,20 @@ sorted-without xs i h sorted a b d le lt =
 pub entry-put : (xs : List (Tree × ℕ)) (i : ℕ) (x : Tree × ℕ) → IsWith x xs (insert xs i x)
 entry-put xs i x = record { front = take i xs; back = drop i xs; without = sym (take-append-drop i xs); with_it = refl }
 
+-- a list around one of its entries
+pub parts-at :
+    (x : Tree × ℕ) (ys : List (Tree × ℕ)) (k : ℕ) → k < length ys → x ≡ get_or ys k x → ys ≡ take k ys ++ x ∷ drop (suc k) ys
+parts-at x [] k h e = absurd (omega arith)
+parts-at x (y ∷ ys) zero h e = ap (λ z. z ∷ ys) (sym e)
+parts-at x (y ∷ ys) (suc k) h e = ap (λ zs. y ∷ zs) (parts-at x ys k (omega arith) e)
+
 pub entry-taken : (xs : List (Tree × ℕ)) (i : ℕ) (x : Tree × ℕ) → i < length xs → x ≡ get_or xs i x → IsWith x (remove xs i) xs
 entry-taken xs i x h e = record {
   front = take i xs;
   back = drop (suc i) xs;
   without = refl;
-  with_it = parts xs i h e;
+  with_it = parts-at x xs i h e;
 }
-  where
-    parts : (ys : List (Tree × ℕ)) (k : ℕ) → k < length ys → x ≡ get_or ys k x → ys ≡ take k ys ++ x ∷ drop (suc k) ys
-    parts [] k h e = absurd (omega arith)
-    parts (y ∷ ys) zero h e = ap (λ z. z ∷ ys) (sym e)
-    parts (y ∷ ys) (suc k) h e = ap (λ zs. y ∷ zs) (parts ys k (omega arith) e)
 
 pub read-set : {X : Type 0} (xs : List X) (i : ℕ) (y b : X) → i < length xs → b ≡ get_or (slice_set xs i y) i b → b ≡ y
 read-set [] i y b h e = absurd (omega arith)

@@ -37,7 +37,7 @@ tails-more l (k ∷ q) ps p h =
     (λ other. subst (λ zs. IsIn p zs) (sym (cond-false (same_label k l) (q ∷ tails l ps) (tails l ps) other)) h)
     (cases_Bool (same_label k l))
 
-in-tails : (l : Label) (p : List Label) (ps : List (List Label)) → IsIn (l ∷ p) ps → IsIn p (tails l ps)
+pub in-tails : (l : Label) (p : List Label) (ps : List (List Label)) → IsIn (l ∷ p) ps → IsIn p (tails l ps)
 in-tails l p [] h = absurd h
 in-tails l p (q ∷ ps) h =
     ⊎_elim
@@ -65,7 +65,7 @@ tails-fit f n ([] ∷ ps) = omega (arith, tails-fit f n ps)
 tails-fit f n ((k ∷ p) ∷ ps) = omega (arith, tails-one f n k p ps, tails-fit f n ps)
 
 -- and the empty one begins with neither
-tails-fit-more :
+pub tails-fit-more :
     (f n : ℕ) (ps : List (List Label)) → IsIn [] ps → 1 + length (tails Star ps) + length (tails (Symbol f n) ps) ≤ length ps
 tails-fit-more f n [] h = absurd h
 tails-fit-more f n ([] ∷ ps) h = omega (arith, tails-fit f n ps)

@@ -357,3 +357,9 @@ found-compatible e q u (r ∷ rs) h =
     let test : fits e q 0 (u ∷ []) r.0 ≡ compatible_by e q r.1.0 u = ap (fits e q 0 (u ∷ [])) h.0 ∙ fits-path e q r.1.0 u in
     ap (λ b. if b then r.1.1 ∷ found_in e q 0 (u ∷ []) rs else found_in e q 0 (u ∷ []) rs) test
     ∙ ap (λ ns. if compatible_by e q r.1.0 u then r.1.1 ∷ ns else ns) (found-compatible e q u rs h.1)
+
+-- ---- numbers of entries
+
+pub numbers-append : (xs ys : List (Tree × ℕ)) → numbers_of (xs ++ ys) ≡ numbers_of xs ++ numbers_of ys
+numbers-append [] ys = refl
+numbers-append (x ∷ xs) ys = ap (λ ns. x.1 ∷ ns) (numbers-append xs ys)

@@ -15,7 +15,7 @@ use Rattle.disc_tree.proofs.AboutPaths.PrefixLemmas.{tails, and-left, and-right,
 
 -- ---- the prefixes that begin with a label, without it
 
-tails-in : (l : Label) (p : List Label) (ps : List (List Label)) → IsIn p (tails l ps) → IsIn (l ∷ p) ps
+pub tails-in : (l : Label) (p : List Label) (ps : List (List Label)) → IsIn p (tails l ps) → IsIn (l ∷ p) ps
 tails-in l p [] h = absurd h
 tails-in l p ([] ∷ ps) h = inr (tails-in l p ps h)
 tails-in l p ((k ∷ q) ∷ ps) h =
@@ -26,7 +26,7 @@ tails-in l p ((k ∷ q) ∷ ps) h =
     (λ other. inr (tails-in l p ps (subst (λ zs. IsIn p zs) (cond-false (same_label k l) (q ∷ tails l ps) (tails l ps) other) h)))
     (cases_Bool (same_label k l))
 
-tails-different : (l : Label) (ps : List (List Label)) → AreDifferent ps → AreDifferent (tails l ps)
+pub tails-different : (l : Label) (ps : List (List Label)) → AreDifferent ps → AreDifferent (tails l ps)
 tails-different l [] d = tt
 tails-different l ([] ∷ ps) d = tails-different l ps d.1
 tails-different l ((k ∷ q) ∷ ps) d =
@@ -38,7 +38,7 @@ tails-different l ((k ∷ q) ∷ ps) d =
     subst AreDifferent (sym (cond-false (same_label k l) (q ∷ tails l ps) (tails l ps) other)) (tails-different l ps d.1))
     (cases_Bool (same_label k l))
 
-tails-longer :
+pub tails-longer :
     (l k : Label) (p : List Label) (ps : List (List Label))
     → same_label k l ≡ true → length (tails l ((k ∷ p) ∷ ps)) ≡ 1 + length (tails l ps)
 tails-longer l k p ps same =
@@ -205,7 +205,7 @@ visits-application g us ts after next l xs cs before between end is next_is labe
     (subst (λ j. FollowsEach next (rows_at j cs) between end) label_is (symbol next_ground)))))
 
 -- where nothing is left, one read
-read-nothing : (p : List Label) → can_read [] p ≡ true → p ≡ []
+pub read-nothing : (p : List Label) → can_read [] p ≡ true → p ≡ []
 read-nothing [] h = refl
 read-nothing (l ∷ p) h = cc
 

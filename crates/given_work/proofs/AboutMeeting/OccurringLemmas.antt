@@ -25,7 +25,7 @@ use Rattle.kbo_order.proofs.AboutReading.HeadLemmas.{low_head-not_greater, small
 use Rattle.fol_base.proofs.AboutTerms.TreeLemmas.{list_of-trees_of, tree_size-positive}
 use Rattle.bank_clause.specs.Clause.{clause_at}
 use Rattle.bank_clause.specs.declared.member.Member.{Member}
-use Rattle.disc_tree.specs.Entries.{IsIn, IsWith, numbers_where}
+use Rattle.disc_tree.specs.Entries.{IsIn, IsWith}
 use Rattle.disc_tree.proofs.AboutPaths.EntryLemmas.{in-with}
 use Rattle.disc_tree.proofs.AboutQueries.UnifierLemmas.{instance-compatible}
 use Rattle.superpose.proofs.AboutLists.ListLemmas.{In, In-contained, In-left, In-right}

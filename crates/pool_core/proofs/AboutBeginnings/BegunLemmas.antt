@@ -12,6 +12,7 @@ use Rattle.kernel_steps.specs.Conclusion.{empty_clause}
 use Rattle.kernel_steps.specs.Split.{has_number}
 use Rattle.sat_core.specs.Clause.{literal_true, valuation_of}
 use Rattle.term_bank.specs.declared.bank.Bank.{Bank}
+use Rattle.pool_core.specs.CountedList.{keys_in}
 use Rattle.pool_core.specs.Tags.{name_of_tag}
 use Rattle.pool_core.specs.Record.{PoolRecord, Registered, GivenJob, Death, clause_numbered, waits, is_awake, is_awake_under, nothing_registered}
 use Rattle.pool_core.specs.Claiming.{ready}
@@ -98,7 +99,7 @@ module _ (a : Inside) (bank : Bank) (st : Start) (r : PoolRecord) where
   begun-state :
       a.table.bank ≡ bank → IsStarted bank a.table st r
       → a.proof.register.clauses ≡ st.register.clauses → a.proof.queue.pairs ≡ st.queue.pairs → a.proof.steps.items ≡ st.steps.items → a.proof.ended ≡ st.ended
-      → a.positions.items ≡ [] → a.jobs.entries ≡ [] → a.counted.items ≡ [] → a.set_aside.items ≡ [] → a.last_job ≡ 0 → a.place ≡ 0
+      → a.positions.items ≡ [] → a.jobs.entries ≡ [] → keys_in a.counted ≡ [] → a.set_aside.items ≡ [] → a.last_job ≡ 0 → a.place ≡ 0
       → vec_len a.history.events ≤ vec_capacity a.history.events → vec_len a.notes_before ≤ vec_capacity a.notes_before
       → IsStateOf a r
   begun-state same_bank is register queue steps ended positions jobs counted set_aside last_job place room notes_room = record {
@@ -139,7 +140,7 @@ pub begun :
     → a.options.split ≡ false → a.table.bank ≡ bank
     → IsStarted bank a.table st (with_inputs false 0 (origin_of a).inputs nothing_registered)
     → a.proof.register.clauses ≡ st.register.clauses → a.proof.queue.pairs ≡ st.queue.pairs → a.proof.steps.items ≡ st.steps.items → a.proof.ended ≡ st.ended
-    → a.positions.items ≡ [] → a.jobs.entries ≡ [] → a.counted.items ≡ [] → a.set_aside.items ≡ [] → a.last_job ≡ 0 → a.place ≡ 0
+    → a.positions.items ≡ [] → a.jobs.entries ≡ [] → keys_in a.counted ≡ [] → a.set_aside.items ≡ [] → a.last_job ≡ 0 → a.place ≡ 0
     → vec_len a.history.events ≤ vec_capacity a.history.events → vec_len a.notes_before ≤ vec_capacity a.notes_before
     → events_of a.history ≡ [] → a.proof.notes.items ≡ [] → a.notes_before.items ≡ []
     → AreInputs (origin_of a).inputs → IsLimit a.options

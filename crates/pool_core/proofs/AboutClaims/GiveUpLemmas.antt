@@ -17,6 +17,7 @@ use Rattle.clause_queue.specs.Pairs.{Waiting, with_pair, without, numbers, IsAbs
 use Rattle.clause_queue.proofs.Numbers.{lacks_from}
 use Rattle.clause_queue.proofs.PairsLemmas.{absent-without}
 use Rattle.clause_queue.proofs.PutBack.{put_back_restores}
+use Rattle.pool_core.specs.CountedList.{keys_in}
 use Rattle.pool_core.specs.Record.{PoolRecord, GivenJob, Death, clause_numbered, numbers_of, lives, is_out, waits, is_awake, given_job, without_job}
 use Rattle.pool_core.specs.Claiming.{ready}
 use Rattle.pool_core.specs.Replay.{after, without_solver}
@@ -33,7 +34,7 @@ use Rattle.pool_core.specs.declared.pool.OutJob.{OutJob}
 use Rattle.pool_core.specs.declared.pool.Pool.TheInside.{Inside}
 use Rattle.pool_core.specs.declared.register.Registration.{Registration}
 use Rattle.pool_core.proofs.AboutRecords.EditLemmas.{filter-less, filter-pairs, remove-filter, lookup-find}
-use Rattle.pool_core.proofs.AboutClaims.ClaimLemmas.{rising-by}
+use Rattle.pool_core.proofs.AboutClaims.ClaimedRecords.{rising-by}
 use Rattle.pool_core.proofs.AboutClaims.HandLemmas.{AreInHand, hands-of, others-apart, all-none, all-found}
 use Rattle.pool_core.proofs.AboutBounds.JobLemmas.{Rising, none-removed}
 use Rattle.pool_core.proofs.AboutBeginnings.LivingLemmas.{lives-there, awake-there, registered-there}
@@ -258,7 +259,7 @@ pub record IsGivenUpBy (a b : Inside) (job : ℕ) (e : Event) : Type 0 where
   pub before_len : vec_len b.notes_before ≡ vec_len a.notes_before + 1
   pub before_room : vec_capacity b.notes_before ≡ vec_capacity a.notes_before
   pub steps : b.proof.steps.items ≡ a.proof.steps.items
-  pub counted : b.counted.items ≡ a.counted.items
+  pub counted : keys_in b.counted ≡ keys_in a.counted
   pub set_aside : b.set_aside.items ≡ a.set_aside.items
   pub ended : b.proof.ended ≡ a.proof.ended
   pub last_job : b.last_job ≡ a.last_job

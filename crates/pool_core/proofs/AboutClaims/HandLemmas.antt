@@ -23,7 +23,7 @@ use Rattle.pool_core.specs.declared.event.Event.TheVariants.{Claim, Return, Stal
 use Rattle.pool_core.proofs.AboutRecords.EditLemmas.{eq-sym}
 use Rattle.pool_core.proofs.AboutRecords.FrameLemmas.{by-if, inputs-register}
 use Rattle.pool_core.proofs.AboutRecords.GrowthLemmas.{Grows, grows-all, removed-grows, met-grows, registers-grows, waiting-parts}
-use Rattle.pool_core.proofs.AboutClaims.ClaimLemmas.{after-claim, positions_with, given-waits}
+use Rattle.pool_core.proofs.AboutClaims.ClaimedRecords.{after-claim, positions_with, given-waits}
 
 -- ---- lists of jobs
 

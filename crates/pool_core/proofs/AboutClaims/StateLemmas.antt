@@ -12,6 +12,7 @@ use Rattle.bank_clause.specs.Clause.{clause_at, IsClauseOf}
 use Rattle.bank_clause.specs.declared.clause.BankClause.{BankClause}
 use Rattle.term_bank.specs.declared.bank.Bank.{Bank}
 use Rattle.term_bank.specs.declared.table.Table.{Table}
+use Rattle.pool_core.specs.CountedList.{keys_in}
 use Rattle.pool_core.specs.Record.{PoolRecord, Registered, clauses_of, clause_numbered}
 use Rattle.pool_core.specs.Replay.{Origin, after, start, replay}
 use Rattle.pool_core.specs.News.{TreeChange, change_of, changes_between, changes_from, news_since}
@@ -194,7 +195,7 @@ pub record KeepsAll (a b : Inside) : Type 0 where
   pub before_len : vec_len b.notes_before ≡ vec_len a.notes_before
   pub before_room : vec_capacity a.notes_before ≤ vec_capacity b.notes_before
   pub steps : b.proof.steps.items ≡ a.proof.steps.items
-  pub counted : b.counted.items ≡ a.counted.items
+  pub counted : keys_in b.counted ≡ keys_in a.counted
   pub set_aside : b.set_aside.items ≡ a.set_aside.items
   pub ended : b.proof.ended ≡ a.proof.ended
   pub last_job : b.last_job ≡ a.last_job

@@ -25,14 +25,14 @@ use Rattle.pool_core.specs.declared.batch.Work.{Work}
 use Rattle.pool_core.specs.declared.batch.Work.TheVariants.{Gone, Met}
 use Rattle.pool_core.specs.declared.event.Event.{Event}
 use Rattle.pool_core.specs.declared.event.Event.TheVariants.{Claim, Return, Stale, Void, ClaimSolve, ReturnModel, ReturnRefuted, Abandon}
-use Rattle.pool_core.proofs.AboutClaims.ClaimLemmas.{after-claim, positions_with}
-use Rattle.pool_core.proofs.AboutCounting.CountedLemmas.{lookup-more}
+use Rattle.pool_core.proofs.AboutClaims.ClaimedRecords.{after-claim, positions_with}
+use Rattle.pool_core.proofs.AboutCounting.CountedRecords.{lookup-more}
 use Rattle.pool_core.proofs.AboutRecords.FrameLemmas.{by-if, inputs-register}
 use Rattle.pool_core.proofs.AboutRecords.GrowthLemmas.{removed-grows, met-grows, more-then, registers-grows}
 use Rattle.pool_core.proofs.AboutClaims.HandLemmas.{all-end, all-filter, all-found, all-weaker}
 use Rattle.pool_core.proofs.AboutClaims.HistoryLemmas.{event-count}
 use Rattle.pool_core.proofs.AboutLines.JoinedLemmas.{all-from}
-use Rattle.pool_core.proofs.AboutRecords.NumberLemmas.{after-positions}
+use Rattle.pool_core.proofs.AboutRecords.JobNumberLemmas.{after-positions}
 use Rattle.pool_core.proofs.AboutRecords.PlaceLemmas.{Placed, after-placed, start-placed, replay-placed}
 
 -- ---- numbers among changes

@@ -21,7 +21,7 @@ use Rattle.pool_core.specs.declared.batch.Work.{Work}
 use Rattle.pool_core.specs.declared.batch.Work.TheVariants.{Gone, Met}
 use Rattle.pool_core.specs.declared.event.Event.{Event}
 use Rattle.pool_core.specs.declared.event.Event.TheVariants.{Claim, Return, Stale, Void, ClaimSolve, ReturnModel, ReturnRefuted, Abandon}
-use Rattle.pool_core.proofs.AboutClaims.ClaimLemmas.{after-claim, given-waits}
+use Rattle.pool_core.proofs.AboutClaims.ClaimedRecords.{after-claim, given-waits}
 use Rattle.pool_core.proofs.AboutCounting.DeathLemmas.{all-weaker}
 use Rattle.pool_core.proofs.AboutRecords.FrameLemmas.{by-if, inputs-register}
 use Rattle.pool_core.proofs.AboutRecords.GrowthLemmas.{Grows, removed-grows, met-grows, registers-grows}

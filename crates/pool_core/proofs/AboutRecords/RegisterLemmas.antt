@@ -112,24 +112,6 @@ position-end-old p xs x fails = by (position p xs) refl
 pub same-copies : (c d : BankClause) → equal_by_numbers c d ≡ true → is_living_copy c ≡ is_living_copy d
 same-copies c d same = λ i s. ap (λ b. is_none s.death && b) (equal_by_numbers_equiv.congr c d s.clause same) i
 
--- after a clause is registered of which none was a living copy
-pub registered-found :
-    (ss : List Registration) (s : Registration) (q : BankClause) (n : ℕ) (before after : Option ℕ)
-    → s.death ≡ None → position (is_living_copy s.clause) ss ≡ None → n ≡ length ss
-    → before ≡ position (is_living_copy q) ss → after ≡ cond (equal_by_numbers s.clause q) (Some n) before
-    → after ≡ position (is_living_copy q) (ss ++ s ∷ [])
-registered-found ss s q n before after lives none number was is = by (equal_by_numbers s.clause q) refl
-  where
-    by : (b : Bool) → equal_by_numbers s.clause q ≡ b → after ≡ position (is_living_copy q) (ss ++ s ∷ [])
-    by true same =
-        is ∙ ap (λ b. cond b (Some n) before) same ∙ ap Some number
-        ∙ sym (position-end-new (is_living_copy q) ss s (ap (λ p. position p ss) (sym (same-copies s.clause q same)) ∙ none)
-        (ap (λ o. is_none o && equal_by_numbers q s.clause) lives ∙ equal_by_numbers_equiv.symm q s.clause ∙ same))
-    by false other =
-        is ∙ ap (λ b. cond b (Some n) before) other ∙ was
-        ∙ sym (position-end-old (is_living_copy q) ss s
-        (ap (λ o. is_none o && equal_by_numbers q s.clause) lives ∙ equal_by_numbers_equiv.symm q s.clause ∙ other))
-
 -- ---- a registration that is set
 
 module _ (ss : List Registration) (n : ℕ) (s t : Registration) (there : slice_get ss n ≡ Some s) where
@@ -157,19 +139,6 @@ module _ (ss : List Registration) (n : ℕ) (s t : Registration) (there : slice_
     dead-copy : (c : BankClause) → is_living_copy c t ≡ false
     dead-copy c = ap (λ b. b && equal_by_numbers c t.clause) death
 
-    -- no other is a copy of it
-    pub buried : IsOnlyCopy ss → (c : BankClause) → equal_by_numbers s.clause c ≡ true → position (is_living_copy c) (set ss n t) ≡ None
-    buried only c same = no-place (is_living_copy c) (set ss n t) (λ m z at.
-        ⊎_elim
-        (λ (here : (m ≡ n) × (t ≡ z)). ap (is_living_copy c) (sym here.1) ∙ dead-copy c)
-        (λ (other : (m ≡ n → ⊥) × (slice_get ss m ≡ Some z)).
-        false_from_ne_true (is_living_copy c z) (λ copy.
-        let parts = and_parts (is_none z.death) (equal_by_numbers c z.clause) copy in
-        let alike : is_living_copy s.clause ≡ is_living_copy z.clause = same-copies s.clause c same ∙ same-copies c z.clause parts.1 in
-        other.0 (same_Some m n
-        (sym (only m z other.1 parts.0) ∙ sym (ap (λ p. position p ss) alike) ∙ only n s there lived))))
-        (at-set ss n t m z at))
-
     pub others-found : (c : BankClause) → equal_by_numbers s.clause c ≡ false → position (is_living_copy c) (set ss n t) ≡ position (is_living_copy c) ss
     others-found c other =
         position-set (is_living_copy c) ss n s t there
@@ -178,14 +147,6 @@ module _ (ss : List Registration) (n : ℕ) (s t : Registration) (there : slice_
         none : (b : Bool) → (b && false) ≡ false
         none true = refl
         none false = refl
-
-    pub found-after-burial :
-        IsOnlyCopy ss → (c : BankClause) → cond (equal_by_numbers s.clause c) None (position (is_living_copy c) ss) ≡ position (is_living_copy c) (set ss n t)
-    found-after-burial only c = by (equal_by_numbers s.clause c) refl
-      where
-        by : (b : Bool) → equal_by_numbers s.clause c ≡ b → cond b None (position (is_living_copy c) ss) ≡ position (is_living_copy c) (set ss n t)
-        by true same = sym (buried only c same)
-        by false other = sym (others-found c other)
 
     pub only-after-burial : IsOnlyCopy ss → IsOnlyCopy (set ss n t)
     only-after-burial only m z at alive =

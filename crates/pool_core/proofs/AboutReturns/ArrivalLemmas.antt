@@ -30,7 +30,7 @@ use Rattle.pool_core.specs.declared.outcome.Outcome.{Outcome}
 use Rattle.pool_core.specs.declared.outcome.Outcome.TheVariants.{Refuted, Spent}
 use Rattle.pool_core.specs.declared.pool.ProofState.{ProofState}
 use Rattle.pool_core.proofs.AboutRecords.FrameLemmas.{Registers, by-if, result-registers, results-register}
-use Rattle.pool_core.proofs.AboutReturns.ProofStateLemmas.{refutes-is, result-empty, result-ended}
+use Rattle.pool_core.proofs.AboutReturns.ComingLemmas.{refutes-is, result-empty, result-ended}
 
 -- ---- a result that refutes
 

@@ -14,6 +14,7 @@ use Rattle.term_bank.specs.declared.bank.Bank.{Bank}
 use Rattle.term_bank.specs.declared.table.Table.{Table}
 use Rattle.bank_clause.specs.Parts.{assertion}
 use Rattle.bank_clause.specs.Clause.{clause_at, IsKnown}
+use Rattle.pool_core.specs.ClauseHash.{clause_hash}
 use Rattle.pool_core.specs.Counting.{is_heavy, keys_of}
 use Rattle.pool_core.specs.Returning.{heavy_entries}
 use Rattle.pool_core.specs.Placing.{IsInterned, AreInterned, AreResults, KnowsMore, IsFitResult, line_count}
@@ -30,7 +31,7 @@ learned-all bank known learned [] [] more are = tt
 learned-all bank known learned (lines ∷ lss) (x ∷ xs) more are = (
   record {
     led = are.0.led;
-    key = are.0.key;
+    hashed = are.0.hashed;
     no_names = are.0.no_names;
     of_bank = are.0.of_bank;
     known = more x.clause.literals are.0.known;
@@ -69,17 +70,17 @@ no-assertions (n ∷ ns) none = absurd cc
 pub one-more-result :
     (bank : Bank) (known learned : Table) (lss : List (List Line)) (before after : Results) (lines : List Line) (results : List Clause) (x : Interned) (clause : Clause)
     → KnowsMore known learned → AreResults bank known lss before → IsFitResult lines results
-    → clause ≡ get_or results 0 clause → clause_at x.clause ≡ clause_of clause → x.key ≡ x.clause
+    → clause ≡ get_or results 0 clause → clause_at x.clause ≡ clause_of clause → x.hash ≡ clause_hash x.clause
     → AreLiteralsOf bank x.clause.literals → All (IsKnown learned) x.clause.literals
     → after.clauses.items ≡ before.clauses.items ++ x ∷ [] → after.lines ≡ before.lines + length lines
     → AreResults bank learned (lss ++ lines ∷ []) after
-one-more-result bank known learned lss before after lines results x clause more are fit read same key of_bank all_known items count = record {
+one-more-result bank known learned lss before after lines results x clause more are fit read same hashed of_bank all_known items count = record {
   interned =
       subst (AreInterned bank learned (lss ++ lines ∷ [])) (sym items)
       (added-one bank learned lss before.clauses.items lines x (learned-all bank known learned lss before.clauses.items more are.interned)
       (record {
         led = fit.led ∙ ap (λ (d : TreeClause). let o : Option TreeClause = Some d in o) (sym whole);
-        key = key;
+        hashed = hashed;
         no_names = no-assertions x.clause.names (ap (λ (d : TreeClause). d.names) whole ∙ fit.no_names);
         of_bank = of_bank;
         known = all_known;

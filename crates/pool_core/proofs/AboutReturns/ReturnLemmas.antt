@@ -1,6 +1,8 @@
 -- A pool after a return.
 use Rattle.std.proofs.Common.{◌≡◌, ℕ, suc, ◌+◌, ◌<◌, ◌≤◌, Bool, true, false, not, ◌&&◌, ◌==◌, List, [], ◌∷◌, ◌++◌, ◌^◌, map, length, append-nil, refl, ap, ap₂, sym, ◌∙◌, subst, ⊎_elim, arith}
-use Rattle.std.specs.Prelude.{Option, None, Some, cond, find, nat_lt, is_none, is_some, slice_get, All, if◌then◌else◌}
+use Rattle.std.specs.Prelude.{Option, None, Some, cond, find, nat_lt, is_none, is_some, slice_get, All, IfErr, if◌then◌else◌}
+use Rattle.std.specs.declared.result.Result.{Result}
+use Rattle.std.specs.declared.result.Result.TheVariants.{Ok, Err}
 use Rattle.std.proofs.Math.Seq.{drop-length}
 use Rattle.std.proofs.lemmas.Bool.{and_from, lt-ltb, true≢false, eqb-true, or_cases}
 use Rattle.std.proofs.lemmas.Option.{none-some, same_Some}
@@ -159,3 +161,8 @@ out-placed a job n j s is found same there none =
 pub first-died : (r : PoolRecord) (work : Work) (n : ℕ) → dead_justifier r work ≡ Some n → has_died r.deaths n ≡ true
 first-died r (Gone m) n found = (found-one (is_dead r) m.justifiers n found).0
 first-died r (Met entries removals) n found = absurd (none-some n found)
+
+-- what holds whatever an error says
+pub of-refused : {T E X : Type 0} (answer : Result T E) → X → IfErr answer (λ _. X)
+of-refused (Ok y) x = tt
+of-refused (Err y) x = x

@@ -9,6 +9,7 @@ use Rattle.std.proofs.lemmas.Option.{none-some, same_Some}
 use Rattle.fol_base.specs.WellFormed.{SymbolUse}
 use Rattle.kernel_steps.specs.Split.{has_number}
 use Rattle.term_bank.specs.declared.table.Table.{Table}
+use Rattle.pool_core.specs.CountedList.{keys_in}
 use Rattle.pool_core.specs.Answers.{IsTicket, dead_justifier}
 use Rattle.pool_core.specs.Batches.{IsRightWork}
 use Rattle.pool_core.specs.Claiming.{ready}
@@ -90,7 +91,7 @@ pub record IsTurnedDownBy (a b : Inside) (e : Event) : Type 0 where
   pub history_room : vec_len b.history.events + length a.jobs.entries ≤ vec_capacity b.history.events
   pub before : b.notes_before.items ≡ a.notes_before.items ++ length a.proof.notes.items ∷ []
   pub before_room : vec_len b.notes_before + length a.jobs.entries ≤ vec_capacity b.notes_before
-  pub counted : b.counted.items ≡ a.counted.items
+  pub counted : keys_in b.counted ≡ keys_in a.counted
   pub set_aside : b.set_aside.items ≡ a.set_aside.items
   pub last_job : b.last_job ≡ a.last_job
   pub place : b.place ≡ a.place

@@ -40,7 +40,7 @@ use Rattle.pool_core.specs.declared.batch.Work.{Work}
 use Rattle.pool_core.specs.declared.batch.Work.TheVariants.{Gone, Met}
 use Rattle.pool_core.specs.declared.event.Event.{Event}
 use Rattle.pool_core.specs.declared.event.Event.TheVariants.{Claim, Return, Stale, Void, ClaimSolve, ReturnModel, ReturnRefuted, Abandon}
-use Rattle.pool_core.proofs.AboutCounting.CountedLemmas.{number-passes}
+use Rattle.pool_core.proofs.AboutCounting.CountedRecords.{number-passes}
 use Rattle.pool_core.proofs.AboutRecords.FrameLemmas.{by-if}
 use Rattle.pool_core.proofs.AboutOutcomes.HeavyLemmas.{clause-more}
 use Rattle.pool_core.proofs.AboutClaims.HistoryLemmas.{later-append}

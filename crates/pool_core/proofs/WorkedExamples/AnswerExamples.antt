@@ -1,11 +1,11 @@
 -- Worked answers to claims and returns.
-use Rattle.std.proofs.Common.{◌≡◌, ℕ, List, [], ◌∷◌, ◌++◌, take, Some, refl, sym, ◌∙◌, subst, arith}
+use Rattle.std.proofs.Common.{◌≡◌, ℕ, List, [], ◌∷◌, ◌++◌, take, Some, true, refl, sym, ◌∙◌, subst, true≢false, arith}
 use Rattle.std.proofs.lemmas.Option.{none-some, same_Some}
 use Rattle.fol_base.specs.Examples.{a}
-use Rattle.pool_core.specs.Record.{GivenJob}
+use Rattle.pool_core.specs.Record.{GivenJob, lives}
 use Rattle.pool_core.specs.Replay.{replay}
-use Rattle.pool_core.specs.Answers.{IsAnswerToClaim, IsAnswerToReturn, death_of, dead_justifier}
-use Rattle.pool_core.specs.Examples.{pool_of, three, units, units_history, justified, removing, cut_by, return}
+use Rattle.pool_core.specs.Answers.{IsAnswerToClaim, IsAnswerToReturn, TakesMemory, death_of, dead_justifier}
+use Rattle.pool_core.specs.Examples.{pool_of, three, units, units_history, justified, removing, cut_by, limited, rewrites_history, return}
 use Rattle.pool_core.specs.declared.batch.Work.TheVariants as work
 use Rattle.pool_core.specs.declared.event.Event.{Event}
 use Rattle.pool_core.specs.declared.ticket.Ticket.{Ticket}
@@ -65,3 +65,23 @@ pub first_dead :
     (ticket : Ticket) (new : List Event)
     → IsAnswerToReturn justified removing 0 (record { job = 3; work = work.Gone (cut_by 0 []) }) (back.Stale 1 3 ticket) new → ⊥
 first_dead ticket new h = let same : ◌≡◌ {A = ℕ} 0 1 = same_Some 0 1 (sym died ∙ h.1) in absurd (omega (arith, same))
+
+-- ---- memory
+
+pub taken_with_memory : TakesMemory (replay justified removing) (record { job = 3; work = work.Gone (cut_by 1 (a ∷ [])) })
+taken_with_memory = (record { given = third_job; out = refl; says = refl }, refl)
+
+pub stale_with_memory : TakesMemory (replay justified removing) (record { job = 3; work = work.Gone (cut_by 0 []) })
+stale_with_memory = (record { given = third_job; out = refl; says = refl }, refl)
+
+-- the first job, whose clause has died
+abbrev first_job : GivenJob
+first_job = record { job = 1; number = 0; told = 0 ∷ []; as_of = 1; left = 100 }
+
+pub void_without_memory : TakesMemory (replay justified removing) (record { job = 1; work = work.Met [] [] }) → ⊥
+void_without_memory h =
+    let is : first_job ≡ h.0.given = same_Some first_job h.0.given h.0.out in
+    true≢false (sym (subst (λ (j : GivenJob). lives (replay justified removing) j.number ≡ true) (sym is) h.0.says))
+
+pub spent_without_memory : TakesMemory (replay limited (take 3 rewrites_history)) (record { job = 1; work = work.Met [] [] }) → ⊥
+spent_without_memory h = true≢false (sym h.1)

@@ -2,12 +2,12 @@
 
 ghost use Rattle.std.specs.Prelude.{◌≡◌, List, [], ◌∷◌, ◌++◌, Some, None, take};
 ghost use Rattle.clause_queue.specs.declared.choice.Choice.TheVariants.{Light, Old};
-ghost use Rattle.pool_core.specs.Answers.{IsAnswerToClaim, IsAnswerToReturn};
+ghost use Rattle.pool_core.specs.Answers.{IsAnswerToClaim, IsAnswerToReturn, TakesMemory};
 ghost use Rattle.pool_core.specs.Claiming.{ready, picked, next_choice, next_given};
 ghost use Rattle.pool_core.specs.Outcomes.{outcome_of};
 ghost use Rattle.pool_core.specs.Record.{nothing_registered, jobs_out};
 ghost use Rattle.pool_core.specs.Replay.{start, replay};
-ghost use Rattle.pool_core.specs.Examples.{pool_of, three, abandon_history, given_up_from, units, units_history, justified, removing, cut_by, return};
+ghost use Rattle.pool_core.specs.Examples.{pool_of, three, abandon_history, given_up_from, units, units_history, justified, removing, cut_by, limited, rewrites_history, return};
 ghost use Rattle.fol_base.specs.Examples.{a};
 ghost use Rattle.pool_core.specs.declared.batch.Work.TheVariants as work;
 ghost use Rattle.pool_core.specs.declared.event.Event.{Event};
@@ -62,4 +62,13 @@ pub fn answer_examples()
         (record { job = 3; work = work.Gone (cut_by 1 (a ∷ [])) }) back.Taken (removing ++ return 3 (work.Gone (cut_by 1 (a ∷ []))) ∷ []) }
     ensures not_taken { IsAnswerToReturn justified removing 0
         (record { job = 3; work = work.Gone (cut_by 0 []) }) back.Taken (removing ++ return 3 (work.Gone (cut_by 0 [])) ∷ []) → ⊥ }
+{}
+
+/// A return takes memory where results are to be registered, or a ticket is made since a justifier has died; and not where the given clause
+/// has died, or an outcome stands.
+pub fn memory_examples()
+    ensures taken { TakesMemory (replay justified removing) (record { job = 3; work = work.Gone (cut_by 1 (a ∷ [])) }) }
+    ensures stale { TakesMemory (replay justified removing) (record { job = 3; work = work.Gone (cut_by 0 []) }) }
+    ensures void { TakesMemory (replay justified removing) (record { job = 1; work = work.Met [] [] }) → ⊥ }
+    ensures spent { TakesMemory (replay limited (take 3 rewrites_history)) (record { job = 1; work = work.Met [] [] }) → ⊥ }
 {}

@@ -1,7 +1,7 @@
 // Laws of lawful histories: each is the contract of a function without arguments and with an empty body.
 
 ghost use Rattle.pool_core.specs.Derived.{LinesAreDerived, RefutedIsRefutation};
-ghost use Rattle.pool_core.specs.Laws.{BatchesStayRight, ClaimedInTime, CountedOnce, DeathsAreJustified, JobsAreCounted, JobsWereGiven, NumbersFit, OutcomesStay, PicksAreChosen, PositionsStay, SetAsideAreHeavy, SpentIsTheCount};
+ghost use Rattle.pool_core.specs.Laws.{BatchesStayRight, ClaimedInTime, CountedOnce, DeathsAreJustified, HeavyOrNot, JobsAreCounted, JobsWereGiven, NumbersFit, OutcomesStay, PicksAreChosen, PositionsStay, SetAsideAreHeavy, SpentIsTheCount};
 ghost use Rattle.pool_core.specs.Wholeness.{PositionsAreRegistered, RegisteredAreWhole, ToldHavePositions};
 
 /// A clause that stays awake and alive, with m older ones, is claimed within 6(m + 1) given claims, while no job is given up.
@@ -32,6 +32,11 @@ pub fn outcomes_stay()
 /// What was set aside was counted, and names a heavy inference of registered clauses.
 pub fn set_aside_are_heavy()
     ensures { SetAsideAreHeavy }
+{}
+
+/// An inference is heavy or it isn't, whichever most general unifier shows it; so none is both kept and set aside.
+pub fn heavy_or_not()
+    ensures { HeavyOrNot }
 {}
 
 /// Where nothing is split, the registered clauses are canonical, small, without names, and well-formed together.

@@ -17,12 +17,13 @@ use Rattle.kernel_steps.specs.declared.key.Key.{Key}
 use Rattle.kernel_steps.specs.declared.key.Key.TheVariants.{Para, Refl, Factor, Replaced}
 use Rattle.pool_core.specs.Record.{PoolRecord, Registered, Death, has_died, lives, clause_numbered, numbers_of, has_living}
 use Rattle.pool_core.specs.Registering.{has_none}
-use Rattle.pool_core.proofs.AboutCounting.CountedLemmas.{Lookup, lookup-more}
+use Rattle.pool_core.proofs.AboutCounting.CountedRecords.{Lookup, lookup-more}
 use Rattle.pool_core.proofs.AboutRecords.EditLemmas.{get-end, get-middle}
 use Rattle.pool_core.proofs.AboutBeginnings.StartLemmas.{clause_eq-says}
 use Rattle.pool_core.proofs.AboutClaims.StateLemmas.{clause-numbered, item-at}
-use Rattle.saturation.specs.Cover.{CoversEach}
-use Rattle.saturation.proofs.AboutCarried.MoveLemmas.{each-held, each-across}
+use Rattle.calculus.specs.Coverage.{CoversEach}
+use Rattle.calculus.proofs.AboutCovering.ClauseLemmas.{In-either}
+use Rattle.calculus.proofs.AboutCovering.EachLemmas.{each-held, each-across}
 use Rattle.saturation.proofs.AboutCarried.VictimLemmas.{VictimsRegistered}
 
 -- ---- what is held
@@ -40,12 +41,6 @@ abbrev pub HeldBy : List Registered → List Death → List TreeClause → TreeC
 HeldBy registered deaths due c = Living registered deaths c ⊎ In c due
 
 -- ---- lists of clauses
-
-pub In-both : {X : Type 0} (x : X) (xs ys : List X) → In x (xs ++ ys) → In x xs ⊎ In x ys
-In-both x [] ys h = inr h
-In-both x (z ∷ zs) ys h =
-    ⊎_elim (λ (e : x ≡ z). inl (inl e))
-    (λ (later : In x (zs ++ ys)). ⊎_elim (λ (k : In x zs). inl (inr k)) (λ (k : In x ys). inr k) (In-both x zs ys later)) h
 
 lookup-end :
     (registered : List Registered) (x : Registered) (n : ℕ) (c : TreeClause)
@@ -294,7 +289,7 @@ module _ {is_predicate : ℕ → Bool} (functions : FunctionSymbols is_predicate
         ⊎_elim
         (λ (old : In key counted). settled-aside registered set_aside more Holds key (carried.keys_settled key old))
         (λ (late : In key keys). new key late)
-        (In-both key counted keys there);
+        (In-either key counted keys there);
     some_literals = carried.some_literals;
   }
 
@@ -307,6 +302,6 @@ module _ {is_predicate : ℕ → Bool} (functions : FunctionSymbols is_predicate
     inputs_covered = carried.inputs_covered;
     clauses_covered = carried.clauses_covered;
     keys_settled = λ key there.
-        ⊎_elim (λ (old : In key counted). carried.keys_settled key old) (λ (late : In key keys). new key late) (In-both key counted keys there);
+        ⊎_elim (λ (old : In key counted). carried.keys_settled key old) (λ (late : In key keys). new key late) (In-either key counted keys there);
     some_literals = carried.some_literals;
   }

@@ -1,6 +1,6 @@
 -- The entries of a batch: the conclusion of each inference is covered by the told clauses, which are covered themselves, and by its result,
 -- which is due; or the inference is set aside.
-use Rattle.std.proofs.Common.{◌≡◌, ℕ, Bool, true, false, List, [], ◌∷◌, map, refl, sym, ◌∙◌, subst, inl, inr, ⊎_elim}
+use Rattle.std.proofs.Common.{◌≡◌, ℕ, Bool, true, false, List, [], ◌∷◌, map, refl, sym, subst, inl, inr, ⊎_elim}
 use Rattle.std.specs.Prelude.{Option, None, Some, cond}
 use Rattle.std.specs.List.{list_all, cons_option, AllByRecursion}
 use Rattle.fol_base.specs.Clause.{TreeClause}
@@ -30,11 +30,13 @@ use Rattle.pool_core.specs.declared.batch.Fate.{Fate}
 use Rattle.pool_core.specs.declared.batch.Fate.TheVariants.{Kept, Dropped, Heavy}
 use Rattle.pool_core.specs.declared.batch.Redundancy.{Redundancy}
 use Rattle.pool_core.specs.declared.batch.Redundancy.TheVariants.{Tautology, Subsumed}
-use Rattle.pool_core.proofs.AboutCounting.CountedLemmas.{Lookup}
+use Rattle.pool_core.proofs.AboutCounting.CountedRecords.{Lookup}
 use Rattle.pool_core.proofs.AboutLines.FormedLemmas.{IsFormed}
-use Rattle.saturation.specs.Cover.{CoversEach}
+use Rattle.calculus.specs.Coverage.{CoversEach}
 use Rattle.saturation.proofs.AboutClosing.ConclusionLemmas.{inferences_keep_symbols}
-use Rattle.saturation.proofs.AboutCarried.MoveLemmas.{CalculusLaws, Beside, each-held, each-more, each-across, moves-reached, tautology-covered, subsumed-covered, away-covered}
+use Rattle.calculus.proofs.AboutCovering.CoverLemmas.{tautologies}
+use Rattle.calculus.proofs.AboutCovering.EachLemmas.{each-held, each-more, each-across, each-beside}
+use Rattle.calculus.proofs.AboutCovering.MoveLemmas.{moves-reached, subsumed-covered, away-covered}
 use Rattle.saturation.proofs.AboutCarried.CarriedLemmas.{HeldBy, IsCarried, IsSettled, inference-more}
 use Rattle.saturation.proofs.AboutCarried.ArrivalLemmas.{LeadsToNoNames, results_due}
 use Rattle.saturation.proofs.AboutCarried.RemovalLemmas.{among-parts, lines-nameless}
@@ -65,7 +67,7 @@ In-option x None xs there = there
 In-option x (Some y) xs there = inr there
 
 module _
-    (laws : CalculusLaws) (usage : SymbolUse) (functions : FunctionSymbols usage.is_predicate) (inputs : List TreeClause)
+    (usage : SymbolUse) (functions : FunctionSymbols usage.is_predicate) (inputs : List TreeClause)
     (options : Options) (unsplit : options.split ≡ false)
     (registered : List Registered) (symbols : (n : ℕ) (c : TreeClause) → Lookup registered n ≡ Some c → HasSymbolsOf functions c)
     (formed : (n : ℕ) (c : TreeClause) → Lookup registered n ≡ Some c → IsFormed usage c) (j : GivenJob) where
@@ -101,9 +103,9 @@ module _
   redundant-covered :
       (c : TreeClause) (redundancy : Redundancy) → HasSymbolsOf functions c → IsRedundant usage.is_predicate clauses c redundancy → CoversEach functions Used c
   redundant-covered c Tautology passes redundant =
-      tautology-covered laws usage.is_predicate functions Used used-pass clauses (λ n. true) uses c redundant
+      tautologies usage.is_predicate functions Used c redundant
   redundant-covered c (Subsumed n) passes redundant =
-      subsumed-covered laws usage.is_predicate functions Used used-pass clauses (λ n. true) uses c n passes redundant refl
+      subsumed-covered usage.is_predicate functions Used used-pass clauses (λ n. true) uses c n passes redundant refl
 
   module _ (deaths : List Death) (counted set_aside : List Key) (carried : IsCarried functions the_mode inputs registered counted set_aside (HeldBy registered deaths [])) where
     abbrev Holds : List TreeClause → TreeClause → Type 0
@@ -121,15 +123,11 @@ module _
     kept-covered due key lines results right there =
         let c : TreeClause = clause_of right.first.clause in
         let reached =
-        moves-reached laws usage.is_predicate functions Used used-pass clauses (λ n. true) uses right.moves c right.reduced.moved
+        moves-reached usage.is_predicate functions Used used-pass clauses (λ n. true) uses right.moves c right.reduced.moved
         (all-numbers (units_of right.moves)) (told-passes key c (told-inference key c false right.inferred)) in
-        each-across functions (Beside Used (end_of_moves c right.moves)) (Holds due) c
-        (λ e h.
-        ⊎_elim (λ (used : Used e). used-covered due e used)
-        (λ (same : e ≡ end_of_moves c right.moves).
-        each-held functions (Holds due) e (inr (subst (λ (d : TreeClause). In d due) (sym (same ∙ right.reduced.ends)) there)))
-        h)
-        reached.covers
+        let end : TreeClause = end_of_moves c right.moves in
+        each-beside functions Used (Holds due) c end (used-covered due)
+        (each-held functions (Holds due) end (inr (subst (λ (d : TreeClause). In d due) (sym right.reduced.ends) there))) reached.covers
 
     dropped-covered :
         (due : List TreeClause) (key : Key) (redundancy : Redundancy)
@@ -138,10 +136,10 @@ module _
     dropped-covered due key redundancy right =
         let c : TreeClause = right.conclusion in
         let reached =
-        moves-reached laws usage.is_predicate functions Used used-pass clauses (λ n. true) uses right.moves c right.moved
+        moves-reached usage.is_predicate functions Used used-pass clauses (λ n. true) uses right.moves c right.moved
         (all-numbers (units_of right.moves)) (told-passes key c (told-inference key c false right.inferred)) in
         each-across functions Used (Holds due) c (used-covered due)
-        (away-covered laws usage.is_predicate functions Used used-pass c (end_of_moves c right.moves) reached
+        (away-covered usage.is_predicate functions Used used-pass c (end_of_moves c right.moves) reached
         (redundant-covered (end_of_moves c right.moves) redundancy reached.symbols right.redundant))
 
     -- ---- entries
@@ -206,6 +204,6 @@ module _
           (fate : Fate) → IsRightFate usage.is_predicate options (Lookup registered) j e.key fate → AllByRecursion LeadsToNoNames (lines_of_entries es)
           → AllByRecursion LeadsToNoNames (cons_option (lines_of_fate fate) (lines_of_entries es))
       by (Kept lines results) right rest =
-          (lines-nameless laws usage functions inputs options unsplit registered symbols formed j lines right.are_lines, rest)
+          (lines-nameless usage functions inputs options unsplit registered symbols formed j lines right.are_lines, rest)
       by (Dropped redundancy) right rest = rest
       by Heavy right rest = rest

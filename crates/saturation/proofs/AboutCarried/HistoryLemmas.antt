@@ -31,7 +31,7 @@ use Rattle.pool_core.proofs.AboutRecords.PlaceLemmas.{Placed, after-placed}
 use Rattle.pool_core.proofs.AboutLines.PoolLineLemmas.{Sound}
 use Rattle.pool_core.proofs.AboutLines.SoundLemmas.{open-is, no-solve, history-sound}
 use Rattle.saturation.specs.Found.{Find, event_finds, finds_from}
-use Rattle.saturation.proofs.AboutCarried.MoveLemmas.{CalculusLaws, each-held}
+use Rattle.calculus.proofs.AboutCovering.EachLemmas.{each-held}
 use Rattle.saturation.proofs.AboutCarried.CarriedLemmas.{HeldBy, Open}
 use Rattle.saturation.proofs.AboutCarried.ArrivalLemmas.{OpenWith, is-closed, comes-open}
 use Rattle.saturation.proofs.AboutCarried.VictimLemmas.{Victims, none-registered, victims-keep}
@@ -126,7 +126,7 @@ module _ (usage : SymbolUse) (inputs : List TreeClause) (options : Options) (uns
   -- ---- coverage
 
   module _
-      (laws : CalculusLaws) (functions : FunctionSymbols usage.is_predicate)
+      (functions : FunctionSymbols usage.is_predicate)
       (inputs_pass : list_all (clause_symbols_pass (is_allowed functions)) inputs ≡ true) where
     abbrev Carries : PoolRecord → Type 0
     Carries r = OpenWith functions (mode_of options.select) inputs [] r
@@ -139,7 +139,7 @@ module _ (usage : SymbolUse) (inputs : List TreeClause) (options : Options) (uns
         claimed-covered (Some n) =
             by-if (λ s. Carries (given_out options job n s)) (has_number n r.positions) r (record r { positions = r.positions ++ n ∷ [] }) carries carries
     after-covered r (Return batch) allowed finds reaches carries =
-        returned-covered laws usage functions inputs inputs_pass options unsplit batch allowed.given r reaches.sound (λ h. (reaches.stated h).victims)
+        returned-covered usage functions inputs inputs_pass options unsplit batch allowed.given r reaches.sound (λ h. (reaches.stated h).victims)
         allowed.out allowed.says carries
     after-covered r (Stale job justifier) allowed finds reaches carries = carries
     after-covered r (Void job) allowed finds reaches carries = carries

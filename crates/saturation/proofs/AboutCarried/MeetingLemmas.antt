@@ -22,7 +22,7 @@ use Rattle.pool_core.specs.Outcomes.{premises}
 use Rattle.pool_core.specs.Batches.{is_told, told_before, is_to_meet, MeetsAll}
 use Rattle.pool_core.specs.declared.options.Options.{Options}
 use Rattle.pool_core.specs.declared.batch.Entry.{Entry}
-use Rattle.pool_core.proofs.AboutCounting.CountedLemmas.{Lookup}
+use Rattle.pool_core.proofs.AboutCounting.CountedRecords.{Lookup}
 use Rattle.pool_core.proofs.AboutRecords.EditLemmas.{eq-sym}
 use Rattle.pool_core.proofs.AboutLines.JoinedLemmas.{by-test, BehindAt, get-cases}
 use Rattle.pool_core.proofs.AboutRecords.PlaceLemmas.{has-left, has-first}

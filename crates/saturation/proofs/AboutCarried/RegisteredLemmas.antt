@@ -12,7 +12,7 @@ use Rattle.kernel_steps.specs.declared.step.Line.{Line}
 use Rattle.calculus.specs.Symbols.{is_allowed, HasSymbolsOf}
 use Rattle.pool_core.specs.Record.{PoolRecord, Registered}
 use Rattle.pool_core.specs.Wholeness.{IsWhole}
-use Rattle.pool_core.proofs.AboutCounting.CountedLemmas.{Lookup}
+use Rattle.pool_core.proofs.AboutCounting.CountedRecords.{Lookup}
 use Rattle.pool_core.proofs.AboutLines.FormedLemmas.{IsFormed}
 use Rattle.pool_core.proofs.AboutLines.PoolLineLemmas.{Sound}
 use Rattle.pool_core.proofs.AboutBeginnings.StartLemmas.{all-at}

@@ -29,13 +29,15 @@ use Rattle.pool_core.specs.declared.batch.Fate.TheVariants.{Kept, Dropped, Heavy
 use Rattle.pool_core.specs.declared.batch.Redundancy.{Redundancy}
 use Rattle.pool_core.specs.declared.batch.Redundancy.TheVariants.{Tautology, Subsumed}
 use Rattle.pool_core.specs.declared.batch.Removal.{Removal}
-use Rattle.pool_core.proofs.AboutCounting.CountedLemmas.{Lookup, lookup-more}
+use Rattle.pool_core.proofs.AboutCounting.CountedRecords.{Lookup, lookup-more}
 use Rattle.pool_core.proofs.AboutCounting.DeathLemmas.{among-pass}
 use Rattle.pool_core.proofs.AboutLines.FormedLemmas.{IsFormed, result-formed}
 use Rattle.pool_core.proofs.AboutRecords.GrowthLemmas.{all-proposed-grows}
 use Rattle.pool_core.proofs.AboutLines.JoinedLemmas.{by-test}
-use Rattle.saturation.specs.Cover.{CoversEach}
-use Rattle.saturation.proofs.AboutCarried.MoveLemmas.{CalculusLaws, Beside, each-more, moves-reached, tautology-covered, subsumed-covered, away-covered}
+use Rattle.calculus.specs.Coverage.{CoversEach}
+use Rattle.calculus.proofs.AboutCovering.CoverLemmas.{Together, tautologies}
+use Rattle.calculus.proofs.AboutCovering.EachLemmas.{each-more}
+use Rattle.calculus.proofs.AboutCovering.MoveLemmas.{moves-reached, subsumed-covered, away-covered}
 use Rattle.saturation.proofs.AboutCarried.CarriedLemmas.{alive, Living, HeldBy, Open, alive-on, dead-carried, keys-carried}
 use Rattle.saturation.proofs.AboutCarried.VictimLemmas.{Victims, victims-die, effect-parts, living-registered, proposed-victims}
 use Rattle.saturation.proofs.AboutCarried.ArrivalLemmas.{LeadsToNoNames, OpenWith, counts-open}
@@ -52,7 +54,7 @@ among-parts test clauses n c there = by (test n) refl there
     by false is h = absurd (none-some c h)
 
 module _
-    (laws : CalculusLaws) (usage : SymbolUse) (functions : FunctionSymbols usage.is_predicate) (inputs : List TreeClause)
+    (usage : SymbolUse) (functions : FunctionSymbols usage.is_predicate) (inputs : List TreeClause)
     (options : Options) (unsplit : options.split ≡ false)
     (told : List Registered) (symbols : (n : ℕ) (c : TreeClause) → Lookup told n ≡ Some c → HasSymbolsOf functions c)
     (formed : (n : ℕ) (c : TreeClause) → Lookup told n ≡ Some c → IsFormed usage c) (j : GivenJob) where
@@ -100,9 +102,9 @@ module _
         → HasSymbolsOf functions c → IsRedundant usage.is_predicate clauses c redundancy → list_all (alive registered deaths) (subsumers redundancy) ≡ true
         → CoversEach functions Used c
     redundant-covered c Tautology passes redundant lives =
-        tautology-covered laws usage.is_predicate functions Used used-pass clauses (alive registered deaths) uses c redundant
+        tautologies usage.is_predicate functions Used c redundant
     redundant-covered c (Subsumed n) passes redundant lives =
-        subsumed-covered laws usage.is_predicate functions Used used-pass clauses (alive registered deaths) uses c n passes redundant
+        subsumed-covered usage.is_predicate functions Used used-pass clauses (alive registered deaths) uses c n passes redundant
         (and_parts (alive registered deaths n) true lives).0
 
     -- by what lives on, and a result that is due
@@ -114,9 +116,9 @@ module _
         let ms = right.move ∷ right.moves in
         let there = (among-parts (is_told j) (Lookup told) d.victim right.clause right.there).1 in
         let reached =
-        moves-reached laws usage.is_predicate functions Used used-pass clauses (alive registered deaths) uses ms right.clause right.reduced.moved
+        moves-reached usage.is_predicate functions Used used-pass clauses (alive registered deaths) uses ms right.clause right.reduced.moved
         (used-live (units_of ms) (clauses_used d.victim lines) right.justified).0 (symbols d.victim right.clause there) in
-        each-more functions (Beside Used (end_of_moves right.clause ms)) (HeldBy registered (deaths ++ d ∷ []) (right.result ∷ [])) right.clause
+        each-more functions (Together Used (end_of_moves right.clause ms)) (HeldBy registered (deaths ++ d ∷ []) (right.result ∷ [])) right.clause
         (λ e h.
         ⊎_elim (λ (used : Used e). inl used.0) (λ (same : e ≡ end_of_moves right.clause ms). inr (inl (same ∙ right.reduced.ends))) h)
         reached.covers
@@ -129,10 +131,10 @@ module _
         let there = (among-parts (is_told j) (Lookup told) d.victim right.clause right.there).1 in
         let used = used-live (units_of right.moves) (subsumers redundancy) right.justified in
         let reached =
-        moves-reached laws usage.is_predicate functions Used used-pass clauses (alive registered deaths) uses right.moves right.clause right.moved
+        moves-reached usage.is_predicate functions Used used-pass clauses (alive registered deaths) uses right.moves right.clause right.moved
         used.0 (symbols d.victim right.clause there) in
         each-more functions Used (HeldBy registered (deaths ++ d ∷ []) []) right.clause (λ e held. inl held.0)
-        (away-covered laws usage.is_predicate functions Used used-pass right.clause (end_of_moves right.clause right.moves) reached
+        (away-covered usage.is_predicate functions Used used-pass right.clause (end_of_moves right.clause right.moves) reached
         (redundant-covered (end_of_moves right.clause right.moves) redundancy reached.symbols right.redundant used.1))
 
   -- ---- records

@@ -13,7 +13,7 @@ use Rattle.pool_core.specs.Claiming.{new_job, next_given, claimed_by}
 use Rattle.pool_core.specs.Replay.{retold, with_events, after}
 use Rattle.pool_core.specs.declared.options.Options.{Options}
 use Rattle.pool_core.specs.declared.event.Event.TheVariants.{Claim}
-use Rattle.pool_core.proofs.AboutClaims.ClaimLemmas.{positions_with, claim_after, after-claim}
+use Rattle.pool_core.proofs.AboutClaims.ClaimedRecords.{positions_with, claim_after, after-claim}
 use Rattle.pool_core.proofs.AboutRecords.FrameLemmas.{by-if}
 use Rattle.pool_core.proofs.AboutClaims.HandLemmas.{all-filter, all-end, all-weaker}
 use Rattle.pool_core.proofs.AboutRecords.PlaceLemmas.{Placed, has-right, has-first}

@@ -24,13 +24,12 @@ use Rattle.pool_core.specs.declared.batch.Entry.{Entry}
 use Rattle.pool_core.specs.declared.batch.Removal.{Removal}
 use Rattle.pool_core.specs.declared.batch.Work.{Work}
 use Rattle.pool_core.specs.declared.batch.Work.TheVariants.{Gone, Met}
-use Rattle.pool_core.proofs.AboutCounting.CountedLemmas.{Lookup, lookup-more}
+use Rattle.pool_core.proofs.AboutCounting.CountedRecords.{Lookup, lookup-more}
 use Rattle.pool_core.proofs.AboutCounting.DeathLemmas.{counts-keeps}
 use Rattle.pool_core.proofs.AboutRecords.GrowthLemmas.{counts-grows}
 use Rattle.pool_core.proofs.AboutLines.JoinedLemmas.{by-test}
 use Rattle.pool_core.proofs.AboutLines.PoolLineLemmas.{Sound}
 use Rattle.pool_core.proofs.AboutLines.SoundLemmas.{open-is}
-use Rattle.saturation.proofs.AboutCarried.MoveLemmas.{CalculusLaws}
 use Rattle.saturation.proofs.AboutCarried.VictimLemmas.{Victims, victims-keep}
 use Rattle.saturation.proofs.AboutCarried.CarriedLemmas.{HeldBy, Open, carried-more, counted-carried}
 use Rattle.saturation.proofs.AboutCarried.ArrivalLemmas.{results_due, OpenWith, is-closed, counts-open}
@@ -39,7 +38,7 @@ use Rattle.saturation.proofs.AboutCarried.EntryLemmas.{entries-settled, entries-
 use Rattle.saturation.proofs.AboutCarried.RegisteredLemmas.{registered-pass, registered-formed}
 
 module _
-    (laws : CalculusLaws) (usage : SymbolUse) (functions : FunctionSymbols usage.is_predicate) (inputs : List TreeClause)
+    (usage : SymbolUse) (functions : FunctionSymbols usage.is_predicate) (inputs : List TreeClause)
     (inputs_pass : list_all (clause_symbols_pass (is_allowed functions)) inputs ≡ true) (options : Options) (unsplit : options.split ≡ false) where
   abbrev the_mode : SelectionMode
   the_mode = mode_of options.select
@@ -57,7 +56,7 @@ module _
       → Sound usage inputs r → Victims r → lives r j.number ≡ true → list_all (lives r) m.justifiers ≡ true
       → IsRightGone usage.is_predicate options (clauses_of r) j m → Open functions the_mode inputs r [] → Covered (removed options m (without job r))
   gone-covered job j m r sound victims alive live right is_open =
-      removed-open laws usage functions inputs options unsplit r.registered (registered-pass usage inputs functions inputs_pass r sound)
+      removed-open usage functions inputs options unsplit r.registered (registered-pass usage inputs functions inputs_pass r sound)
       (registered-formed usage inputs r sound) j m (without job r) (λ n c there. there) victims is_open
       (ap (lives r) right.victim ∙ alive) live right.right
 
@@ -88,12 +87,12 @@ module _
     counted-covered : Covered counted
     counted-covered =
         counts-open functions the_mode inputs options keys results aside unsplit
-        (entries-nameless laws usage functions inputs options unsplit r.registered (registered-pass usage inputs functions inputs_pass r sound)
+        (entries-nameless usage functions inputs options unsplit r.registered (registered-pass usage inputs functions inputs_pass r sound)
         (registered-formed usage inputs r sound) j entries rights)
         victims
         (λ h.
         counted-carried functions the_mode inputs r.registered r.counted r.set_aside keys (keys_of (heavy_entries entries)) (HeldBy r.registered r.deaths due)
-        (entries-settled laws usage functions inputs options unsplit r.registered (registered-pass usage inputs functions inputs_pass r sound)
+        (entries-settled usage functions inputs options unsplit r.registered (registered-pass usage inputs functions inputs_pass r sound)
         (registered-formed usage inputs r sound) j r.deaths r.counted r.set_aside is_open entries
         (r.set_aside ++ keys_of (heavy_entries entries)) due rights (λ key there. In-right key r.set_aside (keys_of (heavy_entries entries)) there)
         (λ d there. there))
@@ -103,7 +102,7 @@ module _
     -- and the removals take effect
     met-covered : Covered (worked options j.number (Met entries removals) (without job r))
     met-covered =
-        (all-proposed-held laws usage functions inputs options unsplit r.registered (registered-pass usage inputs functions inputs_pass r sound)
+        (all-proposed-held usage functions inputs options unsplit r.registered (registered-pass usage inputs functions inputs_pass r sound)
         (registered-formed usage inputs r sound) j removals counted
         (recursion_from_All (IsRightRemoval usage.is_predicate options (Lookup r.registered) j) removals right.right_removals)
         (record {

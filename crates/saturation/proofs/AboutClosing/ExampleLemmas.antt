@@ -21,7 +21,7 @@ use Rattle.pool_core.specs.Inputs.{AreInputs}
 use Rattle.pool_core.specs.Lawful.{IsLawful}
 use Rattle.pool_core.specs.Replay.{start, replay}
 use Rattle.pool_core.specs.Saturated.{IsSaturated}
-use Rattle.saturation.specs.Cover.{CoversEach}
+use Rattle.calculus.specs.Coverage.{CoversEach}
 use Rattle.saturation.specs.Carried.{IsHeld, IsCarried}
 use Rattle.saturation.specs.Laws.{SaturatedIsSaturated}
 use Rattle.saturation.specs.Examples.{all_true, one_atom, one_tautology, tautology_history}

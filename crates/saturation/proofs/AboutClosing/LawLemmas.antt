@@ -22,13 +22,14 @@ use Rattle.pool_core.specs.Lawful.{IsLawful}
 use Rattle.pool_core.specs.Replay.{Origin, start, replay}
 use Rattle.pool_core.specs.declared.event.Event.{Event}
 use Rattle.pool_core.proofs.AboutBeginnings.BeginningLemmas.{replay-sound}
-use Rattle.pool_core.proofs.AboutCounting.CountedLemmas.{Lookup}
+use Rattle.pool_core.proofs.AboutCounting.CountedRecords.{Lookup}
 use Rattle.pool_core.proofs.AboutRecords.PlaceLemmas.{start-placed}
-use Rattle.saturation.specs.Cover.{CoversEach}
+use Rattle.calculus.specs.Coverage.{CoversEach}
 use Rattle.saturation.specs.Carried.{IsHeld}
 use Rattle.saturation.specs.Found.{finds_of}
 use Rattle.saturation.specs.Laws.{CarriedThrough, SaturatedIsSaturated, MembersHaveMet}
-use Rattle.saturation.proofs.AboutCarried.MoveLemmas.{CalculusLaws, all-in, each-more}
+use Rattle.calculus.proofs.AboutCovering.ClauseLemmas.{All-In}
+use Rattle.calculus.proofs.AboutCovering.EachLemmas.{each-more}
 use Rattle.saturation.proofs.AboutClosing.RenamingLemmas.{variant-covers}
 use Rattle.saturation.proofs.AboutCarried.CarriedLemmas.{Living, HeldBy, Open}
 use Rattle.saturation.proofs.AboutCarried.ArrivalLemmas.{OpenWith}
@@ -63,12 +64,12 @@ module _
   replay-reaches : Reaches usage origin.inputs origin.options unsplit (finds_of origin history) r
   replay-reaches = history-reaches usage origin.inputs origin.options unsplit [] history (start origin) lawful start-reaches
 
-  module _ (laws : CalculusLaws) (functions : FunctionSymbols usage.is_predicate) (symbols : All (HasSymbolsOf functions) origin.inputs) where
+  module _ (functions : FunctionSymbols usage.is_predicate) (symbols : All (HasSymbolsOf functions) origin.inputs) where
     replay-covered : OpenWith functions the_mode origin.inputs [] r
     replay-covered =
-        history-covered usage origin.inputs origin.options unsplit laws functions (all-pass functions origin.inputs symbols) [] history (start origin) lawful
+        history-covered usage origin.inputs origin.options unsplit functions (all-pass functions origin.inputs symbols) [] history (start origin) lawful
         start-reaches
-        (started-covered usage origin.inputs origin.options unsplit laws functions (all-pass functions origin.inputs symbols)
+        (started-covered usage origin.inputs origin.options unsplit functions (all-pass functions origin.inputs symbols)
         (recursion_from_All (λ (c : TreeClause). c.names ≡ []) origin.inputs inputs.no_names))
 
     -- ---- what is held, under any truth values
@@ -108,23 +109,23 @@ module _
           rest)
           (carried.keys_settled key (contains-In key r.counted counted))
 
-pub carried_through : CalculusLaws → ConclusionsAreVariants → CarriedThrough
-carried_through laws variants usage functions origin history truth inputs used unsplit symbols lawful is_open model =
-    let whole = carried usage origin history inputs used unsplit lawful laws functions symbols truth is_open in
-    let covers = by-held usage origin history inputs used unsplit lawful laws functions symbols truth is_open in
+pub carried_through : ConclusionsAreVariants → CarriedThrough
+carried_through variants usage functions origin history truth inputs used unsplit symbols lawful is_open model =
+    let whole = carried usage origin history inputs used unsplit lawful functions symbols truth is_open in
+    let covers = by-held usage origin history inputs used unsplit lawful functions symbols truth is_open in
     record {
       inputs_covered =
-          all-in (CoversEach functions (IsHeld truth (replay origin history))) origin.inputs (λ c there. covers c (whole.inputs_covered c there));
+          All-In (CoversEach functions (IsHeld truth (replay origin history))) origin.inputs (λ c there. covers c (whole.inputs_covered c there));
       registered_covered = λ n c there awake. covers c (whole.clauses_covered n c there);
       counted_covered = λ key c counted not_aside awake inferred.
-          key-covered usage origin history inputs used unsplit lawful laws functions symbols truth is_open variants key c counted not_aside inferred;
+          key-covered usage origin history inputs used unsplit lawful functions symbols truth is_open variants key c counted not_aside inferred;
     }
 
-pub saturated_is_saturated : CalculusLaws → SaturatedIsSaturated
-saturated_is_saturated laws usage functions origin history inputs used unsplit symbols lawful saturated =
+pub saturated_is_saturated : SaturatedIsSaturated
+saturated_is_saturated usage functions origin history inputs used unsplit symbols lawful saturated =
     members-saturated usage origin.inputs origin.options unsplit (finds_of origin history) (replay origin history) (replay-reaches usage origin history inputs used unsplit lawful)
-    (fixed_are_refuted_or_spent origin history) saturated laws functions
-    (replay-covered usage origin history inputs used unsplit lawful laws functions symbols)
+    (fixed_are_refuted_or_spent origin history) saturated functions
+    (replay-covered usage origin history inputs used unsplit lawful functions symbols)
 
 pub members_have_met : MembersHaveMet
 members_have_met usage origin history key c inputs used unsplit lawful saturated inferred =

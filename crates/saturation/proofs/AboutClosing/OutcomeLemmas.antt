@@ -23,7 +23,7 @@ use Rattle.literal_selection.specs.Mode.{mode_of}
 use Rattle.sat_core.specs.Clause.{Valuation, literal_true, valuation_of}
 use Rattle.clause_queue.specs.declared.choice.Choice.{Choice}
 use Rattle.clause_queue.specs.declared.choice.Choice.TheVariants.{Light, Old}
-use Rattle.calculus.specs.Coverage.{CoversInstancesOf}
+use Rattle.calculus.specs.Coverage.{CoversEach, CoversInstancesOf}
 use Rattle.calculus.specs.Lifting.{among, IsMember, HasConclusionsOf}
 use Rattle.pool_core.specs.Record.{PoolRecord, Registered, GivenJob, clauses_of, clause_numbered, numbers_of, has_died, lives, waits, is_awake_under, is_awake, jobs_out, position_of}
 use Rattle.pool_core.specs.Solving.{must_solve}
@@ -36,17 +36,18 @@ use Rattle.pool_core.specs.Tags.{name_of_tag}
 use Rattle.pool_core.specs.declared.options.Options.{Options}
 use Rattle.pool_core.specs.declared.outcome.Outcome.{Outcome}
 use Rattle.pool_core.specs.declared.outcome.Outcome.TheVariants.{Refuted, Saturated, Spent, Heavy}
-use Rattle.pool_core.proofs.AboutClaims.ClaimLemmas.{in-filter}
-use Rattle.pool_core.proofs.AboutCounting.CountedLemmas.{Lookup}
+use Rattle.pool_core.proofs.AboutClaims.ClaimedRecords.{in-filter}
+use Rattle.pool_core.proofs.AboutCounting.CountedRecords.{Lookup}
 use Rattle.pool_core.proofs.AboutRecords.GrowthLemmas.{waiting-from}
 use Rattle.pool_core.proofs.AboutRecords.PlaceLemmas.{has-first}
 use Rattle.pool_core.proofs.AboutBeginnings.StartLemmas.{all-at, none-passes, passes-at}
 use Rattle.pool_core.proofs.AboutClaims.StateLemmas.{clause-numbered, item-at}
 use Rattle.pool_core.proofs.AboutOutcomes.HeavyLemmas.{set_aside_are_heavy}
-use Rattle.saturation.specs.Cover.{CoversEach}
 use Rattle.saturation.specs.Found.{Find, is_last_premise, WasMet}
 use Rattle.saturation.specs.Laws.{is_member, HeavyIsNamed}
-use Rattle.saturation.proofs.AboutCarried.MoveLemmas.{CalculusLaws, all-in, each-more}
+use Rattle.calculus.proofs.AboutCovering.ClauseLemmas.{All-In}
+use Rattle.calculus.proofs.AboutCovering.ClosureLemmas.{ground_conclusions_covered}
+use Rattle.calculus.proofs.AboutCovering.EachLemmas.{each-more}
 use Rattle.saturation.proofs.AboutCarried.CarriedLemmas.{Living, HeldBy, Open, inference-more}
 use Rattle.saturation.proofs.AboutCarried.RemovalLemmas.{among-parts}
 use Rattle.saturation.proofs.AboutCarried.MeetingLemmas.{front, front-lower, in-order, number-passes, all-numbered}
@@ -372,7 +373,7 @@ module _
 
   -- ---- what members cover
 
-  module _ (laws : CalculusLaws) (functions : FunctionSymbols usage.is_predicate) (covered : OpenWith functions the_mode inputs [] r) where
+  module _ (functions : FunctionSymbols usage.is_predicate) (covered : OpenWith functions the_mode inputs [] r) where
     carried : Open functions the_mode inputs r []
     carried = covered done.is_open
 
@@ -423,10 +424,10 @@ module _
           (λ c c_in.
           let at = member-number c (In-contains c (members_of r) c_in) in
           not_from_false (length c.literals == 0) (carried.some_literals at.0 c (among-parts (is_member r) (clauses_of r) at.0 c at.1).1));
-      form_covered = all-in (CoversInstancesOf functions (members_of r)) inputs (λ c c_in. by-members c (carried.inputs_covered c c_in));
+      form_covered = All-In (CoversInstancesOf functions (members_of r)) inputs (λ c c_in. by-members c (carried.inputs_covered c c_in));
       closed =
           λ g conclusion.
-          laws.lifted usage.is_predicate functions the_mode (is_member r) (clauses_of r) (members_of r) g conclusions
+          ground_conclusions_covered usage.is_predicate functions the_mode (is_member r) (clauses_of r) (members_of r) g conclusions
           (conclusion-more functions the_mode (Contains (members_of r)) (IsMember (is_member r) (clauses_of r)) g member-number conclusion);
     }
 

@@ -7,11 +7,6 @@ ghost use Rattle.saturation.specs.Laws.{
   HeavyIsNamed,
 };
 
-use calculus::laws::{
-    ground_conclusions_covered, reductions_covered, reductions_keep, renamed_covered,
-    subsumed_covered, tautologies_covered,
-};
-
 /// No event fixes another outcome than Refuted and Spent.
 pub fn fixed_are_refuted_or_spent()
     ensures { FixedAreRefutedOrSpent }
@@ -21,14 +16,7 @@ pub fn fixed_are_refuted_or_spent()
 /// and the conclusion of each ground inference among them.
 pub fn saturated_is_saturated()
     ensures { SaturatedIsSaturated }
-{
-    reductions_covered();
-    reductions_keep();
-    subsumed_covered();
-    tautologies_covered();
-    renamed_covered();
-    ground_conclusions_covered();
-}
+{}
 
 /// Under the outcome Saturated each inference that is named among the members was counted and not set aside, and the job of its last
 /// premise, the one of the latest position, found it.

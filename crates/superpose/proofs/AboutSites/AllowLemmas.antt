@@ -3,7 +3,7 @@ use Rattle.std.proofs.Common.{◌≡◌, ℕ, Bool, true, false, ◌&&◌, not, 
 use Rattle.std.specs.Prelude.{slice_get}
 use Rattle.std.proofs.lemmas.Bool.{true≢false, not-true, not_from_false, and_parts, and_from, false_from_ne_true}
 use Rattle.std.proofs.lemmas.Option.{same_Some}
-use Rattle.fol_base.specs.Tree.{Tree, tree_eq, is_truth}
+use Rattle.fol_base.specs.Tree.{Tree, tree_eq, is_truth, true_tree}
 use Rattle.fol_base.specs.Instance.{Substitution, instance}
 use Rattle.fol_base.specs.Clause.{TreeLiteral, TreeClause, literal_instance}
 use Rattle.fol_base.specs.Ground.{literals_instance}
@@ -17,7 +17,7 @@ use Rattle.fol_base.proofs.AboutTerms.TreeLemmas.{tree_eq-refl, tree_eq-true}
 use Rattle.literal_selection.proofs.EligibleLemmas.{eligible_lifts}
 use Rattle.kernel_steps.specs.Inference.{NamedSuperposition, other_side_not_above}
 use Rattle.eq_rules.proofs.AboutConclusions.SideLemmas.{not_above_by}
-use Rattle.superpose.specs.Superposing.{is_root, one_literal, both_literals, others_coincide, starts_under, enters_under, allows}
+use Rattle.superpose.specs.Superposing.{is_root, one_literal, both_literals, others_coincide, are_positive_atoms, starts_under, enters_under, allows}
 use Rattle.eq_rules.specs.declared.concluding.LiteralSide.{LiteralSide}
 use Rattle.superpose.specs.declared.sites.LiteralPlace.{LiteralPlace}
 
@@ -91,6 +91,18 @@ pub coincide_says : (positive equal : Bool) (place : List ℕ) → ((positive &&
 coincide_says true equal [] h e f = h
 coincide_says true equal (k ∷ place) h e f = absurd (cc)
 coincide_says false equal place h e f = absurd (true≢false (sym e))
+
+-- two positive atoms: under any substitutions both other sides are `$true`
+pub atoms_coincide :
+    (s : LiteralSide) (t : LiteralPlace) (σ τ : Substitution) (l m : TreeLiteral)
+    → are_positive_atoms s t l m ≡ true → others_coincide s t σ τ l m ≡ true
+atoms_coincide s t σ τ l m h =
+    let one : Tree = other_side_of s.side l in
+    let other : Tree = other_side_of t.at.side m in
+    let parts = and_parts (m.positive && is_root t.place) (is_truth one && is_truth other) h in
+    let both = and_parts (is_truth one) (is_truth other) parts.1 in
+    and_from (m.positive && is_root t.place) (tree_eq (instance σ one) (instance τ other)) parts.0
+    (ap₂ (λ (u w : Tree). tree_eq (instance σ u) (instance τ w)) (tree_eq-true one true_tree both.0) (tree_eq-true other true_tree both.1))
 
 coincide_lifts : (root before now : Bool) → (before ≡ true → now ≡ true) → (root && now) ≡ false → (root && before) ≡ false
 coincide_lifts false before now h k = refl

@@ -1,8 +1,9 @@
 -- From the call with a unifier to the lemmas: sizes as they are told, and what each answer says.
-use Rattle.std.proofs.Common.{◌≡◌, ℕ, ◌+◌, ◌*◌, ◌-◌, ◌<◌, ◌≤◌, max, Bool, true, false, ◌&&◌, not, Option, None, Some, List, refl, ap, sym, ◌∙◌, subst, inl, inr, arith}
+use Rattle.std.proofs.Common.{◌≡◌, ℕ, ◌+◌, ◌*◌, ◌-◌, ◌<◌, ◌≤◌, max, Bool, true, false, ◌&&◌, not, Option, None, Some, List, length, refl, ap, sym, ◌∙◌, subst, inl, inr, arith}
 use Rattle.std.specs.Prelude.{sum_by, slice_get}
 use Rattle.std.specs.Option.{is_some}
-use Rattle.std.proofs.lemmas.Bool.{true≢false, and_parts, cases_lt}
+use Rattle.std.proofs.lemmas.Bool.{true≢false, and_parts, cases_lt, le-ltb, ltb-true, ltb-false}
+use Rattle.std.proofs.Math.Nat.{mul-add, le-mul_of_pos_right}
 use Rattle.fol_base.specs.Tree.{Tree, tree_size}
 use Rattle.fol_base.specs.Instance.{Substitution, instance, substitution}
 use Rattle.fol_base.specs.Clause.{TreeLiteral, TreeClause, literal_size, clause_size, clause_instance, clause_variables}
@@ -14,6 +15,7 @@ use Rattle.fol_base.specs.Sides.{side_of}
 use Rattle.fol_base.specs.WellFormed.{SymbolUse, are_literals_of}
 use Rattle.fol_base.specs.declared.clause.Side.TheVariants.{Left, Right}
 use Rattle.fol_base.specs.declared.limits.TheConstants.{MOST_SYMBOLS, SIZE_LIMIT}
+use Rattle.fol_base.proofs.AboutTerms.TreeLemmas.{tree_size-positive}
 use Rattle.kernel_steps.specs.declared.step.Step.{Step}
 use Rattle.kernel_steps.specs.declared.step.Step.TheVariants as step
 use Rattle.bank_clause.specs.Clause.{clause_at}
@@ -26,18 +28,20 @@ use Rattle.unifier.proofs.AboutClasses.SharedLemmas.{own_terms_are_named}
 use Rattle.eq_rules.specs.Inferences.{IsConcluded, IsMade}
 use Rattle.eq_rules.specs.declared.inference.Made.{Made}
 use Rattle.eq_rules.specs.declared.inference.Made.TheVariants.{Conclusion, Heavy}
-use Rattle.eq_rules.proofs.AboutFactoring.FactorAnswers.{part_size, sides_size, total_size}
+use Rattle.eq_rules.proofs.AboutFactoring.FactorAnswers.{item_size, part_size, sides_size}
 use Rattle.eq_rules.proofs.AboutConclusions.MadeLemmas.{size_above}
 use Rattle.eq_rules.proofs.AboutConclusions.PremiseLemmas.{literal-kind}
 use Rattle.eq_rules.proofs.AboutConclusions.SideLemmas.{Kinds}
 use Rattle.superpose.specs.Sites.{is_usable, can_start, can_enter, literal_starts, literal_enters}
-use Rattle.superpose.specs.Superposing.{para_key, IsSuperposition, AreSites, allows, are_alike, StartsAt, EntersAt, SuperposesBy}
+use Rattle.superpose.specs.Superposing.{para_key, IsSuperposition, AreSites, allows, are_alike, are_positive_atoms, is_heavy, size_under, StartsAt, EntersAt, SuperposesBy}
 use Rattle.superpose.specs.Concluding.{IsSuperpositionStep, GivesNumbered}
 use Rattle.eq_rules.specs.declared.concluding.LiteralSide.{LiteralSide}
 use Rattle.superpose.specs.declared.sites.LiteralPlace.{LiteralPlace}
 use Rattle.superpose.proofs.AboutSites.KindLemmas.{alike-kinds}
-use Rattle.superpose.proofs.AboutSteps.TermsLemmas.{left-size, right-size, plain, plain_size}
-use Rattle.superpose.proofs.AboutLists.SuperposeLemmas.{unlike_refused, apart_refused, superposition_not_allowed, superposition_heavy, superposition_concluded}
+use Rattle.superpose.proofs.AboutSteps.TermsLemmas.{general, left-below, right-below, left-size, left-tree_size, right-size, s-bound, plain, plain_size}
+use Rattle.superpose.proofs.AboutSteps.BoundLemmas.{left_terms_small, right_terms_small}
+use Rattle.superpose.proofs.AboutSteps.GrowthLemmas.{literals_grow}
+use Rattle.superpose.proofs.AboutLists.SuperposeLemmas.{atoms_refused, unlike_refused, apart_refused, superposition_not_allowed, superposition_heavy, superposition_concluded}
 
 -- ---- what sites say
 
@@ -68,6 +72,10 @@ enter_unchosen mode ls s l there h positive =
 module _
     (m n : Member) (s : LiteralSide) (t : LiteralPlace)
     (starts : StartsAt (clause_at m.clause).literals s) (enters : EntersAt (clause_at n.clause).literals t) (mode : SelectionMode) where
+  pub atoms_none : are_positive_atoms s t starts.literal enters.literal ≡ true → IsSuperposition mode m s n t None
+  atoms_none atoms usage clauses used second_used there second_there =
+      atoms_refused usage.is_predicate mode clauses m.number (clause_at m.clause) there n.number (clause_at n.clause) second_there s t starts enters atoms
+
   pub unlike_none : are_alike s t starts.literal enters.literal enters.old ≡ false → IsSuperposition mode m s n t None
   unlike_none refused usage clauses used second_used there second_there =
       unlike_refused usage.is_predicate mode clauses m.number (clause_at m.clause) there n.number (clause_at n.clause) second_there s t starts enters
@@ -132,41 +140,64 @@ heavy_settled m n s t b r left_told right_told left_is right_is over mode choice
 module _
     (m n : Member) (s : LiteralSide) (t : LiteralPlace) (b : SolvedForm) (r : SuperposesBy b (clause_at m.clause) s (clause_at n.clause) t)
     (left right : List Tree)
-    (h : AreNamedTerms b (bound_of (clause_variables (clause_at m.clause))) (bound_of (clause_variables (clause_at n.clause))) left right)
-    (left_told right_told : ℕ)
-    (left_is : left_told ≡ stopped (clause_size (clause_instance (substitution_of b Left) (clause_at m.clause))))
-    (right_is : right_told ≡ stopped (clause_size (clause_instance (substitution_of b Right) (clause_at n.clause))))
-    (left_low : left_told < SIZE_LIMIT) (right_low : right_told < SIZE_LIMIT) where
+    (h : AreNamedTerms b (bound_of (clause_variables (clause_at m.clause))) (bound_of (clause_variables (clause_at n.clause))) left right) where
   abbrev c : TreeClause
   c = clause_at m.clause
 
   abbrev d : TreeClause
   d = clause_at n.clause
 
-  left_total : clause_size (clause_instance (substitution_of b Left) c) ≡ left_told
-  left_total = total_size left_told (clause_size (clause_instance (substitution_of b Left) c)) left_is left_low
+  pub left_sum : sum_by literal_size (literals_instance (substitution left) c.literals) ≡ size_under b Left c
+  left_sum = left-size c s d t b r left right h
 
-  right_total : clause_size (clause_instance (substitution_of b Right) d) ≡ right_told
-  right_total = total_size right_told (clause_size (clause_instance (substitution_of b Right) d)) right_is right_low
+  pub right_sum : sum_by literal_size (literals_instance (substitution right) d.literals) ≡ size_under b Right d
+  right_sum = right-size c s d t b r left right h
 
-  pub left_sum : sum_by literal_size (literals_instance (substitution left) c.literals) ≡ left_told
-  left_sum = left-size c s d t b r left right h ∙ left_total
-
-  pub right_sum : sum_by literal_size (literals_instance (substitution right) d.literals) ≡ right_told
-  right_sum = right-size c s d t b r left right h ∙ right_total
+  abbrev side : Tree
+  side = side_of s.side r.starts.literal
 
   abbrev pub side_size : ℕ
-  side_size = tree_size (instance (substitution left) (side_of s.side r.starts.literal))
+  side_size = tree_size (instance (substitution_of b Left) side)
 
-  pub side_low : side_size ≤ left_told
+  side_same : tree_size (instance (substitution left) side) ≡ side_size
+  side_same = left-tree_size c s d t b r left right h side (s-bound c s d t b r left right h)
+
+  pub side_low : side_size ≤ size_under b Left c
   side_low =
       let part = part_size (substitution left) c.literals s.literal r.starts.literal r.starts.there in
       let sides = sides_size (substitution left) s.side r.starts.literal in
-      omega (arith, part, sides, left_sum)
+      omega (arith, part, sides, left_sum, side_same)
 
   -- the conclusion's size
-  pub made_size : sum_by literal_size (plain c s d t b r left right h) + 2 * side_size ≡ left_told + right_told
-  made_size = let all = plain_size c s d t b r left right h in omega (arith, all, left_sum, right_sum)
+  pub made_size : sum_by literal_size (plain c s d t b r left right h) + 2 * side_size ≡ size_under b Left c + size_under b Right d
+  made_size = let all = plain_size c s d t b r left right h in omega (arith, all, left_sum, right_sum, side_same)
+
+  -- told by the clauses' own sizes: no variable becomes a larger term than the side does
+  module _ (told : ℕ) (told_is : told ≡ stopped side_size) (small : told * (clause_size c + clause_size d) ≤ MOST_SYMBOLS) where
+    told_exactly : told ≡ side_size
+    told_exactly =
+        let l : TreeLiteral = r.starts.literal in
+        let size : literal_size l ≤ clause_size c = item_size c.literals s.literal l r.starts.there in
+        let positive : 0 < clause_size c + clause_size d = omega (arith, size, tree_size-positive l.left) in
+        let less : told ≤ told * (clause_size c + clause_size d) = le-mul_of_pos_right told positive in
+        omega (arith, told_is, less, small)
+
+    term_low : (most : ℕ) → most ≡ told → tree_size (instance (substitution left) side) ≤ most
+    term_low most is = omega (arith, is, told_exactly, side_same)
+
+    some : 1 ≤ told
+    some = omega (arith, told_exactly, tree_size-positive (instance (substitution_of b Left) side))
+
+    pub surely_small : size_under b Left c + size_under b Right d ≤ MOST_SYMBOLS
+    surely_small =
+        let g = general c s d t b r left right h in
+        let first : sum_by literal_size (literals_instance (substitution left) c.literals) ≤ told * clause_size c =
+        literals_grow (length left) told (substitution left) some (left_terms_small side r.enters.old left right g told (term_low told refl) some)
+        c.literals (left-below c s d t b r left right h) in
+        let second : sum_by literal_size (literals_instance (substitution right) d.literals) ≤ told * clause_size d =
+        literals_grow (length right) told (substitution right) some (right_terms_small side r.enters.old left right g told (term_low told refl) some)
+        d.literals (right-below c s d t b r left right h) in
+        omega (arith, first, second, left_sum, right_sum, mul-add told (clause_size c) (clause_size d), small)
 
   pub allowed_none :
       (mode : SelectionMode) (choice : Option ℕ) → AreSites mode c s d t choice
@@ -182,7 +213,7 @@ module _
 
     kinds_here :
         (usage : SymbolUse) → are_literals_of usage c.literals ≡ true → are_literals_of usage d.literals ≡ true
-        → Kinds usage.is_predicate (side_of s.side r.starts.literal) r.enters.old
+        → Kinds usage.is_predicate side r.enters.old
     kinds_here usage used second_used =
         alike-kinds usage.is_predicate s t r.starts.literal r.enters.literal r.enters.old
         (literal-kind usage c s.literal r.starts.literal used r.starts.there)
@@ -190,29 +221,41 @@ module _
         r.starts.no_truth r.enters.no_truth r.enters.old_there r.alike
 
     pub heavy_by_size :
-        (gone : ℕ) → gone ≡ side_size → MOST_SYMBOLS < max (max left_told right_told) (left_told + right_told - 2 * gone)
-        → IsSuperposition mode m s n t (Some Heavy)
-    heavy_by_size gone gone_is over usage clauses used second_used there second_there =
+        is_heavy (size_under b Left c) (size_under b Right d) side_size ≡ true → IsSuperposition mode m s n t (Some Heavy)
+    heavy_by_size told usage clauses used second_used there second_there =
+        let over : MOST_SYMBOLS < max (max (size_under b Left c) (size_under b Right d)) (size_under b Left c + size_under b Right d - 2 * side_size) =
+        ltb-true MOST_SYMBOLS (max (max (size_under b Left c) (size_under b Right d)) (size_under b Left c + size_under b Right d - 2 * side_size)) told in
         superposition_heavy usage.is_predicate mode clauses m.number c there n.number d second_there s t b r left right h
         (start_unchosen mode c.literals s sites.starts)
         (enter_unchosen mode d.literals t.at r.enters.literal r.enters.there sites.enters)
         (kinds_here usage used second_used) allowed_here
-        (elim (cases_lt MOST_SYMBOLS left_told) [
-          | inl first ↦ inl (omega (arith, first, left_total))
+        (elim (cases_lt MOST_SYMBOLS (size_under b Left c)) [
+          | inl first ↦ inl first
           | inr first ↦
-              (elim (cases_lt MOST_SYMBOLS right_told) [
-                | inl second ↦ inr (inl (omega (arith, second, right_total)))
-                | inr second ↦ inr (inr (omega (arith, first, second, over, gone_is, made_size)))
+              (elim (cases_lt MOST_SYMBOLS (size_under b Right d)) [
+                | inl second ↦ inr (inl second)
+                | inr second ↦ inr (inr (omega (arith, first, second, over, made_size)))
               ])
         ])
 
     pub concluded_by_step :
-        (gone : ℕ) (made : Made) → gone ≡ side_size → max (max left_told right_told) (left_told + right_told - 2 * gone) ≤ MOST_SYMBOLS
+        (made : Made) → is_heavy (size_under b Left c) (size_under b Right d) side_size ≡ false
         → IsSuperpositionStep m.number c s n.number d t left right made → IsSuperposition mode m s n t (Some made)
-    concluded_by_step gone made gone_is small is usage clauses used second_used there second_there =
+    concluded_by_step made told is usage clauses used second_used there second_there =
+        let small : max (max (size_under b Left c) (size_under b Right d)) (size_under b Left c + size_under b Right d - 2 * side_size) ≤ MOST_SYMBOLS =
+        ltb-false MOST_SYMBOLS (max (max (size_under b Left c) (size_under b Right d)) (size_under b Left c + size_under b Right d - 2 * side_size)) told in
         made_by_superposition usage.is_predicate mode clauses m.number c s n.number d t left right made is
         (superposition_concluded usage.is_predicate mode clauses m.number c there n.number d second_there s t b r left right h
         (start_unchosen mode c.literals s sites.starts)
         (enter_unchosen mode d.literals t.at r.enters.literal r.enters.there sites.enters)
         (kinds_here usage used second_used) allowed_here
-        (omega (arith, small, left_total)) (omega (arith, small, right_total)) (omega (arith, small, gone_is, made_size)))
+        (omega (arith, small)) (omega (arith, small)) (omega (arith, small, made_size)))
+
+-- a clause that is surely small is not heavy
+pub small_not_heavy : (left right side : ℕ) → left + right ≤ MOST_SYMBOLS → is_heavy left right side ≡ false
+small_not_heavy left right side small =
+    le-ltb MOST_SYMBOLS (max (max left right) (left + right - 2 * side)) (omega (arith, small))
+
+-- a size that doesn't reach the limit is told as it is
+pub stays : (told size : ℕ) → told ≡ stopped size → told < SIZE_LIMIT → told ≡ size
+stays told size is low = omega (arith, is, low)

@@ -1,8 +1,9 @@
 -- Two premises under the terms that a most general unifier gives for their variables: what the rule gives, and its size.
-use Rattle.std.proofs.Common.{◌≡◌, ℕ, zero, suc, ◌+◌, ◌*◌, false, Option, Some, List, [], ◌∷◌, ◌++◌, length, get_or, refl, ap, sym, ◌∙◌, subst, arith}
+use Rattle.std.proofs.Common.{◌≡◌, ℕ, zero, suc, ◌+◌, ◌*◌, true, false, Option, Some, List, [], ◌∷◌, ◌++◌, length, get_or, refl, ap, sym, ◌∙◌, subst, arith}
 use Rattle.std.specs.Prelude.{sum_by, slice_get, slice_set, remove}
 use Rattle.std.specs.List.{AllByRecursion}
 use Rattle.std.proofs.lemmas.Bool.{true≢false, and_parts, not-true}
+use Rattle.std.proofs.lemmas.List.Elements.{All-from_recursion}
 use Rattle.std.proofs.lemmas.List.Sums.{sum_by-append, sum_by-set, sum_by-remove}
 use Rattle.std.proofs.lemmas.Option.{same_Some, option_and_then_some, slice_get_within, get_or_from_slice_get}
 use Rattle.fol_base.specs.Tree.{Tree, variable, application, Trees, no_trees, tree_then, list_of, tree_size, VariablesBelow, AllVariablesBelow, is_truth, is_variable}
@@ -104,7 +105,7 @@ module _
   pub right-below : AllByRecursion (LiteralVariablesBelow (length right)) d.literals
   right-below = subst (λ (n : ℕ). AllByRecursion (LiteralVariablesBelow n) d.literals) (sym right-many) (clause-below d)
 
-  s-bound : VariablesBelow (bound_of (clause_variables c)) (side_of s.side l)
+  pub s-bound : VariablesBelow (bound_of (clause_variables c)) (side_of s.side l)
   s-bound = side-below (bound_of (clause_variables c)) s.side l (literal-below c s.literal l r.starts.there)
 
   old-bound : VariablesBelow (bound_of (clause_variables d)) r.enters.old
@@ -142,6 +143,16 @@ module _
   right-size =
       let n : ℕ = bound_of (clause_variables d) in
       (shared_keep_sizes b (bound_of (clause_variables c)) n left right h).1 d.literals (ClauseVariablesBelow-bound n d (omega arith))
+
+  pub left-tree_size :
+      (u : Tree) → VariablesBelow (bound_of (clause_variables c)) u → tree_size (instance σ u) ≡ tree_size (instance (substitution_of b Left) u)
+  left-tree_size u below =
+      let n : ℕ = bound_of (clause_variables c) in
+      let twice : TreeLiteral = record { positive = true; left = u; right = u } in
+      let same =
+      (shared_keep_sizes b n (bound_of (clause_variables d)) left right h).0 (twice ∷ [])
+      (All-from_recursion (LiteralVariablesBelow n) (twice ∷ []) ((below, below), tt)) in
+      omega (arith, same)
 
   -- ---- the rule under the terms
 

@@ -47,7 +47,7 @@ pub record OneFault (faults others : Faults) : Type 0 where
 
 -- ---- includes
 
-include-next : (tokens : List Lexeme) (first : ℕ) (f : Word) (ns : List NamePhrase) (n : ℕ) → IsInclude tokens first f ns n → n ≡ first + width ns
+pub include-next : (tokens : List Lexeme) (first : ℕ) (f : Word) (ns : List NamePhrase) (n : ℕ) → IsInclude tokens first f ns n → n ≡ first + width ns
 include-next tokens first f ns n h =
     let long : length tokens - first ≡ width ns + length (drop n tokens) =
     sym (length-drop first tokens) ∙ ap length h.spelled ∙ include-length f ns (drop n tokens) in
@@ -140,7 +140,7 @@ step-by-one base reads file first progress true s t one h k = include-step-one b
 step-by-one base reads file first progress false s t one h k = formula-one file first progress s t h k
 
 -- nothing goes on from there
-pub Stuck : List ℕ → Reads → LoadedFile → ℕ → Progress → Type 0
+unfoldable pub Stuck : List ℕ → Reads → LoadedFile → ℕ → Progress → Type 0
 Stuck base reads file first progress = (s : Step) → IsStep base reads file first progress s → ⊥
 
 pub steps-one :

@@ -3,7 +3,7 @@ use Rattle.plain_types.specs.declared.sequence.NameLit.{NameLit}
 use Rattle.fol_base.specs.Literal.{clause_of}
 use Rattle.fol_base.specs.Subsumption.{assertions}
 use Rattle.demodulate.specs.Normal.{kept, IsRewritten, IsLeft}
-use Rattle.demodulate.proofs.AboutSteps.NormalLemmas.{asserted-are, begins, goes_on, ranks_lower, ends, held, refused}
+use Rattle.demodulate.proofs.AboutSteps.NormalLemmas.{begins, goes_on, ranks_lower, ends, held, refused}
 use Rattle.demodulate.proofs.normal.normal_form.Goals as goal
 
 pub steps-init : goal.steps-init
@@ -13,7 +13,7 @@ steps-init c =
 
 pub rewrite_once-requires-clause-asserted : goal.rewrite_once-requires-clause-asserted
 rewrite_once-requires-clause-asserted c =
-    c.as_slice-2.ensures.value ∙ c.in_ok-asserted.ensures ∙ asserted-are c.as_slice.result.now
+    c.as_slice-2.ensures.value ∙ c.in_ok-asserted.ensures
     ∙ ap (λ (ns : List NameLit). assertions ns) (c.as_slice.ensures ∙ sym c.steps.invariant.names)
 
 pub returns-then-not-stepped : goal.returns-then-not-stepped

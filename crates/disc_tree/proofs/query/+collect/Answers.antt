@@ -1,11 +1,16 @@
-use Rattle.std.proofs.Common.{◌≡◌, ◌<◌, ◌*◌, ◌++◌, [], ℕ, Bool, suc, ◌+◌, List, map, take, ap, sym, ◌∙◌, append_assoc, arith, rules, refl, if◌then◌else◌}
+use Rattle.std.proofs.Common.{◌≡◌, ◌<◌, ◌*◌, ◌++◌, [], ℕ, Bool, suc, ◌+◌, List, map, take, true, false, ap, sym, subst, ◌∙◌, append_assoc, append-nil, arith, rules, refl, if◌then◌else◌}
 use Rattle.std.proofs.lemmas.List.{take_all}
 use Rattle.fol_base.specs.Tree.{Tree}
 use Rattle.fol_base.specs.Term.{tree_of}
+use Rattle.disc_tree.specs.declared.label.Label.{Label}
 use Rattle.disc_tree.specs.declared.label.Label.TheVariants.{Star}
-use Rattle.disc_tree.specs.Path.{head, arity}
+use Rattle.disc_tree.specs.declared.node.Below.{Below}
+use Rattle.disc_tree.specs.Path.{head, arity, fits}
 use Rattle.disc_tree.specs.Work.{trees_left, terms_left}
-use Rattle.disc_tree.specs.Rows.{rows, rows_at, weight, found_in, all_below}
+use Rattle.disc_tree.specs.Rows.{rows, rows_at, weight, found_in, all_below, all_at, numbers_of}
+use Rattle.disc_tree.specs.Children.{rows_below}
+use Rattle.disc_tree.specs.Prefixes.{VisitsEach}
+use Rattle.disc_tree.proofs.AboutQueries.TailLemmas.{all-found, none-found, stays-below, visits-below}
 use Rattle.disc_tree.proofs.AboutQueries.FoundLemmas.{if_ok-map, end-step, variable-step, star-step, application-step, children-more, found-passing}
 use Rattle.disc_tree.proofs.AboutPaths.PrefixLemmas.{application-is, stays-star, stays-application, follows-child}
 use Rattle.disc_tree.proofs.AboutQueries.VisitLemmas.{visits-application, visits-end, follows-each, follows-none}
@@ -15,9 +20,10 @@ pub collect-returns-in_default-rest-clause-found : goal.collect-returns-in_defau
 collect-returns-in_default-rest-clause-found g t c =
     if_ok-map c.push_numbers.result
     (λ e. e ∙ ap (λ ns. c.args.found.now.items ++ ns)
-    (sym (end-step c.args.varying.entry c.args.varying.query (terms_left c.args.skipped.now) (trees_left c.args.rest.now) c.args.node.now.0
+    (ap numbers_of c.entries.ensures.entries
+    ∙ sym (end-step c.args.varying.entry c.args.varying.query (terms_left c.args.skipped.now) (trees_left c.args.rest.now) c.args.node.now.0
     c.args.node.now.1 (ap terms_left c.in_default.is) (ap trees_left c.in_default-rest.is))))
-    c.push_numbers.ensures.found
+    c.push_numbers.ensures
 
 pub collect-returns-then-varying-clause-found : goal.collect-returns-then-varying-clause-found
 collect-returns-then-varying-clause-found g t c =
@@ -94,9 +100,9 @@ pub collect-returns-in_default-rest-clause-visits : goal.collect-returns-in_defa
 collect-returns-in_default-rest-clause-visits g t c =
     if_ok-map c.push_numbers.result
     (λ e entry none ground.
-    visits-end (trees_left c.args.rest.now) (rows c.args.node.now) c.args.steps.now c.push_numbers.new.steps
-    (ap trees_left c.in_default-rest.is) c.push_numbers.ensures.step)
-    c.push_numbers.ensures.found
+    visits-end (trees_left c.args.rest.now) (rows c.args.node.now) c.args.steps.now c.entries.new.steps
+    (ap trees_left c.in_default-rest.is) c.entries.ensures.step)
+    c.push_numbers.ensures
 
 pub collect-returns-in_ok-collect_child-in-App-clause-visits : goal.collect-returns-in_ok-collect_child-in-App-clause-visits
 collect-returns-in_ok-collect_child-in-App-clause-visits g t c entry none ground =
@@ -112,11 +118,11 @@ collect-returns-in_ok-collect_child-in-App-clause-visits g t c entry none ground
 
 pub collect_child-returns-in-Some-clause-visits : goal.collect_child-returns-in-Some-clause-visits
 collect_child-returns-in-Some-clause-visits g t c =
-    if_ok-map c.collect.result
+    if_ok-map c.collect_below.result
     (λ visits entry ground.
-    follows-each (trees_left c.args.rest.now) (rows_at c.args.label c.args.node.now.1) (rows c.in-Some.child.now) c.args.steps.now
-    c.child.new.steps c.collect.new.steps c.in-Some.ensures.child c.in-Some.ensures.step (visits entry refl ground))
-    c.collect.ensures.visits
+    follows-each (trees_left c.args.rest.now) (rows_at c.args.label c.args.node.now.1) (rows_below c.in-Some.child.now) c.args.steps.now
+    c.child.new.steps c.collect_below.new.steps c.in-Some.ensures.child c.in-Some.ensures.step (visits entry refl ground))
+    c.collect_below.ensures.visits
 
 pub collect_child-returns-in-None-clause-visits : goal.collect_child-returns-in-None-clause-visits
 collect_child-returns-in-None-clause-visits g t c entry ground =
@@ -125,13 +131,13 @@ collect_child-returns-in-None-clause-visits g t c entry ground =
 
 pub collect_child-returns-in-Some-clause-steps : goal.collect_child-returns-in-Some-clause-steps
 collect_child-returns-in-Some-clause-steps g t c ground =
-    follows-child (trees_left c.args.rest.now) (rows_at c.args.label c.args.node.now.1) (rows c.in-Some.child.now) c.args.steps.now
-    c.child.new.steps c.collect.new.steps c.in-Some.ensures.some c.in-Some.ensures.child c.in-Some.ensures.step
-    (c.collect.ensures.steps refl ground)
+    follows-child (trees_left c.args.rest.now) (rows_at c.args.label c.args.node.now.1) (rows_below c.in-Some.child.now) c.args.steps.now
+    c.child.new.steps c.collect_below.new.steps c.in-Some.ensures.some c.in-Some.ensures.child c.in-Some.ensures.step
+    (c.collect_below.ensures.steps refl ground)
 
-pub collect_child-collect-requires : goal.collect_child-collect-requires
-collect_child-collect-requires g t c =
-    let smaller : 3 * weight (rows c.in-Some.child.now) + 2 < 3 * weight (rows c.args.node.now) =
+pub collect_child-collect_below-requires : goal.collect_child-collect_below-requires
+collect_child-collect_below-requires g t c =
+    let smaller : 4 * weight (rows_below c.in-Some.child.now) + 3 < 4 * weight (rows c.args.node.now) =
     omega (arith, c.in-Some.ensures.smaller) in
     search rules
 
@@ -144,14 +150,14 @@ collect_children-loop-index-preserved g t c =
     let before : List ℕ = found_in e q (suc k) ts (all_below (take c.loop-index.index c.args.node.now.1)) in
     let inner : terms_left c.of-inner.result ≡ arity c.child_at-label.result.0 + k =
     c.of-inner.ensures ∙ ap (λ n. n + k) c.arity.ensures in (
-      c.in_ok-collect.ensures.found
-          ∙ ap (λ n. c.loop-index.found.items ++ found_in e q n ts (rows c.child_at-label.result.1.now)) inner
-          ∙ ap (λ ns. ns ++ found_in e q (arity c.child_at-label.result.0 + k) ts (rows c.child_at-label.result.1.now)) c.loop-index.invariant.0
-          ∙ append_assoc c.args.found.now.items before (found_in e q (arity c.child_at-label.result.0 + k) ts (rows c.child_at-label.result.1.now))
+      c.in_ok-collect_below.ensures.found
+          ∙ ap (λ n. c.loop-index.found.items ++ found_in e q n ts (rows_below c.child_at-label.result.1.now)) inner
+          ∙ ap (λ ns. ns ++ found_in e q (arity c.child_at-label.result.0 + k) ts (rows_below c.child_at-label.result.1.now)) c.loop-index.invariant.0
+          ∙ append_assoc c.args.found.now.items before (found_in e q (arity c.child_at-label.result.0 + k) ts (rows_below c.child_at-label.result.1.now))
           ∙ ap (λ ns. c.args.found.now.items ++ ns)
-          (sym (children-more e q k ts c.args.node.now.1 c.loop-index.index c.child_at-label.result.0 (rows c.child_at-label.result.1.now)
+          (sym (children-more e q k ts c.args.node.now.1 c.loop-index.index c.child_at-label.result.0 (rows_below c.child_at-label.result.1.now)
           (omega (arith, c.loop-index-test.true, c.width-index-end.ensures)) c.child_at-label.ensures.child)),
-      omega (arith, c.loop-index.invariant.1, c.child_at-label.ensures.step, c.in_ok-collect.ensures.counter),
+      omega (arith, c.loop-index.invariant.1, c.child_at-label.ensures.step, c.in_ok-collect_below.ensures.counter),
     )
 
 pub collect_children-returns-clause-found : goal.collect_children-returns-clause-found
@@ -165,3 +171,64 @@ collect_children-returns-clause-found g t c =
     (ap (λ cs. found_in e q (suc k) ts (all_below cs))
     (take_all c.loop-index.index c.args.node.now.1 (omega (arith, c.loop-index-test.false, c.width-index-end.ensures)))
     ∙ sym (found-passing e q k ts c.args.node.now.0 c.args.node.now.1))
+
+pub collect_below-returns-in_ok-push_numbers-in-Single-clause-found : goal.collect_below-returns-in_ok-push_numbers-in-Single-clause-found
+collect_below-returns-in_ok-push_numbers-in-Single-clause-found g t c =
+    let e : Bool = c.args.varying.entry in
+    let q : Bool = c.args.varying.query in
+    let k : ℕ = terms_left c.args.skipped.now in
+    let ts : List Tree = trees_left c.args.rest.now in
+    let labels : List Label = c.in-Single.tail.labels.items in
+    let is : rows_below c.args.below.now ≡ all_at labels c.in-Single.tail.entries = ap rows_below c.in-Single.is in
+    let fit : fits e q k ts labels ≡ true =
+    sym (c.fits.ensures.fits ∙ ap (fits e q k ts) c.deref.ensures.value) ∙ c.if-fits.true in
+    c.in_ok-push_numbers-in-Single.ensures
+    ∙ ap (λ ns. c.args.found.now.items ++ ns)
+    (ap numbers_of c.as_slice.ensures ∙ sym (all-found e q k ts labels c.in-Single.tail.entries fit) ∙ ap (found_in e q k ts) (sym is))
+
+pub collect_below-returns-else-fits-clause-found : goal.collect_below-returns-else-fits-clause-found
+collect_below-returns-else-fits-clause-found g t c =
+    let e : Bool = c.args.varying.entry in
+    let q : Bool = c.args.varying.query in
+    let k : ℕ = terms_left c.args.skipped.now in
+    let ts : List Tree = trees_left c.args.rest.now in
+    let labels : List Label = c.in-Single.tail.labels.items in
+    let is : rows_below c.args.below.now ≡ all_at labels c.in-Single.tail.entries = ap rows_below c.in-Single.is in
+    let fit : fits e q k ts labels ≡ false =
+    sym (c.fits.ensures.fits ∙ ap (fits e q k ts) c.deref.ensures.value) ∙ c.if-fits.false in
+    sym (append-nil c.args.found.now.items)
+    ∙ ap (λ ns. c.args.found.now.items ++ ns)
+    (sym (none-found e q k ts labels c.in-Single.tail.entries fit) ∙ ap (found_in e q k ts) (sym is))
+
+pub collect_below-returns-in_err-push_numbers-in-Single-clause-steps : goal.collect_below-returns-in_err-push_numbers-in-Single-clause-steps
+collect_below-returns-in_err-push_numbers-in-Single-clause-steps g t c none ground =
+    stays-below c.args.below.now c.in-Single.tail c.deref.result.now (trees_left c.args.rest.now) c.args.steps.now c.fits.new.steps
+    c.in-Single.is c.deref.ensures.value c.requires (c.fits.ensures.steps none ground)
+
+pub collect_below-returns-in_ok-push_numbers-in-Single-clause-steps : goal.collect_below-returns-in_ok-push_numbers-in-Single-clause-steps
+collect_below-returns-in_ok-push_numbers-in-Single-clause-steps g t c none ground =
+    stays-below c.args.below.now c.in-Single.tail c.deref.result.now (trees_left c.args.rest.now) c.args.steps.now c.fits.new.steps
+    c.in-Single.is c.deref.ensures.value c.requires (c.fits.ensures.steps none ground)
+
+pub collect_below-returns-else-fits-clause-steps : goal.collect_below-returns-else-fits-clause-steps
+collect_below-returns-else-fits-clause-steps g t c none ground =
+    stays-below c.args.below.now c.in-Single.tail c.deref.result.now (trees_left c.args.rest.now) c.args.steps.now c.fits.new.steps
+    c.in-Single.is c.deref.ensures.value c.requires (c.fits.ensures.steps none ground)
+
+pub collect_below-returns-in_ok-push_numbers-in-Single-clause-visits : goal.collect_below-returns-in_ok-push_numbers-in-Single-clause-visits
+collect_below-returns-in_ok-push_numbers-in-Single-clause-visits g t c entry none ground =
+    visits-below c.args.below.now c.in-Single.tail c.deref.result.now (trees_left c.args.rest.now) c.args.steps.now c.fits.new.steps
+    c.in-Single.is c.deref.ensures.value (c.fits.ensures.visits entry none ground)
+
+pub collect_below-returns-else-fits-clause-visits : goal.collect_below-returns-else-fits-clause-visits
+collect_below-returns-else-fits-clause-visits g t c entry none ground =
+    visits-below c.args.below.now c.in-Single.tail c.deref.result.now (trees_left c.args.rest.now) c.args.steps.now c.fits.new.steps
+    c.in-Single.is c.deref.ensures.value (c.fits.ensures.visits entry none ground)
+
+pub collect_below-returns-in-Branching-clause-visits : goal.collect_below-returns-in-Branching-clause-visits
+collect_below-returns-in-Branching-clause-visits g t c =
+    if_ok-map c.collect.result
+    (λ visits entry none ground.
+    subst (λ (d : Below). VisitsEach (trees_left c.args.rest.now) (rows_below d) c.args.steps.now c.collect.new.steps)
+    (sym c.in-Branching.is) (visits entry none ground))
+    c.collect.ensures.visits

@@ -1,11 +1,15 @@
 use Rattle.std.proofs.Common.{◌≡◌, ◌++◌, List}
 use Rattle.std.specs.Vec.Iter.{into_iter_items}
 use Rattle.eq_rules.specs.declared.inference.Inference.{Inference}
+use Rattle.given_work.specs.Dropped.{AreDropped}
 use Rattle.given_work.specs.Meeting.{AreEntriesOf}
 use Rattle.given_work.proofs.entries.entries_of.Given as goal
 
 abbrev pub invariant-loop-inference : goal.invariant-loop-inference
-invariant-loop-inference l =
-    (done : List Inference)
-    × (l.fn.inferences.items ≡ done ++ into_iter_items l.inference-iterator)
-    × AreEntriesOf l.by.equations.now l.by.units.now l.by.members.now done l.entries.items
+invariant-loop-inference l = record {
+  entered :
+      (done : List Inference)
+      × (l.fn.inferences.items ≡ done ++ into_iter_items l.inference-iterator)
+      × AreEntriesOf l.by.equations.now l.by.units.now l.by.members.now done l.entries.items;
+  dropped : AreDropped l.by.equations.now l.by.units.now l.by.members.now l.dropped;
+}

@@ -1,8 +1,11 @@
-use Rattle.std.proofs.Common.{ℕ, Option, ap, refl, subst}
+use Rattle.std.proofs.Common.{ℕ, Option, ap, refl, sym, ◌∙◌, subst}
 use Rattle.literal_selection.specs.Mode.{mode_of}
 use Rattle.simplification.specs.Simplified.{IsSimplified}
 use Rattle.fol_base.specs.Literal.{clause_of}
 use Rattle.kernel_steps.specs.Names.{are_sorted}
+use Rattle.pool_core.specs.declared.batch.Fate.TheVariants.{Dropped}
+use Rattle.given_work.specs.Dropped.{outcome_by}
+use Rattle.given_work.proofs.AboutBatches.DroppedLemmas.{cause-right, dropped-fate}
 use Rattle.given_work.proofs.AboutBatches.EntryLemmas.{conclusion-formed, conclusion-small, outcome-right}
 use Rattle.given_work.proofs.entries.fate_of.Goals as goal
 
@@ -22,11 +25,29 @@ simplify-requires-clause-size c =
     let by = c.args.by.now in
     conclusion-small t.usage t.mode t.clauses t.job by.equations.now by.units.now by.members.now t.sets t.key c.args.step c.args.clause t.concluded
 
-pub returns : goal.returns
-returns c = λ usage options clauses j key sets unsplit it.
+pub returns-in-Some-clause-fate : goal.returns-in-Some-clause-fate
+returns-in-Some-clause-fate c = λ usage options clauses j key sets unsplit it.
+    let by = c.args.by.now in
+    let formed =
+    conclusion-formed usage (mode_of options.select) clauses j by.equations.now by.units.now by.members.now sets key c.args.step c.args.clause it in
+    outcome-right usage (mode_of options.select) clauses j by.equations.now by.units.now by.members.now sets key c.args.step c.args.clause it options unsplit refl
+    (outcome_by c.in-Some.cause)
+    (cause-right by.equations.now by.units.now by.members.now c.args.dropped.now (clause_of c.args.clause) c.in-Some.cause c.requires.dropped formed.no_names
+    (sym c.cause.ensures ∙ c.in-Some.is))
+    (Dropped c.in-Some.cause) (dropped-fate c.args.step c.args.clause c.in-Some.cause)
+
+pub returns-in_ok-fate-in-None-clause-fate : goal.returns-in_ok-fate-in-None-clause-fate
+returns-in_ok-fate-in-None-clause-fate c = λ usage options clauses j key sets unsplit it.
     let by = c.args.by.now in
     outcome-right usage (mode_of options.select) clauses j by.equations.now by.units.now by.members.now sets key c.args.step c.args.clause it options unsplit refl
-    c.in_ok-outcome.outcome
-    (subst (λ (o : Option ℕ). IsSimplified by.equations.now by.units.now by.members.now o (clause_of c.args.clause) c.in_ok-outcome.outcome)
-    c.requires.all c.in_ok-outcome.ensures.outcome)
-    c.in_ok-fate.fate c.in_ok-fate.ensures
+    c.in_ok-outcome-in-None.outcome
+    (subst (λ (o : Option ℕ). IsSimplified by.equations.now by.units.now by.members.now o (clause_of c.args.clause) c.in_ok-outcome-in-None.outcome)
+    c.requires.all c.in_ok-outcome-in-None.ensures.outcome)
+    c.in_ok-fate-in-None.fate c.in_ok-fate-in-None.ensures.fate
+
+pub returns-in_ok-fate-in-None-clause-dropped : goal.returns-in_ok-fate-in-None-clause-dropped
+returns-in_ok-fate-in-None-clause-dropped c =
+    let by = c.args.by.now in
+    c.in_ok-fate-in-None.ensures.dropped by.equations.now by.units.now by.members.now c.requires.dropped
+    (subst (λ (o : Option ℕ). IsSimplified by.equations.now by.units.now by.members.now o (clause_of c.args.clause) c.in_ok-outcome-in-None.outcome)
+    c.requires.all c.in_ok-outcome-in-None.ensures.outcome)

@@ -2,7 +2,8 @@ use Rattle.std.proofs.Common.{subst}
 use Rattle.pool_core.specs.declared.options.Options.{Options}
 use Rattle.given_work.proofs.AboutWhole.LawProofs.{told_for_jobs_are_told, work_makes_right_batches}
 use Rattle.given_work.specs.Working.{IsRightUnder}
-use Rattle.proving.proofs.TicketLemmas.{given-known, knows-told, news-are-new, prepared}
+use Rattle.given_work.proofs.AboutLearning.TicketLemmas.{given-known, news-are-new}
+use Rattle.proving.proofs.TicketLemmas.{knows-told, prepared}
 use Rattle.proving.proofs.job.work_on.Goals as goal
 
 pub learn-requires-clause-new : goal.learn-requires-clause-new

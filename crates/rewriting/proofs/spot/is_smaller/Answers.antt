@@ -11,7 +11,7 @@ use Rattle.rewriting.proofs.spot.is_smaller.Goals as goal
 pub greater_under-requires-clause-left_size : goal.greater_under-requires-clause-left_size
 greater_under-requires-clause-left_size c =
     let t = tree_of c.args.old.now in
-    let small : tree_size (instance variable t) < COMPARED_SIZE_LIMIT = omega (arith, ap tree_size (instance-itself t), c.requires) in
+    let small : tree_size (instance variable t) < COMPARED_SIZE_LIMIT = omega (arith, ap tree_size (instance-itself t), c.requires.size, c.requires.small) in
     small
 
 pub returns-clause-exact : goal.returns-clause-exact

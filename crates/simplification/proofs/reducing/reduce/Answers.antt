@@ -5,7 +5,7 @@ use Rattle.fol_base.specs.Subsumption.{assertions}
 use Rattle.kernel_steps.specs.Inference.{is_tautology}
 use Rattle.kernel_steps.specs.declared.step.Reduced.{Reduced}
 use Rattle.simplification.specs.Steps.{IsDone, IsStep}
-use Rattle.simplification.proofs.LoopLemmas.{asserted-are, begins, ends, stepped}
+use Rattle.simplification.proofs.LoopLemmas.{begins, ends, stepped}
 use Rattle.simplification.proofs.StepLemmas.{held, refused}
 use Rattle.simplification.proofs.reducing.reduce.Goals as goal
 
@@ -17,7 +17,7 @@ steps-init c = record {
 
 pub step-requires-clause-asserted : goal.step-requires-clause-asserted
 step-requires-clause-asserted c =
-    c.as_slice-2.ensures.value ∙ c.in_ok-asserted.ensures ∙ asserted-are c.as_slice.result.now
+    c.as_slice-2.ensures.value ∙ c.in_ok-asserted.ensures
     ∙ ap (λ (ns : List NameLit). assertions ns) (c.as_slice.ensures ∙ sym c.steps.invariant.lasts.further.names)
 
 pub returns-then-not-stepped-clause-ok : goal.returns-then-not-stepped-clause-ok

@@ -2,7 +2,6 @@ use Rattle.std.proofs.Common.{map, ap, sym, ◌∙◌}
 use Rattle.std.specs.Option.{option_map}
 use Rattle.fol_base.specs.Clause.{TreeClause}
 use Rattle.fol_base.specs.Literal.{literal_of, clause_of}
-use Rattle.kernel_steps.specs.declared.step.Step.TheVariants as step
 use Rattle.bank_clause.specs.Clause.{clause_at}
 use Rattle.superpose.proofs.AboutSteps.StepLemmas.{superposition-applies, superposition-numbered}
 use Rattle.superpose.proofs.concluding.conclude_superposition.Goals as goal
@@ -20,24 +19,14 @@ unreachable-requires c =
 
 pub returns : goal.returns
 returns c =
-    let e : TreeClause = clause_of (record { literals = c.in-Some.made; names = c.in_ok-names_of-in-Some.field-0 }) in
-    let s = c.args.from in
-    let t = c.args.into.now in
+    let e : TreeClause = clause_of (record { literals = c.in-Some.literals; names = c.in_ok-names-in-Some.names }) in
     let first_bind = c.in_ok-first_bind.first_bind in
     let second_bind = c.in_ok-second_bind.second_bind in (
       first_bind,
       second_bind,
-      ap
-          (λ n. step.Para n c.from-in-Some.result s.literal s.side t.at.literal t.at.side c.in_ok-copy-in-Some.field-0 first_bind second_bind)
-          c.from.ensures
-          ∙ ap
-          (λ n. step.Para c.args.first.now.number n s.literal s.side t.at.literal t.at.side c.in_ok-copy-in-Some.field-0 first_bind second_bind)
-          c.from-in-Some.ensures
-          ∙ ap
-          (λ p. step.Para c.args.first.now.number c.args.second.now.number s.literal s.side t.at.literal t.at.side p first_bind second_bind)
-          c.in_ok-copy-in-Some.ensures,
-      superposition-numbered (clause_at c.args.first.now.clause) c.lend-first_literals.result c.lend-first_literals.ensures s
-          (clause_at c.args.second.now.clause) c.lend-second_literals.result c.lend-second_literals.ensures t
+      c.in_ok-step-in-Some.ensures,
+      superposition-numbered (clause_at c.args.first.now.clause) c.lend-first_literals.result c.lend-first_literals.ensures c.args.from
+          (clause_at c.args.second.now.clause) c.lend-second_literals.result c.lend-second_literals.ensures c.args.into.now
           c.args.first_terms.now c.args.second_terms.now first_bind second_bind
           c.requires.first_covers c.requires.second_covers
           c.new-numbers.result c.number_superposed.new.numbers c.renamed_terms.new.numbers c.renamed_terms-2.new.numbers c.new-numbers.ensures
@@ -45,5 +34,5 @@ returns c =
           c.in_ok-second_bind.ensures.met c.in_ok-second_bind.ensures.form c.requires.applies
           e
           (sym (ap (option_map (map literal_of)) c.in-Some.is) ∙ c.in_ok-para.ensures)
-          c.in_ok-names_of-in-Some.ensures,
+          c.in_ok-names-in-Some.ensures,
     )

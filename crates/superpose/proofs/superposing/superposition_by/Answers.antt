@@ -1,26 +1,101 @@
-use Rattle.std.proofs.Common.{◌≡◌, ◌&&◌, refl, ◌≤◌, ◌-◌, ◌^◌, ◌<◌, min, List, length, arith, ap, ap₂, sym, ◌∙◌}
+use Rattle.std.proofs.Common.{◌≡◌, ◌≤◌, ◌+◌, List, length, arith, ap, ap₂, sym, ◌∙◌}
 use Rattle.std.specs.Prelude.{sum_by, slice_get}
-use Rattle.std.specs.Option.{is_some}
 use Rattle.std.proofs.lemmas.Option.{slice_get_within, same_Some}
 use Rattle.fol_base.specs.Tree.{Tree, tree_size}
-use Rattle.fol_base.specs.Instance.{instance, substitution}
-use Rattle.fol_base.specs.Clause.{TreeLiteral, literal_size, clause_size, clause_instance, clause_variables}
+use Rattle.fol_base.specs.Instance.{instance}
+use Rattle.fol_base.specs.Clause.{TreeLiteral, literal_size, clause_variables}
 use Rattle.fol_base.specs.Ground.{literals_instance}
 use Rattle.fol_base.specs.Canonical.{bound_of, terms_from}
 use Rattle.fol_base.specs.Lent.{lent_of}
 use Rattle.fol_base.specs.Sides.{side_of}
 use Rattle.fol_base.specs.declared.clause.Side.TheVariants.{Left, Right}
-use Rattle.fol_base.specs.declared.limits.TheConstants.{SIZE_LIMIT}
+use Rattle.fol_base.specs.declared.limits.TheConstants.{MOST_SYMBOLS}
 use Rattle.term_bank.specs.Literal.{literals_at}
 use Rattle.bank_clause.specs.Clause.{clause_at}
 use Rattle.unifier.specs.Renaming.{AreNamedTerms}
 use Rattle.unifier.specs.Sizes.{stopped}
-use Rattle.unifier.proofs.AboutLayouts.BoundLemmas.{fits-above}
 use Rattle.unifier.specs.SolvedForm.{substitution_of}
-use Rattle.superpose.specs.Superposing.{starts_under, enters_under}
-use Rattle.superpose.proofs.AboutSteps.TermsLemmas.{own_both, left-many, right-many, superposition_gives}
-use Rattle.superpose.proofs.AboutSteps.SizeLemmas.{heavy_settled, left_sum, right_sum, side_low, made_size, allowed_none, heavy_by_size, concluded_by_step}
+use Rattle.unifier.proofs.AboutClasses.SharedLemmas.{own_terms_are_named}
+use Rattle.superpose.specs.Superposing.{is_heavy, size_under}
+use Rattle.superpose.proofs.AboutSteps.SizeLemmas.{heavy_settled, made_size, side_low, side_size, small_not_heavy, stays, surely_small}
 use Rattle.superpose.proofs.superposing.superposition_by.Goals as goal
+
+pub literal-equation-requires : goal.literal-equation-requires
+literal-equation-requires c =
+    let r = c.requires.unified in
+    omega (arith, ap (λ (ls : List TreeLiteral). length ls) c.lend-literals.ensures, slice_get_within _ c.args.from.literal r.starts.literal r.starts.there)
+
+pub ordered_superposition-requires-clause-left_small : goal.ordered_superposition-requires-clause-left_small
+ordered_superposition-requires-clause-left_small c =
+    let m = c.args.first.now.member.now in
+    let n = c.args.second.now.member.now in
+    let first = clause_at m.clause in
+    let second = clause_at n.clause in
+    let s = c.args.from in
+    let t = c.args.into.now in
+    let b = c.args.unifier.now in
+    let r = c.requires.unified in
+    let first_bound = bound_of (clause_variables first) in
+    let second_bound = bound_of (clause_variables second) in
+    let left = terms_from 0 first_bound (substitution_of b Left) in
+    let right = terms_from 0 second_bound (substitution_of b Right) in
+    let h : AreNamedTerms b first_bound second_bound left right = own_terms_are_named b first_bound second_bound in
+    let equation : lent_of c.literal-equation.result ≡ r.starts.literal =
+    same_Some (lent_of c.literal-equation.result) r.starts.literal
+    (sym c.literal-equation.ensures ∙ ap (λ (ls : List TreeLiteral). slice_get ls s.literal) c.lend-literals.ensures ∙ r.starts.there) in
+    let told_is : c.in_ok-unified_size.unified_size ≡ stopped (side_size m n s t b r left right h) =
+    c.in_ok-unified_size.ensures ∙ ap (λ (u : Tree). stopped (tree_size (instance (substitution_of b Left) u))) (c.side.ensures ∙ ap (side_of s.side) equation) in
+    let small : size_under b Left first + size_under b Right second ≤ MOST_SYMBOLS =
+    surely_small m n s t b r left right h c.in_ok-unified_size.unified_size told_is (c.are_surely_small.ensures.0 c.if-are_surely_small.true) in
+    omega (arith, small)
+
+pub ordered_superposition-requires-clause-right_small : goal.ordered_superposition-requires-clause-right_small
+ordered_superposition-requires-clause-right_small c =
+    let m = c.args.first.now.member.now in
+    let n = c.args.second.now.member.now in
+    let first = clause_at m.clause in
+    let second = clause_at n.clause in
+    let s = c.args.from in
+    let t = c.args.into.now in
+    let b = c.args.unifier.now in
+    let r = c.requires.unified in
+    let first_bound = bound_of (clause_variables first) in
+    let second_bound = bound_of (clause_variables second) in
+    let left = terms_from 0 first_bound (substitution_of b Left) in
+    let right = terms_from 0 second_bound (substitution_of b Right) in
+    let h : AreNamedTerms b first_bound second_bound left right = own_terms_are_named b first_bound second_bound in
+    let equation : lent_of c.literal-equation.result ≡ r.starts.literal =
+    same_Some (lent_of c.literal-equation.result) r.starts.literal
+    (sym c.literal-equation.ensures ∙ ap (λ (ls : List TreeLiteral). slice_get ls s.literal) c.lend-literals.ensures ∙ r.starts.there) in
+    let told_is : c.in_ok-unified_size.unified_size ≡ stopped (side_size m n s t b r left right h) =
+    c.in_ok-unified_size.ensures ∙ ap (λ (u : Tree). stopped (tree_size (instance (substitution_of b Left) u))) (c.side.ensures ∙ ap (side_of s.side) equation) in
+    let small : size_under b Left first + size_under b Right second ≤ MOST_SYMBOLS =
+    surely_small m n s t b r left right h c.in_ok-unified_size.unified_size told_is (c.are_surely_small.ensures.0 c.if-are_surely_small.true) in
+    omega (arith, small)
+
+pub ordered_superposition-requires-clause-heavy : goal.ordered_superposition-requires-clause-heavy
+ordered_superposition-requires-clause-heavy c l there =
+    let m = c.args.first.now.member.now in
+    let n = c.args.second.now.member.now in
+    let first = clause_at m.clause in
+    let second = clause_at n.clause in
+    let s = c.args.from in
+    let t = c.args.into.now in
+    let b = c.args.unifier.now in
+    let r = c.requires.unified in
+    let first_bound = bound_of (clause_variables first) in
+    let second_bound = bound_of (clause_variables second) in
+    let left = terms_from 0 first_bound (substitution_of b Left) in
+    let right = terms_from 0 second_bound (substitution_of b Right) in
+    let h : AreNamedTerms b first_bound second_bound left right = own_terms_are_named b first_bound second_bound in
+    let equation : lent_of c.literal-equation.result ≡ r.starts.literal =
+    same_Some (lent_of c.literal-equation.result) r.starts.literal
+    (sym c.literal-equation.ensures ∙ ap (λ (ls : List TreeLiteral). slice_get ls s.literal) c.lend-literals.ensures ∙ r.starts.there) in
+    let told_is : c.in_ok-unified_size.unified_size ≡ stopped (side_size m n s t b r left right h) =
+    c.in_ok-unified_size.ensures ∙ ap (λ (u : Tree). stopped (tree_size (instance (substitution_of b Left) u))) (c.side.ensures ∙ ap (side_of s.side) equation) in
+    let small : size_under b Left first + size_under b Right second ≤ MOST_SYMBOLS =
+    surely_small m n s t b r left right h c.in_ok-unified_size.unified_size told_is (c.are_surely_small.ensures.0 c.if-are_surely_small.true) in
+    sym (small_not_heavy (size_under b Left first) (size_under b Right second) (tree_size (instance (substitution_of b Left) (side_of s.side l))) small)
 
 pub returns-then-are_settled : goal.returns-then-are_settled
 returns-then-are_settled c mode sites =
@@ -36,16 +111,16 @@ returns-then-are_settled c mode sites =
     let second_bound = bound_of (clause_variables second) in
     let left_told = c.in_ok-left_size.left_size in
     let right_told = c.in_ok-right_size.right_size in
-    let left_is : left_told ≡ stopped (clause_size (clause_instance (substitution_of b Left) first)) =
+    let left_is : left_told ≡ stopped (size_under b Left first) =
     c.in_ok-left_size.ensures ∙ ap (λ ls. stopped (sum_by literal_size (literals_instance (substitution_of b Left) (literals_at ls)))) c.literals.ensures.literals in
-    let right_is : right_told ≡ stopped (clause_size (clause_instance (substitution_of b Right) second)) =
+    let right_is : right_told ≡ stopped (size_under b Right second) =
     c.in_ok-right_size.ensures ∙ ap (λ ls. stopped (sum_by literal_size (literals_instance (substitution_of b Right) (literals_at ls)))) c.literals-2.ensures.literals in
     heavy_settled m n s t b r left_told right_told left_is right_is
-    (omega (arith, c.max-largest.ensures, c.if-largest-gt-MOST_SYMBOLS.true)) mode c.args.second.now.sites.now.choice sites
+    (omega (arith, c.max.ensures, c.if-max-gt-MOST_SYMBOLS.true)) mode c.args.second.now.sites.now.choice sites
     (c.are_settled.ensures c.if-are_settled.true)
 
-pub terms-requires-clause-fits : goal.terms-requires-clause-fits
-terms-requires-clause-fits c =
+pub is_heavy-heavy-requires-clause-unified : goal.is_heavy-heavy-requires-clause-unified
+is_heavy-heavy-requires-clause-unified c =
     let m = c.args.first.now.member.now in
     let n = c.args.second.now.member.now in
     let first = clause_at m.clause in
@@ -56,62 +131,30 @@ terms-requires-clause-fits c =
     let r = c.requires.unified in
     let first_bound = bound_of (clause_variables first) in
     let second_bound = bound_of (clause_variables second) in
-    let few : first_bound ≤ SIZE_LIMIT = omega (arith, c.variable_bound-left_bound.ensures.variables, c.variable_bound-left_bound.ensures.limit) in
-    let second_few : second_bound ≤ SIZE_LIMIT = omega (arith, c.variable_bound-right_bound.ensures.variables, c.variable_bound-right_bound.ensures.limit) in
-    fits-above b first_bound second_bound SIZE_LIMIT SIZE_LIMIT few second_few r.counted
-
-pub terms-requires-2-clause-fits : goal.terms-requires-2-clause-fits
-terms-requires-2-clause-fits c =
-    let m = c.args.first.now.member.now in
-    let n = c.args.second.now.member.now in
-    let first = clause_at m.clause in
-    let second = clause_at n.clause in
-    let s = c.args.from in
-    let t = c.args.into.now in
-    let b = c.args.unifier.now in
-    let r = c.requires.unified in
-    let first_bound = bound_of (clause_variables first) in
-    let second_bound = bound_of (clause_variables second) in
-    let few : first_bound ≤ SIZE_LIMIT = omega (arith, c.variable_bound-left_bound.ensures.variables, c.variable_bound-left_bound.ensures.limit) in
-    let second_few : second_bound ≤ SIZE_LIMIT = omega (arith, c.variable_bound-right_bound.ensures.variables, c.variable_bound-right_bound.ensures.limit) in
-    fits-above b first_bound second_bound SIZE_LIMIT SIZE_LIMIT few second_few r.counted
-
-pub starts_under-requires-clause-inside : goal.starts_under-requires-clause-inside
-starts_under-requires-clause-inside c =
-    let r = c.requires.unified in
-    omega (arith, ap (λ (ls : List TreeLiteral). length ls) c.lend-left_literals.ensures, slice_get_within _ c.args.from.literal r.starts.literal r.starts.there)
-
-pub starts_under-requires-clause-size : goal.starts_under-requires-clause-size
-starts_under-requires-clause-size c =
-    let m = c.args.first.now.member.now in
-    let n = c.args.second.now.member.now in
-    let first = clause_at m.clause in
-    let second = clause_at n.clause in
-    let s = c.args.from in
-    let t = c.args.into.now in
-    let b = c.args.unifier.now in
-    let r = c.requires.unified in
-    let first_bound = bound_of (clause_variables first) in
-    let second_bound = bound_of (clause_variables second) in
-    let left = c.in_ok-left_terms.left_terms in
+    let left = terms_from 0 first_bound (substitution_of b Left) in
     let right = terms_from 0 second_bound (substitution_of b Right) in
-    let h : AreNamedTerms b first_bound second_bound left right =
-    own_both b first_bound second_bound c.variable_bound-left_bound.result second_bound left right c.variable_bound-left_bound.ensures.variables refl c.in_ok-left_terms.ensures refl in
+    let h : AreNamedTerms b first_bound second_bound left right = own_terms_are_named b first_bound second_bound in
+    let equation : lent_of c.literal-equation.result ≡ r.starts.literal =
+    same_Some (lent_of c.literal-equation.result) r.starts.literal
+    (sym c.literal-equation.ensures ∙ ap (λ (ls : List TreeLiteral). slice_get ls s.literal) c.lend-literals.ensures ∙ r.starts.there) in
+    let told_is : c.in_ok-unified_size.unified_size ≡ stopped (side_size m n s t b r left right h) =
+    c.in_ok-unified_size.ensures ∙ ap (λ (u : Tree). stopped (tree_size (instance (substitution_of b Left) u))) (c.side.ensures ∙ ap (side_of s.side) equation) in
     let left_told = c.in_ok-left_size.left_size in
     let right_told = c.in_ok-right_size.right_size in
-    let left_is : left_told ≡ stopped (clause_size (clause_instance (substitution_of b Left) first)) =
+    let left_is : left_told ≡ stopped (size_under b Left first) =
     c.in_ok-left_size.ensures ∙ ap (λ ls. stopped (sum_by literal_size (literals_instance (substitution_of b Left) (literals_at ls)))) c.literals.ensures.literals in
-    let right_is : right_told ≡ stopped (clause_size (clause_instance (substitution_of b Right) second)) =
+    let right_is : right_told ≡ stopped (size_under b Right second) =
     c.in_ok-right_size.ensures ∙ ap (λ ls. stopped (sum_by literal_size (literals_instance (substitution_of b Right) (literals_at ls)))) c.literals-2.ensures.literals in
-    let left_low : left_told < SIZE_LIMIT = omega (arith, c.if-left_size-ge-SIZE_LIMIT.false) in
-    let right_low : right_told < SIZE_LIMIT = omega (arith, c.if-right_size-ge-SIZE_LIMIT.false) in
-    let lent : sum_by literal_size (literals_instance (substitution left) c.lend-left_literals.result)
-    ≡ sum_by literal_size (literals_instance (substitution left) first.literals) =
-    ap (λ ls. sum_by literal_size (literals_instance (substitution left) ls)) c.lend-left_literals.ensures in
-    omega (arith, lent, left_sum m n s t b r left right h left_told right_told left_is right_is left_low right_low, left_low)
+    let left_same : left_told ≡ size_under b Left first = stays left_told (size_under b Left first) left_is (omega (arith, c.if-left_size-ge-SIZE_LIMIT.false)) in
+    let right_same : right_told ≡ size_under b Right second = stays right_told (size_under b Right second) right_is (omega (arith, c.if-right_size-ge-SIZE_LIMIT.false)) in
+    let low = side_low m n s t b r left right h in
+    let side_same : c.in_ok-unified_size.unified_size ≡ side_size m n s t b r left right h =
+    omega (arith, told_is, low, left_same, c.if-left_size-ge-SIZE_LIMIT.false) in
+    let made = made_size m n s t b r left right h in
+    omega (arith, made, side_same, left_same, right_same)
 
-pub returns-then-not-starts_under : goal.returns-then-not-starts_under
-returns-then-not-starts_under c mode sites =
+pub ordered_superposition-requires-2-clause-left_small : goal.ordered_superposition-requires-2-clause-left_small
+ordered_superposition-requires-2-clause-left_small c =
     let m = c.args.first.now.member.now in
     let n = c.args.second.now.member.now in
     let first = clause_at m.clause in
@@ -122,327 +165,70 @@ returns-then-not-starts_under c mode sites =
     let r = c.requires.unified in
     let first_bound = bound_of (clause_variables first) in
     let second_bound = bound_of (clause_variables second) in
-    let left = c.in_ok-left_terms.left_terms in
+    let left_told = c.in_ok-left_size.left_size in
+    let right_told = c.in_ok-right_size.right_size in
+    let left_is : left_told ≡ stopped (size_under b Left first) =
+    c.in_ok-left_size.ensures ∙ ap (λ ls. stopped (sum_by literal_size (literals_instance (substitution_of b Left) (literals_at ls)))) c.literals.ensures.literals in
+    let right_is : right_told ≡ stopped (size_under b Right second) =
+    c.in_ok-right_size.ensures ∙ ap (λ ls. stopped (sum_by literal_size (literals_instance (substitution_of b Right) (literals_at ls)))) c.literals-2.ensures.literals in
+    let left_same : left_told ≡ size_under b Left first = stays left_told (size_under b Left first) left_is (omega (arith, c.if-left_size-ge-SIZE_LIMIT.false)) in
+    let right_same : right_told ≡ size_under b Right second = stays right_told (size_under b Right second) right_is (omega (arith, c.if-right_size-ge-SIZE_LIMIT.false)) in
+    omega (arith, left_same, c.if-left_size-ge-SIZE_LIMIT.false)
+
+pub ordered_superposition-requires-2-clause-right_small : goal.ordered_superposition-requires-2-clause-right_small
+ordered_superposition-requires-2-clause-right_small c =
+    let m = c.args.first.now.member.now in
+    let n = c.args.second.now.member.now in
+    let first = clause_at m.clause in
+    let second = clause_at n.clause in
+    let s = c.args.from in
+    let t = c.args.into.now in
+    let b = c.args.unifier.now in
+    let r = c.requires.unified in
+    let first_bound = bound_of (clause_variables first) in
+    let second_bound = bound_of (clause_variables second) in
+    let left_told = c.in_ok-left_size.left_size in
+    let right_told = c.in_ok-right_size.right_size in
+    let left_is : left_told ≡ stopped (size_under b Left first) =
+    c.in_ok-left_size.ensures ∙ ap (λ ls. stopped (sum_by literal_size (literals_instance (substitution_of b Left) (literals_at ls)))) c.literals.ensures.literals in
+    let right_is : right_told ≡ stopped (size_under b Right second) =
+    c.in_ok-right_size.ensures ∙ ap (λ ls. stopped (sum_by literal_size (literals_instance (substitution_of b Right) (literals_at ls)))) c.literals-2.ensures.literals in
+    let left_same : left_told ≡ size_under b Left first = stays left_told (size_under b Left first) left_is (omega (arith, c.if-left_size-ge-SIZE_LIMIT.false)) in
+    let right_same : right_told ≡ size_under b Right second = stays right_told (size_under b Right second) right_is (omega (arith, c.if-right_size-ge-SIZE_LIMIT.false)) in
+    omega (arith, right_same, c.if-right_size-ge-SIZE_LIMIT.false)
+
+pub ordered_superposition-requires-2-clause-heavy : goal.ordered_superposition-requires-2-clause-heavy
+ordered_superposition-requires-2-clause-heavy c l there =
+    let m = c.args.first.now.member.now in
+    let n = c.args.second.now.member.now in
+    let first = clause_at m.clause in
+    let second = clause_at n.clause in
+    let s = c.args.from in
+    let t = c.args.into.now in
+    let b = c.args.unifier.now in
+    let r = c.requires.unified in
+    let first_bound = bound_of (clause_variables first) in
+    let second_bound = bound_of (clause_variables second) in
+    let left = terms_from 0 first_bound (substitution_of b Left) in
     let right = terms_from 0 second_bound (substitution_of b Right) in
-    let h : AreNamedTerms b first_bound second_bound left right =
-    own_both b first_bound second_bound c.variable_bound-left_bound.result second_bound left right c.variable_bound-left_bound.ensures.variables refl c.in_ok-left_terms.ensures refl in
-    let left_told = c.in_ok-left_size.left_size in
-    let right_told = c.in_ok-right_size.right_size in
-    let left_is : left_told ≡ stopped (clause_size (clause_instance (substitution_of b Left) first)) =
-    c.in_ok-left_size.ensures ∙ ap (λ ls. stopped (sum_by literal_size (literals_instance (substitution_of b Left) (literals_at ls)))) c.literals.ensures.literals in
-    let right_is : right_told ≡ stopped (clause_size (clause_instance (substitution_of b Right) second)) =
-    c.in_ok-right_size.ensures ∙ ap (λ ls. stopped (sum_by literal_size (literals_instance (substitution_of b Right) (literals_at ls)))) c.literals-2.ensures.literals in
-    let left_low : left_told < SIZE_LIMIT = omega (arith, c.if-left_size-ge-SIZE_LIMIT.false) in
-    let right_low : right_told < SIZE_LIMIT = omega (arith, c.if-right_size-ge-SIZE_LIMIT.false) in
-    let starts =
-    ap (λ (ls : List TreeLiteral). starts_under ls s (substitution left)) (sym c.lend-left_literals.ensures) ∙ sym c.if-not-starts_under.ensures in
-    allowed_none m n s t b r left right h left_told right_told left_is right_is left_low right_low mode c.args.second.now.sites.now.choice sites
-    (ap (λ x. x && enters_under first.literals s second.literals t c.args.second.now.sites.now.choice (substitution left) (substitution right)) starts)
-
-pub enters_under-requires-clause-from_inside : goal.enters_under-requires-clause-from_inside
-enters_under-requires-clause-from_inside c =
-    let r = c.requires.unified in
-    omega (arith, ap (λ (ls : List TreeLiteral). length ls) c.lend-left_literals.ensures, slice_get_within _ c.args.from.literal r.starts.literal r.starts.there)
-
-pub enters_under-requires-clause-into_inside : goal.enters_under-requires-clause-into_inside
-enters_under-requires-clause-into_inside c =
-    let r = c.requires.unified in
-    omega (arith, ap (λ (ls : List TreeLiteral). length ls) c.lend-right_literals.ensures, slice_get_within _ c.args.into.now.at.literal r.enters.literal r.enters.there)
-
-pub enters_under-requires-clause-size : goal.enters_under-requires-clause-size
-enters_under-requires-clause-size c =
-    let m = c.args.first.now.member.now in
-    let n = c.args.second.now.member.now in
-    let first = clause_at m.clause in
-    let second = clause_at n.clause in
-    let s = c.args.from in
-    let t = c.args.into.now in
-    let b = c.args.unifier.now in
-    let r = c.requires.unified in
-    let first_bound = bound_of (clause_variables first) in
-    let second_bound = bound_of (clause_variables second) in
-    let left = c.in_ok-left_terms.left_terms in
-    let right = c.in_ok-right_terms.right_terms in
-    let h : AreNamedTerms b first_bound second_bound left right =
-    own_both b first_bound second_bound c.variable_bound-left_bound.result c.variable_bound-right_bound.result left right
-    c.variable_bound-left_bound.ensures.variables c.variable_bound-right_bound.ensures.variables c.in_ok-left_terms.ensures c.in_ok-right_terms.ensures in
-    let left_told = c.in_ok-left_size.left_size in
-    let right_told = c.in_ok-right_size.right_size in
-    let left_is : left_told ≡ stopped (clause_size (clause_instance (substitution_of b Left) first)) =
-    c.in_ok-left_size.ensures ∙ ap (λ ls. stopped (sum_by literal_size (literals_instance (substitution_of b Left) (literals_at ls)))) c.literals.ensures.literals in
-    let right_is : right_told ≡ stopped (clause_size (clause_instance (substitution_of b Right) second)) =
-    c.in_ok-right_size.ensures ∙ ap (λ ls. stopped (sum_by literal_size (literals_instance (substitution_of b Right) (literals_at ls)))) c.literals-2.ensures.literals in
-    let left_low : left_told < SIZE_LIMIT = omega (arith, c.if-left_size-ge-SIZE_LIMIT.false) in
-    let right_low : right_told < SIZE_LIMIT = omega (arith, c.if-right_size-ge-SIZE_LIMIT.false) in
-    let lent : sum_by literal_size (literals_instance (substitution right) c.lend-right_literals.result)
-    ≡ sum_by literal_size (literals_instance (substitution right) second.literals) =
-    ap (λ ls. sum_by literal_size (literals_instance (substitution right) ls)) c.lend-right_literals.ensures in
-    omega (arith, lent, right_sum m n s t b r left right h left_told right_told left_is right_is left_low right_low, right_low)
-
-pub returns-then-not-enters_under : goal.returns-then-not-enters_under
-returns-then-not-enters_under c mode sites =
-    let m = c.args.first.now.member.now in
-    let n = c.args.second.now.member.now in
-    let first = clause_at m.clause in
-    let second = clause_at n.clause in
-    let s = c.args.from in
-    let t = c.args.into.now in
-    let b = c.args.unifier.now in
-    let r = c.requires.unified in
-    let first_bound = bound_of (clause_variables first) in
-    let second_bound = bound_of (clause_variables second) in
-    let left = c.in_ok-left_terms.left_terms in
-    let right = c.in_ok-right_terms.right_terms in
-    let h : AreNamedTerms b first_bound second_bound left right =
-    own_both b first_bound second_bound c.variable_bound-left_bound.result c.variable_bound-right_bound.result left right
-    c.variable_bound-left_bound.ensures.variables c.variable_bound-right_bound.ensures.variables c.in_ok-left_terms.ensures c.in_ok-right_terms.ensures in
-    let left_told = c.in_ok-left_size.left_size in
-    let right_told = c.in_ok-right_size.right_size in
-    let left_is : left_told ≡ stopped (clause_size (clause_instance (substitution_of b Left) first)) =
-    c.in_ok-left_size.ensures ∙ ap (λ ls. stopped (sum_by literal_size (literals_instance (substitution_of b Left) (literals_at ls)))) c.literals.ensures.literals in
-    let right_is : right_told ≡ stopped (clause_size (clause_instance (substitution_of b Right) second)) =
-    c.in_ok-right_size.ensures ∙ ap (λ ls. stopped (sum_by literal_size (literals_instance (substitution_of b Right) (literals_at ls)))) c.literals-2.ensures.literals in
-    let left_low : left_told < SIZE_LIMIT = omega (arith, c.if-left_size-ge-SIZE_LIMIT.false) in
-    let right_low : right_told < SIZE_LIMIT = omega (arith, c.if-right_size-ge-SIZE_LIMIT.false) in
-    let starts =
-    ap (λ (ls : List TreeLiteral). starts_under ls s (substitution left)) (sym c.lend-left_literals.ensures) ∙ sym c.if-not-starts_under.ensures in
-    let enters =
-    ap₂ (λ (ls ks : List TreeLiteral). enters_under ls s ks t c.args.second.now.sites.now.choice (substitution left) (substitution right))
-    (sym c.lend-left_literals.ensures) (sym c.lend-right_literals.ensures)
-    ∙ sym c.if-not-enters_under.ensures in
-    allowed_none m n s t b r left right h left_told right_told left_is right_is left_low right_low mode c.args.second.now.sites.now.choice sites (ap₂ (λ x y. x && y) starts enters)
-
-pub literal-equation-requires : goal.literal-equation-requires
-literal-equation-requires c =
-    let r = c.requires.unified in
-    omega (arith, ap (λ (ls : List TreeLiteral). length ls) c.lend-left_literals.ensures, slice_get_within _ c.args.from.literal r.starts.literal r.starts.there)
-
-pub overflow_mul-made_size : goal.overflow_mul-made_size
-overflow_mul-made_size c =
-    let m = c.args.first.now.member.now in
-    let n = c.args.second.now.member.now in
-    let first = clause_at m.clause in
-    let second = clause_at n.clause in
-    let s = c.args.from in
-    let t = c.args.into.now in
-    let b = c.args.unifier.now in
-    let r = c.requires.unified in
-    let first_bound = bound_of (clause_variables first) in
-    let second_bound = bound_of (clause_variables second) in
-    let left = c.in_ok-left_terms.left_terms in
-    let right = c.in_ok-right_terms.right_terms in
-    let h : AreNamedTerms b first_bound second_bound left right =
-    own_both b first_bound second_bound c.variable_bound-left_bound.result c.variable_bound-right_bound.result left right
-    c.variable_bound-left_bound.ensures.variables c.variable_bound-right_bound.ensures.variables c.in_ok-left_terms.ensures c.in_ok-right_terms.ensures in
-    let left_told = c.in_ok-left_size.left_size in
-    let right_told = c.in_ok-right_size.right_size in
-    let left_is : left_told ≡ stopped (clause_size (clause_instance (substitution_of b Left) first)) =
-    c.in_ok-left_size.ensures ∙ ap (λ ls. stopped (sum_by literal_size (literals_instance (substitution_of b Left) (literals_at ls)))) c.literals.ensures.literals in
-    let right_is : right_told ≡ stopped (clause_size (clause_instance (substitution_of b Right) second)) =
-    c.in_ok-right_size.ensures ∙ ap (λ ls. stopped (sum_by literal_size (literals_instance (substitution_of b Right) (literals_at ls)))) c.literals-2.ensures.literals in
-    let left_low : left_told < SIZE_LIMIT = omega (arith, c.if-left_size-ge-SIZE_LIMIT.false) in
-    let right_low : right_told < SIZE_LIMIT = omega (arith, c.if-right_size-ge-SIZE_LIMIT.false) in
+    let h : AreNamedTerms b first_bound second_bound left right = own_terms_are_named b first_bound second_bound in
     let equation : lent_of c.literal-equation.result ≡ r.starts.literal =
     same_Some (lent_of c.literal-equation.result) r.starts.literal
-    (sym c.literal-equation.ensures ∙ ap (λ (ls : List TreeLiteral). slice_get ls s.literal) c.lend-left_literals.ensures ∙ r.starts.there) in
-    let size_is : tree_size (instance (substitution left) (side_of s.side (lent_of c.literal-equation.result)))
-    ≡ tree_size (instance (substitution left) (side_of s.side r.starts.literal)) =
-    ap (λ (l : TreeLiteral). tree_size (instance (substitution left) (side_of s.side l))) equation in
-    let told : c.instance_size-gone.result ≡ min (tree_size (instance (substitution left) (side_of s.side r.starts.literal))) (2 ^ 64 - 1) =
-    c.instance_size-gone.ensures ∙ ap (λ (u : Tree). min (tree_size (instance (substitution left) u)) (2 ^ 64 - 1)) c.side.ensures
-    ∙ ap (λ k. min k (2 ^ 64 - 1)) size_is in
-    let low = side_low m n s t b r left right h left_told right_told left_is right_is left_low right_low in
-    let gone_is : c.instance_size-gone.result ≡ tree_size (instance (substitution left) (side_of s.side r.starts.literal)) = omega (arith, told, low, left_low) in
-    omega (arith, gone_is, low, left_low)
-
-pub overflow_sub-made_size : goal.overflow_sub-made_size
-overflow_sub-made_size c =
-    let m = c.args.first.now.member.now in
-    let n = c.args.second.now.member.now in
-    let first = clause_at m.clause in
-    let second = clause_at n.clause in
-    let s = c.args.from in
-    let t = c.args.into.now in
-    let b = c.args.unifier.now in
-    let r = c.requires.unified in
-    let first_bound = bound_of (clause_variables first) in
-    let second_bound = bound_of (clause_variables second) in
-    let left = c.in_ok-left_terms.left_terms in
-    let right = c.in_ok-right_terms.right_terms in
-    let h : AreNamedTerms b first_bound second_bound left right =
-    own_both b first_bound second_bound c.variable_bound-left_bound.result c.variable_bound-right_bound.result left right
-    c.variable_bound-left_bound.ensures.variables c.variable_bound-right_bound.ensures.variables c.in_ok-left_terms.ensures c.in_ok-right_terms.ensures in
+    (sym c.literal-equation.ensures ∙ ap (λ (ls : List TreeLiteral). slice_get ls s.literal) c.lend-literals.ensures ∙ r.starts.there) in
+    let told_is : c.in_ok-unified_size.unified_size ≡ stopped (side_size m n s t b r left right h) =
+    c.in_ok-unified_size.ensures ∙ ap (λ (u : Tree). stopped (tree_size (instance (substitution_of b Left) u))) (c.side.ensures ∙ ap (side_of s.side) equation) in
     let left_told = c.in_ok-left_size.left_size in
     let right_told = c.in_ok-right_size.right_size in
-    let left_is : left_told ≡ stopped (clause_size (clause_instance (substitution_of b Left) first)) =
+    let left_is : left_told ≡ stopped (size_under b Left first) =
     c.in_ok-left_size.ensures ∙ ap (λ ls. stopped (sum_by literal_size (literals_instance (substitution_of b Left) (literals_at ls)))) c.literals.ensures.literals in
-    let right_is : right_told ≡ stopped (clause_size (clause_instance (substitution_of b Right) second)) =
+    let right_is : right_told ≡ stopped (size_under b Right second) =
     c.in_ok-right_size.ensures ∙ ap (λ ls. stopped (sum_by literal_size (literals_instance (substitution_of b Right) (literals_at ls)))) c.literals-2.ensures.literals in
-    let left_low : left_told < SIZE_LIMIT = omega (arith, c.if-left_size-ge-SIZE_LIMIT.false) in
-    let right_low : right_told < SIZE_LIMIT = omega (arith, c.if-right_size-ge-SIZE_LIMIT.false) in
-    let equation : lent_of c.literal-equation.result ≡ r.starts.literal =
-    same_Some (lent_of c.literal-equation.result) r.starts.literal
-    (sym c.literal-equation.ensures ∙ ap (λ (ls : List TreeLiteral). slice_get ls s.literal) c.lend-left_literals.ensures ∙ r.starts.there) in
-    let size_is : tree_size (instance (substitution left) (side_of s.side (lent_of c.literal-equation.result)))
-    ≡ tree_size (instance (substitution left) (side_of s.side r.starts.literal)) =
-    ap (λ (l : TreeLiteral). tree_size (instance (substitution left) (side_of s.side l))) equation in
-    let told : c.instance_size-gone.result ≡ min (tree_size (instance (substitution left) (side_of s.side r.starts.literal))) (2 ^ 64 - 1) =
-    c.instance_size-gone.ensures ∙ ap (λ (u : Tree). min (tree_size (instance (substitution left) u)) (2 ^ 64 - 1)) c.side.ensures
-    ∙ ap (λ k. min k (2 ^ 64 - 1)) size_is in
-    let low = side_low m n s t b r left right h left_told right_told left_is right_is left_low right_low in
-    let gone_is : c.instance_size-gone.result ≡ tree_size (instance (substitution left) (side_of s.side r.starts.literal)) = omega (arith, told, low, left_low) in
-    omega (arith, gone_is, made_size m n s t b r left right h left_told right_told left_is right_is left_low right_low)
-
-pub returns-then-max-gt-MOST_SYMBOLS : goal.returns-then-max-gt-MOST_SYMBOLS
-returns-then-max-gt-MOST_SYMBOLS c mode sites =
-    let m = c.args.first.now.member.now in
-    let n = c.args.second.now.member.now in
-    let first = clause_at m.clause in
-    let second = clause_at n.clause in
-    let s = c.args.from in
-    let t = c.args.into.now in
-    let b = c.args.unifier.now in
-    let r = c.requires.unified in
-    let first_bound = bound_of (clause_variables first) in
-    let second_bound = bound_of (clause_variables second) in
-    let left = c.in_ok-left_terms.left_terms in
-    let right = c.in_ok-right_terms.right_terms in
-    let h : AreNamedTerms b first_bound second_bound left right =
-    own_both b first_bound second_bound c.variable_bound-left_bound.result c.variable_bound-right_bound.result left right
-    c.variable_bound-left_bound.ensures.variables c.variable_bound-right_bound.ensures.variables c.in_ok-left_terms.ensures c.in_ok-right_terms.ensures in
-    let left_told = c.in_ok-left_size.left_size in
-    let right_told = c.in_ok-right_size.right_size in
-    let left_is : left_told ≡ stopped (clause_size (clause_instance (substitution_of b Left) first)) =
-    c.in_ok-left_size.ensures ∙ ap (λ ls. stopped (sum_by literal_size (literals_instance (substitution_of b Left) (literals_at ls)))) c.literals.ensures.literals in
-    let right_is : right_told ≡ stopped (clause_size (clause_instance (substitution_of b Right) second)) =
-    c.in_ok-right_size.ensures ∙ ap (λ ls. stopped (sum_by literal_size (literals_instance (substitution_of b Right) (literals_at ls)))) c.literals-2.ensures.literals in
-    let left_low : left_told < SIZE_LIMIT = omega (arith, c.if-left_size-ge-SIZE_LIMIT.false) in
-    let right_low : right_told < SIZE_LIMIT = omega (arith, c.if-right_size-ge-SIZE_LIMIT.false) in
-    let starts =
-    ap (λ (ls : List TreeLiteral). starts_under ls s (substitution left)) (sym c.lend-left_literals.ensures) ∙ sym c.if-not-starts_under.ensures in
-    let enters =
-    ap₂ (λ (ls ks : List TreeLiteral). enters_under ls s ks t c.args.second.now.sites.now.choice (substitution left) (substitution right))
-    (sym c.lend-left_literals.ensures) (sym c.lend-right_literals.ensures)
-    ∙ sym c.if-not-enters_under.ensures in
-    let allowed = ap₂ (λ x y. x && y) starts enters in
-    let equation : lent_of c.literal-equation.result ≡ r.starts.literal =
-    same_Some (lent_of c.literal-equation.result) r.starts.literal
-    (sym c.literal-equation.ensures ∙ ap (λ (ls : List TreeLiteral). slice_get ls s.literal) c.lend-left_literals.ensures ∙ r.starts.there) in
-    let size_is : tree_size (instance (substitution left) (side_of s.side (lent_of c.literal-equation.result)))
-    ≡ tree_size (instance (substitution left) (side_of s.side r.starts.literal)) =
-    ap (λ (l : TreeLiteral). tree_size (instance (substitution left) (side_of s.side l))) equation in
-    let told : c.instance_size-gone.result ≡ min (tree_size (instance (substitution left) (side_of s.side r.starts.literal))) (2 ^ 64 - 1) =
-    c.instance_size-gone.ensures ∙ ap (λ (u : Tree). min (tree_size (instance (substitution left) u)) (2 ^ 64 - 1)) c.side.ensures
-    ∙ ap (λ k. min k (2 ^ 64 - 1)) size_is in
-    let low = side_low m n s t b r left right h left_told right_told left_is right_is left_low right_low in
-    let gone_is : c.instance_size-gone.result ≡ tree_size (instance (substitution left) (side_of s.side r.starts.literal)) = omega (arith, told, low, left_low) in
-    heavy_by_size m n s t b r left right h left_told right_told left_is right_is left_low right_low mode c.args.second.now.sites.now.choice sites allowed
-    c.instance_size-gone.result gone_is (omega (arith, c.max-largest.ensures, c.max.ensures, c.if-max-gt-MOST_SYMBOLS.true))
-
-pub conclude_superposition-requires-clause-from_inside : goal.conclude_superposition-requires-clause-from_inside
-conclude_superposition-requires-clause-from_inside c =
-    let r = c.requires.unified in slice_get_within _ c.args.from.literal r.starts.literal r.starts.there
-
-pub conclude_superposition-requires-clause-first_covers : goal.conclude_superposition-requires-clause-first_covers
-conclude_superposition-requires-clause-first_covers c =
-    let m = c.args.first.now.member.now in
-    let n = c.args.second.now.member.now in
-    let first = clause_at m.clause in
-    let second = clause_at n.clause in
-    let s = c.args.from in
-    let t = c.args.into.now in
-    let b = c.args.unifier.now in
-    let r = c.requires.unified in
-    let first_bound = bound_of (clause_variables first) in
-    let second_bound = bound_of (clause_variables second) in
-    let left = c.in_ok-left_terms.left_terms in
-    let right = c.in_ok-right_terms.right_terms in
-    let h : AreNamedTerms b first_bound second_bound left right =
-    own_both b first_bound second_bound c.variable_bound-left_bound.result c.variable_bound-right_bound.result left right
-    c.variable_bound-left_bound.ensures.variables c.variable_bound-right_bound.ensures.variables c.in_ok-left_terms.ensures c.in_ok-right_terms.ensures in
-    left-many first s second t b r left right h
-
-pub conclude_superposition-requires-clause-second_covers : goal.conclude_superposition-requires-clause-second_covers
-conclude_superposition-requires-clause-second_covers c =
-    let m = c.args.first.now.member.now in
-    let n = c.args.second.now.member.now in
-    let first = clause_at m.clause in
-    let second = clause_at n.clause in
-    let s = c.args.from in
-    let t = c.args.into.now in
-    let b = c.args.unifier.now in
-    let r = c.requires.unified in
-    let first_bound = bound_of (clause_variables first) in
-    let second_bound = bound_of (clause_variables second) in
-    let left = c.in_ok-left_terms.left_terms in
-    let right = c.in_ok-right_terms.right_terms in
-    let h : AreNamedTerms b first_bound second_bound left right =
-    own_both b first_bound second_bound c.variable_bound-left_bound.result c.variable_bound-right_bound.result left right
-    c.variable_bound-left_bound.ensures.variables c.variable_bound-right_bound.ensures.variables c.in_ok-left_terms.ensures c.in_ok-right_terms.ensures in
-    right-many first s second t b r left right h
-
-pub conclude_superposition-requires-clause-applies : goal.conclude_superposition-requires-clause-applies
-conclude_superposition-requires-clause-applies c =
-    let m = c.args.first.now.member.now in
-    let n = c.args.second.now.member.now in
-    let first = clause_at m.clause in
-    let second = clause_at n.clause in
-    let s = c.args.from in
-    let t = c.args.into.now in
-    let b = c.args.unifier.now in
-    let r = c.requires.unified in
-    let first_bound = bound_of (clause_variables first) in
-    let second_bound = bound_of (clause_variables second) in
-    let left = c.in_ok-left_terms.left_terms in
-    let right = c.in_ok-right_terms.right_terms in
-    let h : AreNamedTerms b first_bound second_bound left right =
-    own_both b first_bound second_bound c.variable_bound-left_bound.result c.variable_bound-right_bound.result left right
-    c.variable_bound-left_bound.ensures.variables c.variable_bound-right_bound.ensures.variables c.in_ok-left_terms.ensures c.in_ok-right_terms.ensures in
-    ap is_some (superposition_gives first s second t b r left right h)
-
-pub returns : goal.returns
-returns c mode sites =
-    let m = c.args.first.now.member.now in
-    let n = c.args.second.now.member.now in
-    let first = clause_at m.clause in
-    let second = clause_at n.clause in
-    let s = c.args.from in
-    let t = c.args.into.now in
-    let b = c.args.unifier.now in
-    let r = c.requires.unified in
-    let first_bound = bound_of (clause_variables first) in
-    let second_bound = bound_of (clause_variables second) in
-    let left = c.in_ok-left_terms.left_terms in
-    let right = c.in_ok-right_terms.right_terms in
-    let h : AreNamedTerms b first_bound second_bound left right =
-    own_both b first_bound second_bound c.variable_bound-left_bound.result c.variable_bound-right_bound.result left right
-    c.variable_bound-left_bound.ensures.variables c.variable_bound-right_bound.ensures.variables c.in_ok-left_terms.ensures c.in_ok-right_terms.ensures in
-    let left_told = c.in_ok-left_size.left_size in
-    let right_told = c.in_ok-right_size.right_size in
-    let left_is : left_told ≡ stopped (clause_size (clause_instance (substitution_of b Left) first)) =
-    c.in_ok-left_size.ensures ∙ ap (λ ls. stopped (sum_by literal_size (literals_instance (substitution_of b Left) (literals_at ls)))) c.literals.ensures.literals in
-    let right_is : right_told ≡ stopped (clause_size (clause_instance (substitution_of b Right) second)) =
-    c.in_ok-right_size.ensures ∙ ap (λ ls. stopped (sum_by literal_size (literals_instance (substitution_of b Right) (literals_at ls)))) c.literals-2.ensures.literals in
-    let left_low : left_told < SIZE_LIMIT = omega (arith, c.if-left_size-ge-SIZE_LIMIT.false) in
-    let right_low : right_told < SIZE_LIMIT = omega (arith, c.if-right_size-ge-SIZE_LIMIT.false) in
-    let starts =
-    ap (λ (ls : List TreeLiteral). starts_under ls s (substitution left)) (sym c.lend-left_literals.ensures) ∙ sym c.if-not-starts_under.ensures in
-    let enters =
-    ap₂ (λ (ls ks : List TreeLiteral). enters_under ls s ks t c.args.second.now.sites.now.choice (substitution left) (substitution right))
-    (sym c.lend-left_literals.ensures) (sym c.lend-right_literals.ensures)
-    ∙ sym c.if-not-enters_under.ensures in
-    let allowed = ap₂ (λ x y. x && y) starts enters in
-    let equation : lent_of c.literal-equation.result ≡ r.starts.literal =
-    same_Some (lent_of c.literal-equation.result) r.starts.literal
-    (sym c.literal-equation.ensures ∙ ap (λ (ls : List TreeLiteral). slice_get ls s.literal) c.lend-left_literals.ensures ∙ r.starts.there) in
-    let size_is : tree_size (instance (substitution left) (side_of s.side (lent_of c.literal-equation.result)))
-    ≡ tree_size (instance (substitution left) (side_of s.side r.starts.literal)) =
-    ap (λ (l : TreeLiteral). tree_size (instance (substitution left) (side_of s.side l))) equation in
-    let told : c.instance_size-gone.result ≡ min (tree_size (instance (substitution left) (side_of s.side r.starts.literal))) (2 ^ 64 - 1) =
-    c.instance_size-gone.ensures ∙ ap (λ (u : Tree). min (tree_size (instance (substitution left) u)) (2 ^ 64 - 1)) c.side.ensures
-    ∙ ap (λ k. min k (2 ^ 64 - 1)) size_is in
-    let low = side_low m n s t b r left right h left_told right_told left_is right_is left_low right_low in
-    let gone_is : c.instance_size-gone.result ≡ tree_size (instance (substitution left) (side_of s.side r.starts.literal)) = omega (arith, told, low, left_low) in
-    concluded_by_step m n s t b r left right h left_told right_told left_is right_is left_low right_low mode c.args.second.now.sites.now.choice sites allowed
-    c.instance_size-gone.result c.in_ok-made.made gone_is
-    (omega (arith, c.max-largest.ensures, c.max.ensures, c.if-max-gt-MOST_SYMBOLS.false)) c.in_ok-made.ensures
+    let left_same : left_told ≡ size_under b Left first = stays left_told (size_under b Left first) left_is (omega (arith, c.if-left_size-ge-SIZE_LIMIT.false)) in
+    let right_same : right_told ≡ size_under b Right second = stays right_told (size_under b Right second) right_is (omega (arith, c.if-right_size-ge-SIZE_LIMIT.false)) in
+    let low = side_low m n s t b r left right h in
+    let side_same : c.in_ok-unified_size.unified_size ≡ side_size m n s t b r left right h =
+    omega (arith, told_is, low, left_same, c.if-left_size-ge-SIZE_LIMIT.false) in
+    let literal : r.starts.literal ≡ l = same_Some r.starts.literal l (sym r.starts.there ∙ there) in
+    c.is_heavy-heavy.ensures ∙ ap₂ (λ j k. is_heavy j k c.in_ok-unified_size.unified_size) left_same right_same
+    ∙ ap (is_heavy (size_under b Left first) (size_under b Right second))
+    (side_same ∙ ap (λ (k : TreeLiteral). tree_size (instance (substitution_of b Left) (side_of s.side k))) literal)

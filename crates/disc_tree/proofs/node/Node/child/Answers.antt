@@ -1,7 +1,7 @@
 use Rattle.std.proofs.Common.{◌<◌, List, ap, sym, subst, ◌∙◌, arith}
 use Rattle.fol_base.specs.Tree.{Tree}
 use Rattle.disc_tree.specs.Rows.{Child, rows, rows_at, weight, IsAt, IsGap}
-use Rattle.disc_tree.specs.Children.{child_of, children_of}
+use Rattle.disc_tree.specs.Children.{child_of, children_of, rows_below}
 use Rattle.disc_tree.proofs.AboutPaths.SlotLemmas.{child-get, children-length, some-rows-at}
 use Rattle.disc_tree.proofs.AboutPaths.ChildLemmas.{at-rows, gap-rows, child-lighter}
 use Rattle.disc_tree.proofs.node.Node.child.Goals as goal
@@ -19,7 +19,7 @@ pub returns-in-Ok-clause-smaller : goal.returns-in-Ok-clause-smaller
 returns-in-Ok-clause-smaller g c =
     let found : IsAt c.args.label (children_of c.self.inside.branches.items) c.in-Ok.at =
     subst (λ bs. IsAt c.args.label (children_of bs) c.in-Ok.at) c.deref.ensures.value c.in-Ok.ensures.found in
-    subst (λ (v : List (Tree × _) × List Child). weight (rows c.index.result.now.node) < weight (rows v)) c.self.view_is
+    subst (λ (v : List (Tree × _) × List Child). weight (rows_below c.index.result.now.below) < weight (rows v)) c.self.view_is
     (child-lighter c.self.inside.entries (children_of c.self.inside.branches.items) c.in-Ok.at (child_of c.index.result.now)
     c.self.invariant.none_is_empty found.in_range
     (child-get c.self.inside.branches.items c.in-Ok.at c.index.result.now

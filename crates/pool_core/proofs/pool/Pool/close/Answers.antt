@@ -9,7 +9,8 @@ use Rattle.pool_core.specs.Returning.{becomes_active}
 use Rattle.pool_core.specs.State.{IsProofStateOf, pair_of}
 use Rattle.pool_core.specs.View.{PoolView}
 use Rattle.pool_core.proofs.AboutClaims.StateLemmas.{record_of}
-use Rattle.pool_core.proofs.AboutReturns.TakenLemmas.{IsToBeTaken, to-be-taken, taken-pool, without, without-state, closed-follows, after-closed, queue-without, no-more-room, no-deaths}
+use Rattle.pool_core.proofs.AboutReturns.TakenLemmas.{taken-pool, without, without-state, closed-follows}
+use Rattle.pool_core.proofs.AboutReturns.TakeableLemmas.{IsToBeTaken, to-be-taken, after-closed, queue-without, no-more-room, no-deaths}
 use Rattle.pool_core.proofs.pool.Pool.close.Goals as goal
 
 pub push_reserved-requires : goal.push_reserved-requires

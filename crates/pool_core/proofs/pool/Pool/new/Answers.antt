@@ -15,7 +15,7 @@ invariant_of-result g c =
     (subst (λ (cs : List Clause). IsStarted c.args.bank.now c.started.new.table c.in_ok-start.start (with_inputs false 0 (map clause_of cs) nothing_registered))
     (c.as_slice.ensures ∙ sym c.of.ensures) c.in_ok-start.ensures.started)
     refl refl refl refl
-    c.new-2.ensures.items c.new-3.ensures.empty c.new-6.ensures.items c.new-7.ensures.items refl refl
+    c.new-2.ensures.items c.new-3.ensures.empty c.new-6.ensures c.new-7.ensures.items refl refl
     (omega (arith, c.new-4.result.events.ok.1))
     (omega (arith, c.new-5.result.ok.1))
     c.new-4.ensures c.new.ensures.items c.new-5.ensures.items

@@ -1,11 +1,14 @@
+use Rattle.std.specs.Prelude.{None}
 use Rattle.std.proofs.Common.{◌≡◌, ◌++◌, [], ◌∷◌, ℕ, List, map, length, refl, ap, sym, ◌∙◌, subst, arith}
 use Rattle.term_bank.specs.declared.bank.Bank.{Bank}
 use Rattle.term_bank.specs.declared.table.Table.{Table}
+use Rattle.pool_core.specs.CountedList.{keys_in}
 use Rattle.pool_core.specs.Claiming.{ready}
 use Rattle.pool_core.specs.Counting.{lines_of_entries}
 use Rattle.pool_core.specs.Events.{events_of}
 use Rattle.pool_core.specs.Placing.{IsTakeable, IsWorkOf, IsSomeWork, IsOfGiven, IsLiving, IsCountedStateOf, NotesDeaths, HasRoom, entries_of, removals_of, lines_of_removals, heavy_keys_of}
 use Rattle.pool_core.specs.Record.{PoolRecord}
+use Rattle.pool_core.specs.Replay.{replay}
 use Rattle.pool_core.specs.Returning.{worked}
 use Rattle.pool_core.specs.State.{origin_of, IsProofStateOf, pair_of}
 use Rattle.pool_core.specs.View.{PoolView}
@@ -14,7 +17,8 @@ use Rattle.pool_core.specs.declared.event.Event.TheVariants.{Return}
 use Rattle.pool_core.specs.declared.register.Registration.{Registration}
 use Rattle.pool_core.proofs.AboutClaims.HistoryLemmas.{event-count}
 use Rattle.pool_core.proofs.AboutClaims.StateLemmas.{record_of, kept-pool, given-count}
-use Rattle.pool_core.proofs.AboutReturns.TakenLemmas.{IsToBeTaken, to-be-taken, taken-pool, without, worked-follows, after-worked, open-record, work-of, noted-since}
+use Rattle.pool_core.proofs.AboutReturns.TakenLemmas.{taken-pool, without, worked-follows}
+use Rattle.pool_core.proofs.AboutReturns.TakeableLemmas.{IsToBeTaken, to-be-taken, after-worked, open-record, work-of, noted-since}
 use Rattle.pool_core.proofs.pool.Pool.take.Goals as goal
 
 pub take_memory-memory-requires-clause-fit : goal.take_memory-memory-requires-clause-fit
@@ -50,6 +54,11 @@ invariant_of-self g c =
       last_job = refl;
       place = refl;
     })
+
+pub returns-in_default-clause-open : goal.returns-in_default-clause-open
+returns-in_default-clause-open g c =
+    subst (λ (v : PoolView). (replay v.origin v.history).ended ≡ None) c.self.view_is
+    (open-record c.self.inside (record_of c.self.inside) c.self.invariant.state (sym c.is_some.ensures ∙ c.if-is_some.false))
 
 pub work-requires-clause-living : goal.work-requires-clause-living
 work-requires-clause-living g c =
@@ -95,14 +104,14 @@ invariant_of-self-2 g c =
     omega (arith, c.take_memory-memory.new.proof.notes.ok.0, ap length c.take_memory-memory.ensures.notes) in
     let moment : c.len-event.result ≡ s.events =
     c.len-event.ensures ∙ sym (event-count (origin_of c.self.inside) (events_of c.self.inside.history)) in
-    let keys : c.take_memory-memory.new.counted.items ≡ s.counted = c.take_memory-memory.ensures.counted ∙ c.self.invariant.state.counted in
+    let keys : keys_in c.take_memory-memory.new.counted ≡ s.counted = c.take_memory-memory.ensures.counted ∙ c.self.invariant.state.counted in
     let is : IsWorkOf c.args.bank.now table c.take_memory-memory.new.proof c.args.number c.push_return-work.result.work c.in-Ok.prepared pairs s =
     subst (λ (b : Batch). IsWorkOf c.args.bank.now table c.take_memory-memory.new.proof c.args.number b.work c.in-Ok.prepared pairs s) (sym c.push_return-work.ensures.batch)
     (work-of c.self.inside c.args.batch c.args.number c.args.bank.now c.take_memory-memory.new.table c.take_memory-memory.new.proof c.in-Ok.prepared to c.self.invariant bank_is
     c.take_memory-memory.ensures.knows c.take_memory-memory.ensures.clauses c.take_memory-memory.ensures.pairs c.take_memory-memory.ensures.steps c.take_memory-memory.ensures.ended c.in-Ok.ensures.prepared) in
-    let state : IsCountedStateOf c.args.bank.now table c.work.new.self c.work.new.counted.items t =
-    subst (λ k. IsCountedStateOf c.args.bank.now table c.work.new.self c.work.new.counted.items (worked c.self.inside.options k c.args.batch.work s)) (sym to.same)
-    (subst (λ (b : Batch). IsCountedStateOf c.args.bank.now table c.work.new.self c.work.new.counted.items (worked c.self.inside.options c.args.number b.work s)) c.push_return-work.ensures.batch
+    let state : IsCountedStateOf c.args.bank.now table c.work.new.self (keys_in c.work.new.counted) t =
+    subst (λ k. IsCountedStateOf c.args.bank.now table c.work.new.self (keys_in c.work.new.counted) (worked c.self.inside.options k c.args.batch.work s)) (sym to.same)
+    (subst (λ (b : Batch). IsCountedStateOf c.args.bank.now table c.work.new.self (keys_in c.work.new.counted) (worked c.self.inside.options c.args.number b.work s)) c.push_return-work.ensures.batch
     (c.work.ensures.worked table s pairs moment is keys)) in
     let noted : NotesDeaths s t c.take_memory-memory.new.proof.notes.items c.work.new.self.notes.items =
     subst (λ k. NotesDeaths s (worked c.self.inside.options k c.args.batch.work s) c.take_memory-memory.new.proof.notes.items c.work.new.self.notes.items) (sym to.same)

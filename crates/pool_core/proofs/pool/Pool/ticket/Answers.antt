@@ -3,6 +3,7 @@ use Rattle.std.specs.Prelude.{Option, Some, All}
 use Rattle.fol_base.specs.Clause.{TreeClause}
 use Rattle.bank_clause.specs.Clause.{clause_at, IsClauseOf}
 use Rattle.bank_clause.specs.declared.clause.BankClause.{BankClause}
+use Rattle.pool_core.specs.CountedList.{keys_in}
 use Rattle.pool_core.specs.Answers.{IsChangeOf}
 use Rattle.pool_core.specs.Claiming.{next_given}
 use Rattle.pool_core.specs.News.{TreeChange, change_of}
@@ -24,7 +25,7 @@ pub returns-clause-next : goal.returns-clause-next
 returns-clause-next c =
     let r : PoolRecord = replay c.args.self.now.origin c.args.self.now.history in
     let is : IsStateOf c.self.inside r = subst (λ (v : PoolView). IsStateOf c.self.inside (replay v.origin v.history)) c.self.view_is c.self.invariant.state in
-    let counted : length r.counted ≡ length c.self.inside.counted.items = sym (ap length is.counted) in
+    let counted : length r.counted ≡ length (keys_in c.self.inside.counted) = sym (ap length is.counted) in
     let options : c.args.self.now.origin.options.inferences ≡ c.self.inside.options.inferences = ap (λ (v : PoolView). v.origin.options.inferences) (sym c.self.view_is) in
     record {
       job = c.in_ok-one_more.ensures ∙ ap (λ k. k + 1) is.last_job ∙ add-one r.jobs;

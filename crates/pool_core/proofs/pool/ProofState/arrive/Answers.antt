@@ -17,7 +17,7 @@ use Rattle.pool_core.specs.State.{IsProofStateOf}
 use Rattle.pool_core.specs.declared.outcome.Outcome.TheVariants.{Refuted}
 use Rattle.pool_core.specs.declared.pool.ProofState.{ProofState}
 use Rattle.pool_core.specs.declared.register.Registration.{Registration}
-use Rattle.pool_core.proofs.AboutReturns.ProofStateLemmas.{came-state, not-living, living-already, some-literal-already, result-as-clause, result-empty, result-again, steps-placed, next-is-absent}
+use Rattle.pool_core.proofs.AboutReturns.ComingLemmas.{came-state, not-living, living-already, some-literal-already, result-as-clause, result-empty, result-again, steps-placed, next-is-absent}
 use Rattle.pool_core.proofs.AboutBeginnings.StartLemmas.{all-at, living-equal, passes-at, no-outcome, no-literals, steps-of}
 use Rattle.pool_core.proofs.AboutClaims.StateLemmas.{at-ok}
 use Rattle.pool_core.proofs.pool.ProofState.arrive.Goals as goal

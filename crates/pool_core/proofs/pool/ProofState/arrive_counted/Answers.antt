@@ -6,7 +6,7 @@ use Rattle.bank_clause.specs.Clause.{clause_at}
 use Rattle.pool_core.specs.Counting.{result_comes, refutes}
 use Rattle.pool_core.specs.Registering.{has_none}
 use Rattle.pool_core.specs.State.{IsProofStateOf}
-use Rattle.pool_core.proofs.AboutReturns.ProofStateLemmas.{refutes-is}
+use Rattle.pool_core.proofs.AboutReturns.ComingLemmas.{refutes-is}
 use Rattle.pool_core.proofs.AboutBeginnings.StartLemmas.{no-literals}
 use Rattle.pool_core.proofs.pool.ProofState.arrive_counted.Goals as goal
 use Rattle.pool_core.proofs.pool.ProofState.arrive_counted.Goals.{then-not-is_spent-via-then-not-is_spent, then-not-is_spent-via-else-not-is_spent+then-is_empty}

@@ -2,6 +2,7 @@ use Rattle.std.proofs.Common.{◌≡◌, ℕ, ◌+◌, Bool, List, [], ◌∷◌
 use Rattle.std.specs.Prelude.{nat_le}
 use Rattle.std.specs.Vec.Iter.{into_iter_items}
 use Rattle.std.specs.declared.vec.IntoIter.{IntoIter}
+use Rattle.pool_core.specs.CountedList.{keys_in}
 use Rattle.pool_core.specs.Counting.{lines_of_entries}
 use Rattle.pool_core.specs.Placing.{HasRoom}
 use Rattle.pool_core.specs.declared.batch.Entry.{Entry}
@@ -16,44 +17,44 @@ loop-entry-init c =
     let same : into_iter_items c.into_iter-entry-iterator.result ≡ c.args.entries = c.into_iter-entry-iterator.ensures.into_iter_gives.0 ∙ c.into_vec-entry-items.ensures in
     let long = ap length same in
     record {
-      so_far = so-far-begins c.args.bank.now _ c.args.self.now c.args.counted.now.items c.args.entries c.args.results.items
+      so_far = so-far-begins c.args.bank.now _ c.args.self.now (keys_in c.args.counted.now) c.args.entries c.args.results.items
           (into_iter_items c.into_iter-entry-iterator.result) (into_iter_items c.into_iter-results.result) same c.into_iter-results.ensures.rest;
       len = omega (arith, long);
       room = refl;
     }
 
-pub push_reserved-requires : goal.push_reserved-requires
-push_reserved-requires c =
+pub push-requires : goal.push-requires
+push-requires c =
     let left : length (into_iter_items c.loop-entry.entry-iterator) ≡ length (c.in-Some.entry ∷ into_iter_items c.next.new.self) = ap length c.in-Some.ensures.steps.0 in
     let room = c.requires.counted_room in
     omega (arith, left, room, c.loop-entry.invariant.len, c.loop-entry.invariant.room)
 
 pub unreachable-requires : goal.unreachable-requires
 unreachable-requires c =
-    one-left c.args.bank.now _ c.args.self.now c.args.counted.now.items c.args.entries c.args.results.items
-    c.loop-entry.self c.loop-entry.counted.items c.in-Some.entry (into_iter_items c.next.new.self) (into_iter_items c.loop-entry.results)
+    one-left c.args.bank.now _ c.args.self.now (keys_in c.args.counted.now) c.args.entries c.args.results.items
+    c.loop-entry.self (keys_in c.loop-entry.counted) c.in-Some.entry (into_iter_items c.next.new.self) (into_iter_items c.loop-entry.results)
     c.in-Kept.lines c.in-Kept.results c.in-Kept.is
-    (subst (λ (es : List Entry). AreCountedSoFar c.args.bank.now (nat_le c.args.options.inferences (c.len.result + c.len-2.result)) c.args.self.now c.args.counted.now.items c.args.entries c.args.results.items
-    c.loop-entry.self c.loop-entry.counted.items es (into_iter_items c.loop-entry.results)) c.in-Some.ensures.steps.0 c.loop-entry.invariant.so_far)
+    (subst (λ (es : List Entry). AreCountedSoFar c.args.bank.now (nat_le c.args.options.inferences (c.len.result + c.len-2.result)) c.args.self.now (keys_in c.args.counted.now) c.args.entries c.args.results.items
+    c.loop-entry.self (keys_in c.loop-entry.counted) es (into_iter_items c.loop-entry.results)) c.in-Some.ensures.steps.0 c.loop-entry.invariant.so_far)
     c.requires.results
     (omega (arith, c.in_default-next.ensures.cases.0, c.loop-entry.results.rest.ok.0))
 
 pub arrive_counted-requires-clause-arrival : goal.arrive_counted-requires-clause-arrival
 arrive_counted-requires-clause-arrival c =
-    next-arrival c.args.bank.now _ c.args.self.now c.args.counted.now.items c.args.entries c.args.results.items
-    c.loop-entry.self c.loop-entry.counted.items c.in-Some.entry (into_iter_items c.next.new.self) (into_iter_items c.loop-entry.results)
+    next-arrival c.args.bank.now _ c.args.self.now (keys_in c.args.counted.now) c.args.entries c.args.results.items
+    c.loop-entry.self (keys_in c.loop-entry.counted) c.in-Some.entry (into_iter_items c.next.new.self) (into_iter_items c.loop-entry.results)
     c.in-Kept.lines c.in-Kept.results c.in-Kept.is
-    (subst (λ (es : List Entry). AreCountedSoFar c.args.bank.now (nat_le c.args.options.inferences (c.len.result + c.len-2.result)) c.args.self.now c.args.counted.now.items c.args.entries c.args.results.items
-    c.loop-entry.self c.loop-entry.counted.items es (into_iter_items c.loop-entry.results)) c.in-Some.ensures.steps.0 c.loop-entry.invariant.so_far)
+    (subst (λ (es : List Entry). AreCountedSoFar c.args.bank.now (nat_le c.args.options.inferences (c.len.result + c.len-2.result)) c.args.self.now (keys_in c.args.counted.now) c.args.entries c.args.results.items
+    c.loop-entry.self (keys_in c.loop-entry.counted) es (into_iter_items c.loop-entry.results)) c.in-Some.ensures.steps.0 c.loop-entry.invariant.so_far)
     c.requires.results c.in-Some-next.interned (into_iter_items c.next-in-Kept.new.self) c.in-Some-next.ensures.items
 
 pub arrive_counted-requires-clause-room : goal.arrive_counted-requires-clause-room
 arrive_counted-requires-clause-room c =
-    room-for-next c.args.bank.now _ c.args.self.now c.args.counted.now.items c.args.entries c.args.results.items
-    c.loop-entry.self c.loop-entry.counted.items c.in-Some.entry (into_iter_items c.next.new.self) (into_iter_items c.loop-entry.results)
+    room-for-next c.args.bank.now _ c.args.self.now (keys_in c.args.counted.now) c.args.entries c.args.results.items
+    c.loop-entry.self (keys_in c.loop-entry.counted) c.in-Some.entry (into_iter_items c.next.new.self) (into_iter_items c.loop-entry.results)
     c.in-Kept.lines c.in-Kept.results c.in-Kept.is
-    (subst (λ (es : List Entry). AreCountedSoFar c.args.bank.now (nat_le c.args.options.inferences (c.len.result + c.len-2.result)) c.args.self.now c.args.counted.now.items c.args.entries c.args.results.items
-    c.loop-entry.self c.loop-entry.counted.items es (into_iter_items c.loop-entry.results)) c.in-Some.ensures.steps.0 c.loop-entry.invariant.so_far)
+    (subst (λ (es : List Entry). AreCountedSoFar c.args.bank.now (nat_le c.args.options.inferences (c.len.result + c.len-2.result)) c.args.self.now (keys_in c.args.counted.now) c.args.entries c.args.results.items
+    c.loop-entry.self (keys_in c.loop-entry.counted) es (into_iter_items c.loop-entry.results)) c.in-Some.ensures.steps.0 c.loop-entry.invariant.so_far)
     c.requires.results c.requires.room
 
 pub loop-entry-preserved-after-fate : goal.loop-entry-preserved-after-fate
@@ -62,64 +63,31 @@ loop-entry-preserved-after-fate c =
     let left : length (into_iter_items c.loop-entry.entry-iterator) ≡ length (c.in-Some.entry ∷ into_iter_items c.next.new.self) = ap length c.in-Some.ensures.steps.0 in
     let is_spent : Bool = nat_le c.args.options.inferences (c.len.result + c.len-2.result) in
     let so_far =
-    subst (λ (es : List Entry). AreCountedSoFar bank is_spent c.args.self.now c.args.counted.now.items c.args.entries c.args.results.items
-    c.loop-entry.self c.loop-entry.counted.items es (into_iter_items c.loop-entry.results)) c.in-Some.ensures.steps.0 c.loop-entry.invariant.so_far in
+    subst (λ (es : List Entry). AreCountedSoFar bank is_spent c.args.self.now (keys_in c.args.counted.now) c.args.entries c.args.results.items
+    c.loop-entry.self (keys_in c.loop-entry.counted) es (into_iter_items c.loop-entry.results)) c.in-Some.ensures.steps.0 c.loop-entry.invariant.so_far in
     record {
       so_far = elim c.match-fate.branch [
         | in-Kept+in-Some-next w ↦
-            subst (λ (s : ProofState). AreCountedSoFar bank is_spent c.args.self.now c.args.counted.now.items c.args.entries c.args.results.items
-            s c.push_reserved.new.self.items (into_iter_items c.next.new.self) (into_iter_items c.match-fate.results)) (sym w.self-is)
-            (subst (λ (it : IntoIter Interned Global). AreCountedSoFar bank is_spent c.args.self.now c.args.counted.now.items c.args.entries c.args.results.items
-            w.arrive_counted.new.self c.push_reserved.new.self.items (into_iter_items c.next.new.self) (into_iter_items it)) (sym w.results-is)
-            (one-kept bank is_spent c.args.self.now c.args.counted.now.items c.args.entries c.args.results.items
-            c.loop-entry.self w.arrive_counted.new.self c.loop-entry.counted.items c.push_reserved.new.self.items c.in-Some.entry (into_iter_items c.next.new.self)
+            subst (λ (s : ProofState). AreCountedSoFar bank is_spent c.args.self.now (keys_in c.args.counted.now) c.args.entries c.args.results.items
+            s (keys_in c.push.new.self) (into_iter_items c.next.new.self) (into_iter_items c.match-fate.results)) (sym w.self-is)
+            (subst (λ (it : IntoIter Interned Global). AreCountedSoFar bank is_spent c.args.self.now (keys_in c.args.counted.now) c.args.entries c.args.results.items
+            w.arrive_counted.new.self (keys_in c.push.new.self) (into_iter_items c.next.new.self) (into_iter_items it)) (sym w.results-is)
+            (one-kept bank is_spent c.args.self.now (keys_in c.args.counted.now) c.args.entries c.args.results.items
+            c.loop-entry.self w.arrive_counted.new.self (keys_in c.loop-entry.counted) (keys_in c.push.new.self) c.in-Some.entry (into_iter_items c.next.new.self)
             (into_iter_items c.loop-entry.results) (into_iter_items w.next-in-Kept.new.self) w.in-Some-next.interned w.in-Kept.lines w.in-Kept.results
-            w.in-Kept.is w.in-Some-next.ensures.items c.push_reserved.ensures.items
+            w.in-Kept.is w.in-Some-next.ensures.items c.push.ensures.keys
             w.arrive_counted.ensures.arrived w.arrive_counted.ensures.room w.arrive_counted.ensures.notes so_far))
         | in_default w ↦
-            subst (λ (s : ProofState). AreCountedSoFar bank is_spent c.args.self.now c.args.counted.now.items c.args.entries c.args.results.items
-            s c.push_reserved.new.self.items (into_iter_items c.next.new.self) (into_iter_items c.match-fate.results)) (sym w.self-is)
-            (subst (λ (it : IntoIter Interned Global). AreCountedSoFar bank is_spent c.args.self.now c.args.counted.now.items c.args.entries c.args.results.items
-            c.loop-entry.self c.push_reserved.new.self.items (into_iter_items c.next.new.self) (into_iter_items it)) (sym w.results-is)
-            (one-other bank is_spent c.args.self.now c.args.counted.now.items c.args.entries c.args.results.items
-            c.loop-entry.self c.loop-entry.counted.items c.push_reserved.new.self.items c.in-Some.entry (into_iter_items c.next.new.self)
-            (into_iter_items c.loop-entry.results) (not-kept c.in-Some.entry.fate w.in_default.not-Kept) c.push_reserved.ensures.items so_far))
+            subst (λ (s : ProofState). AreCountedSoFar bank is_spent c.args.self.now (keys_in c.args.counted.now) c.args.entries c.args.results.items
+            s (keys_in c.push.new.self) (into_iter_items c.next.new.self) (into_iter_items c.match-fate.results)) (sym w.self-is)
+            (subst (λ (it : IntoIter Interned Global). AreCountedSoFar bank is_spent c.args.self.now (keys_in c.args.counted.now) c.args.entries c.args.results.items
+            c.loop-entry.self (keys_in c.push.new.self) (into_iter_items c.next.new.self) (into_iter_items it)) (sym w.results-is)
+            (one-other bank is_spent c.args.self.now (keys_in c.args.counted.now) c.args.entries c.args.results.items
+            c.loop-entry.self (keys_in c.loop-entry.counted) (keys_in c.push.new.self) c.in-Some.entry (into_iter_items c.next.new.self)
+            (into_iter_items c.loop-entry.results) (not-kept c.in-Some.entry.fate w.in_default.not-Kept) c.push.ensures.keys so_far))
       ];
-      len = omega (arith, left, c.push_reserved.ensures.len, c.loop-entry.invariant.len);
-      room = c.push_reserved.ensures.capacity ∙ c.loop-entry.invariant.room;
-    }
-
-pub loop-entry-preserved-after-fate-2 : goal.loop-entry-preserved-after-fate-2
-loop-entry-preserved-after-fate-2 c =
-    let bank = c.args.bank.now in
-    let left : length (into_iter_items c.loop-entry.entry-iterator) ≡ length (c.in-Some.entry ∷ into_iter_items c.next.new.self) = ap length c.in-Some.ensures.steps.0 in
-    let is_spent : Bool = nat_le c.args.options.inferences (c.len.result + c.len-2.result) in
-    let so_far =
-    subst (λ (es : List Entry). AreCountedSoFar bank is_spent c.args.self.now c.args.counted.now.items c.args.entries c.args.results.items
-    c.loop-entry.self c.loop-entry.counted.items es (into_iter_items c.loop-entry.results)) c.in-Some.ensures.steps.0 c.loop-entry.invariant.so_far in
-    record {
-      so_far = elim c.match-fate.branch [
-        | in-Kept+in-Some-next w ↦
-            subst (λ (s : ProofState). AreCountedSoFar bank is_spent c.args.self.now c.args.counted.now.items c.args.entries c.args.results.items
-            s c.push_reserved.new.self.items (into_iter_items c.next.new.self) (into_iter_items c.match-fate.results)) (sym w.self-is)
-            (subst (λ (it : IntoIter Interned Global). AreCountedSoFar bank is_spent c.args.self.now c.args.counted.now.items c.args.entries c.args.results.items
-            w.arrive_counted.new.self c.push_reserved.new.self.items (into_iter_items c.next.new.self) (into_iter_items it)) (sym w.results-is)
-            (one-kept bank is_spent c.args.self.now c.args.counted.now.items c.args.entries c.args.results.items
-            c.loop-entry.self w.arrive_counted.new.self c.loop-entry.counted.items c.push_reserved.new.self.items c.in-Some.entry (into_iter_items c.next.new.self)
-            (into_iter_items c.loop-entry.results) (into_iter_items w.next-in-Kept.new.self) w.in-Some-next.interned w.in-Kept.lines w.in-Kept.results
-            w.in-Kept.is w.in-Some-next.ensures.items c.push_reserved.ensures.items
-            w.arrive_counted.ensures.arrived w.arrive_counted.ensures.room w.arrive_counted.ensures.notes so_far))
-        | in_default w ↦
-            subst (λ (s : ProofState). AreCountedSoFar bank is_spent c.args.self.now c.args.counted.now.items c.args.entries c.args.results.items
-            s c.push_reserved.new.self.items (into_iter_items c.next.new.self) (into_iter_items c.match-fate.results)) (sym w.self-is)
-            (subst (λ (it : IntoIter Interned Global). AreCountedSoFar bank is_spent c.args.self.now c.args.counted.now.items c.args.entries c.args.results.items
-            c.loop-entry.self c.push_reserved.new.self.items (into_iter_items c.next.new.self) (into_iter_items it)) (sym w.results-is)
-            (one-other bank is_spent c.args.self.now c.args.counted.now.items c.args.entries c.args.results.items
-            c.loop-entry.self c.loop-entry.counted.items c.push_reserved.new.self.items c.in-Some.entry (into_iter_items c.next.new.self)
-            (into_iter_items c.loop-entry.results) (not-kept c.in-Some.entry.fate w.in_default.not-Kept) c.push_reserved.ensures.items so_far))
-      ];
-      len = omega (arith, left, c.push_reserved.ensures.len, c.loop-entry.invariant.len);
-      room = c.push_reserved.ensures.capacity ∙ c.loop-entry.invariant.room;
+      len = omega (arith, left, c.push.ensures.len, c.loop-entry.invariant.len);
+      room = c.push.ensures.room ∙ c.loop-entry.invariant.room;
     }
 
 pub loop-entry-preserved : goal.loop-entry-preserved
@@ -128,41 +96,41 @@ loop-entry-preserved c =
     let left : length (into_iter_items c.loop-entry.entry-iterator) ≡ length (c.in-Some.entry ∷ into_iter_items c.next.new.self) = ap length c.in-Some.ensures.steps.0 in
     let is_spent : Bool = nat_le c.args.options.inferences (c.len.result + c.len-2.result) in
     let so_far =
-    subst (λ (es : List Entry). AreCountedSoFar bank is_spent c.args.self.now c.args.counted.now.items c.args.entries c.args.results.items
-    c.loop-entry.self c.loop-entry.counted.items es (into_iter_items c.loop-entry.results)) c.in-Some.ensures.steps.0 c.loop-entry.invariant.so_far in
+    subst (λ (es : List Entry). AreCountedSoFar bank is_spent c.args.self.now (keys_in c.args.counted.now) c.args.entries c.args.results.items
+    c.loop-entry.self (keys_in c.loop-entry.counted) es (into_iter_items c.loop-entry.results)) c.in-Some.ensures.steps.0 c.loop-entry.invariant.so_far in
     record {
       so_far = elim c.match-fate.branch [
         | in-Kept+in-Some-next w ↦
-            subst (λ (s : ProofState). AreCountedSoFar bank is_spent c.args.self.now c.args.counted.now.items c.args.entries c.args.results.items
-            s c.push_reserved.new.self.items (into_iter_items c.next.new.self) (into_iter_items c.match-fate.results)) (sym w.self-is)
-            (subst (λ (it : IntoIter Interned Global). AreCountedSoFar bank is_spent c.args.self.now c.args.counted.now.items c.args.entries c.args.results.items
-            w.arrive_counted.new.self c.push_reserved.new.self.items (into_iter_items c.next.new.self) (into_iter_items it)) (sym w.results-is)
-            (one-kept bank is_spent c.args.self.now c.args.counted.now.items c.args.entries c.args.results.items
-            c.loop-entry.self w.arrive_counted.new.self c.loop-entry.counted.items c.push_reserved.new.self.items c.in-Some.entry (into_iter_items c.next.new.self)
+            subst (λ (s : ProofState). AreCountedSoFar bank is_spent c.args.self.now (keys_in c.args.counted.now) c.args.entries c.args.results.items
+            s (keys_in c.push.new.self) (into_iter_items c.next.new.self) (into_iter_items c.match-fate.results)) (sym w.self-is)
+            (subst (λ (it : IntoIter Interned Global). AreCountedSoFar bank is_spent c.args.self.now (keys_in c.args.counted.now) c.args.entries c.args.results.items
+            w.arrive_counted.new.self (keys_in c.push.new.self) (into_iter_items c.next.new.self) (into_iter_items it)) (sym w.results-is)
+            (one-kept bank is_spent c.args.self.now (keys_in c.args.counted.now) c.args.entries c.args.results.items
+            c.loop-entry.self w.arrive_counted.new.self (keys_in c.loop-entry.counted) (keys_in c.push.new.self) c.in-Some.entry (into_iter_items c.next.new.self)
             (into_iter_items c.loop-entry.results) (into_iter_items w.next-in-Kept.new.self) w.in-Some-next.interned w.in-Kept.lines w.in-Kept.results
-            w.in-Kept.is w.in-Some-next.ensures.items c.push_reserved.ensures.items
+            w.in-Kept.is w.in-Some-next.ensures.items c.push.ensures.keys
             w.arrive_counted.ensures.arrived w.arrive_counted.ensures.room w.arrive_counted.ensures.notes so_far))
         | in_default w ↦
-            subst (λ (s : ProofState). AreCountedSoFar bank is_spent c.args.self.now c.args.counted.now.items c.args.entries c.args.results.items
-            s c.push_reserved.new.self.items (into_iter_items c.next.new.self) (into_iter_items c.match-fate.results)) (sym w.self-is)
-            (subst (λ (it : IntoIter Interned Global). AreCountedSoFar bank is_spent c.args.self.now c.args.counted.now.items c.args.entries c.args.results.items
-            c.loop-entry.self c.push_reserved.new.self.items (into_iter_items c.next.new.self) (into_iter_items it)) (sym w.results-is)
-            (one-other bank is_spent c.args.self.now c.args.counted.now.items c.args.entries c.args.results.items
-            c.loop-entry.self c.loop-entry.counted.items c.push_reserved.new.self.items c.in-Some.entry (into_iter_items c.next.new.self)
-            (into_iter_items c.loop-entry.results) (not-kept c.in-Some.entry.fate w.in_default.not-Kept) c.push_reserved.ensures.items so_far))
+            subst (λ (s : ProofState). AreCountedSoFar bank is_spent c.args.self.now (keys_in c.args.counted.now) c.args.entries c.args.results.items
+            s (keys_in c.push.new.self) (into_iter_items c.next.new.self) (into_iter_items c.match-fate.results)) (sym w.self-is)
+            (subst (λ (it : IntoIter Interned Global). AreCountedSoFar bank is_spent c.args.self.now (keys_in c.args.counted.now) c.args.entries c.args.results.items
+            c.loop-entry.self (keys_in c.push.new.self) (into_iter_items c.next.new.self) (into_iter_items it)) (sym w.results-is)
+            (one-other bank is_spent c.args.self.now (keys_in c.args.counted.now) c.args.entries c.args.results.items
+            c.loop-entry.self (keys_in c.loop-entry.counted) (keys_in c.push.new.self) c.in-Some.entry (into_iter_items c.next.new.self)
+            (into_iter_items c.loop-entry.results) (not-kept c.in-Some.entry.fate w.in_default.not-Kept) c.push.ensures.keys so_far))
       ];
-      len = omega (arith, left, c.push_reserved.ensures.len, c.loop-entry.invariant.len);
-      room = c.push_reserved.ensures.capacity ∙ c.loop-entry.invariant.room;
+      len = omega (arith, left, c.push.ensures.len, c.loop-entry.invariant.len);
+      room = c.push.ensures.room ∙ c.loop-entry.invariant.room;
     }
 
 pub returns-clause-counted : goal.returns-clause-counted
 returns-clause-counted c = λ table r interned is.
     let none : into_iter_items c.loop-entry.entry-iterator ≡ [] =
     nothing-left (into_iter_items c.loop-entry.entry-iterator) (omega (arith, c.in-None.ensures.steps.0, c.loop-entry.entry-iterator.rest.ok.0)) in
-    let counted : c.len.result ≡ length c.args.counted.now.items = omega (arith, c.len.ensures, c.args.counted.now.ok.0) in
-    let many : c.len-3.result ≡ length c.loop-entry.counted.items = omega (arith, c.len-3.ensures, c.loop-entry.counted.ok.0) in
-    all-counted c.args.bank.now _ c.args.self.now c.args.counted.now.items c.args.entries c.args.results.items
-    c.loop-entry.self c.spend.new.self c.loop-entry.counted.items (into_iter_items c.loop-entry.entry-iterator) (into_iter_items c.loop-entry.results) c.args.options c.len-3.result
+    let counted : c.len.result ≡ length (keys_in c.args.counted.now) = c.len.ensures in
+    let many : c.len-3.result ≡ length (keys_in c.loop-entry.counted) = c.len-3.ensures in
+    all-counted c.args.bank.now _ c.args.self.now (keys_in c.args.counted.now) c.args.entries c.args.results.items
+    c.loop-entry.self c.spend.new.self (keys_in c.loop-entry.counted) (into_iter_items c.loop-entry.entry-iterator) (into_iter_items c.loop-entry.results) c.args.options c.len-3.result
     c.requires.unsplit c.requires.open none many
     (ap₂ (λ (m n : ℕ). nat_le c.args.options.inferences (m + n)) counted c.len-2.ensures)
     (c.spend.ensures.spent c.args.bank.now) c.loop-entry.invariant.so_far table r interned is

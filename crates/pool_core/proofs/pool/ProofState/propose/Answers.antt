@@ -1,5 +1,6 @@
 use Rattle.std.proofs.Common.{◌≡◌, List, [], ◌∷◌, length, refl, ap, sym, ◌∙◌, subst, arith}
 use Rattle.std.specs.Prelude.{fold}
+use Rattle.pool_core.specs.CountedList.{keys_in}
 use Rattle.pool_core.specs.Returning.{proposed}
 use Rattle.std.specs.Vec.Iter.{into_iter_items}
 use Rattle.pool_core.specs.Counting.{lines_of_fate}
@@ -15,23 +16,23 @@ loop-removal-init c =
     let same : into_iter_items c.into_iter-removal-iterator.result ≡ c.args.removals = c.into_iter-removal-iterator.ensures.into_iter_gives.0 ∙ c.into_vec-removal-items.ensures in
     let long = ap length same in
     record {
-      so_far = proposals-begin c.args.bank.now c.args.options c.args.event c.args.self.now c.args.counted.now.items c.args.removals c.args.results.items (into_iter_items c.into_iter-removal-iterator.result) (into_iter_items c.into_iter-results.result) same c.into_iter-results.ensures.rest;
+      so_far = proposals-begin c.args.bank.now c.args.options c.args.event c.args.self.now (keys_in c.args.counted.now) c.args.removals c.args.results.items (into_iter_items c.into_iter-removal-iterator.result) (into_iter_items c.into_iter-results.result) same c.into_iter-results.ensures.rest;
       len = omega (arith, long);
       room = refl;
     }
 
 pub die-requires-clause-room : goal.die-requires-clause-room
 die-requires-clause-room c =
-    let so_far = (subst (λ (ms : List Removal). AreProposedSoFar c.args.bank.now c.args.options c.args.event c.args.self.now c.args.counted.now.items c.args.removals c.args.results.items
-    c.loop-removal.self c.loop-removal.counted.items ms (into_iter_items c.loop-removal.results)) c.in-Some.ensures.steps.0 c.loop-removal.invariant.so_far) in
+    let so_far = (subst (λ (ms : List Removal). AreProposedSoFar c.args.bank.now c.args.options c.args.event c.args.self.now (keys_in c.args.counted.now) c.args.removals c.args.results.items
+    c.loop-removal.self (keys_in c.loop-removal.counted) ms (into_iter_items c.loop-removal.results)) c.in-Some.ensures.steps.0 c.loop-removal.invariant.so_far) in
     room-less c.loop-removal.self (length (into_iter_items c.next.new.self)) 0 (lines_of_removals (c.in-Some.removal ∷ into_iter_items c.next.new.self)) (so_far.room 0 c.requires.room)
 
 pub replace-requires-clause-interned : goal.replace-requires-clause-interned
 replace-requires-clause-interned c =
-    let so_far = (subst (λ (ms : List Removal). AreProposedSoFar c.args.bank.now c.args.options c.args.event c.args.self.now c.args.counted.now.items c.args.removals c.args.results.items
-    c.loop-removal.self c.loop-removal.counted.items ms (into_iter_items c.loop-removal.results)) c.in-Some.ensures.steps.0 c.loop-removal.invariant.so_far) in
-    let some = some-proposal c.args.bank.now c.args.options c.args.event c.args.self.now c.args.counted.now.items c.args.removals c.args.results.items c.loop-removal.self c.loop-removal.counted.items (c.in-Some.removal ∷ into_iter_items c.next.new.self) (into_iter_items c.loop-removal.results) c.requires.results so_far in
-    let result = taken-result c.args.bank.now c.args.options c.args.event c.args.self.now c.args.counted.now.items c.args.removals c.args.results.items c.in-Some.removal (into_iter_items c.next.new.self) (into_iter_items c.loop-removal.results)
+    let so_far = (subst (λ (ms : List Removal). AreProposedSoFar c.args.bank.now c.args.options c.args.event c.args.self.now (keys_in c.args.counted.now) c.args.removals c.args.results.items
+    c.loop-removal.self (keys_in c.loop-removal.counted) ms (into_iter_items c.loop-removal.results)) c.in-Some.ensures.steps.0 c.loop-removal.invariant.so_far) in
+    let some = some-proposal c.args.bank.now c.args.options c.args.event c.args.self.now (keys_in c.args.counted.now) c.args.removals c.args.results.items c.loop-removal.self (keys_in c.loop-removal.counted) (c.in-Some.removal ∷ into_iter_items c.next.new.self) (into_iter_items c.loop-removal.results) c.requires.results so_far in
+    let result = taken-result c.args.bank.now c.args.options c.args.event c.args.self.now (keys_in c.args.counted.now) c.args.removals c.args.results.items c.in-Some.removal (into_iter_items c.next.new.self) (into_iter_items c.loop-removal.results)
     (into_iter_items c.next_result-interned.new.results) c.next_result-interned.result c.next_result-interned.ensures some.0 some.3 in (
       some.0,
       _,
@@ -41,8 +42,8 @@ replace-requires-clause-interned c =
 
 pub replace-requires-clause-room : goal.replace-requires-clause-room
 replace-requires-clause-room c =
-    let so_far = (subst (λ (ms : List Removal). AreProposedSoFar c.args.bank.now c.args.options c.args.event c.args.self.now c.args.counted.now.items c.args.removals c.args.results.items
-    c.loop-removal.self c.loop-removal.counted.items ms (into_iter_items c.loop-removal.results)) c.in-Some.ensures.steps.0 c.loop-removal.invariant.so_far) in
+    let so_far = (subst (λ (ms : List Removal). AreProposedSoFar c.args.bank.now c.args.options c.args.event c.args.self.now (keys_in c.args.counted.now) c.args.removals c.args.results.items
+    c.loop-removal.self (keys_in c.loop-removal.counted) ms (into_iter_items c.loop-removal.results)) c.in-Some.ensures.steps.0 c.loop-removal.invariant.so_far) in
     room-of-one c.die.new.self (lines_of_fate c.in-Some.removal.fate) (lines_of_removals (into_iter_items c.next.new.self)) (length (into_iter_items c.next.new.self)) 0
     (room-with-more c.die.new.self (lines_of_fate c.in-Some.removal.fate) (lines_of_removals (into_iter_items c.next.new.self)) (length (into_iter_items c.next.new.self)) 0
     (c.die.ensures.room (lines_of_removals (c.in-Some.removal ∷ into_iter_items c.next.new.self)) (length (into_iter_items c.next.new.self)) 0 (so_far.room 0 c.requires.room)))
@@ -59,13 +60,13 @@ loop-removal-preserved-then-takes_effect c =
     let left : length (into_iter_items c.loop-removal.removal-iterator) ≡ length (c.in-Some.removal ∷ into_iter_items c.next.new.self) = ap length c.in-Some.ensures.steps.0 in
     record {
       so_far =
-          one-removed c.args.bank.now c.args.options c.args.event c.args.self.now c.args.counted.now.items c.args.removals c.args.results.items
+          one-removed c.args.bank.now c.args.options c.args.event c.args.self.now (keys_in c.args.counted.now) c.args.removals c.args.results.items
           c.in-Some.removal (into_iter_items c.next.new.self) (into_iter_items c.loop-removal.results) (into_iter_items c.next_result-interned.new.results) c.next_result-interned.result
           c.next_result-interned.ensures
-          c.loop-removal.self c.die.new.self c.replace.new.self c.loop-removal.counted.items c.replace.new.counted.items (sym c.takes_effect.ensures ∙ c.if-takes_effect.true)
+          c.loop-removal.self c.die.new.self c.replace.new.self (keys_in c.loop-removal.counted) (keys_in c.replace.new.counted) (sym c.takes_effect.ensures ∙ c.if-takes_effect.true)
           c.die.ensures.died c.replace.ensures.replaced c.die.ensures.notes c.replace.ensures.notes c.die.ensures.room c.replace.ensures.room
-          (subst (λ (ms : List Removal). AreProposedSoFar c.args.bank.now c.args.options c.args.event c.args.self.now c.args.counted.now.items c.args.removals c.args.results.items
-          c.loop-removal.self c.loop-removal.counted.items ms (into_iter_items c.loop-removal.results)) c.in-Some.ensures.steps.0 c.loop-removal.invariant.so_far);
+          (subst (λ (ms : List Removal). AreProposedSoFar c.args.bank.now c.args.options c.args.event c.args.self.now (keys_in c.args.counted.now) c.args.removals c.args.results.items
+          c.loop-removal.self (keys_in c.loop-removal.counted) ms (into_iter_items c.loop-removal.results)) c.in-Some.ensures.steps.0 c.loop-removal.invariant.so_far);
       len = let few = c.loop-removal.invariant.len in let more = c.replace.ensures.counted_len in omega (arith, left, few, more);
       room = c.replace.ensures.counted_room ∙ c.loop-removal.invariant.room;
     }
@@ -75,12 +76,12 @@ loop-removal-preserved-else-takes_effect c =
     let left : length (into_iter_items c.loop-removal.removal-iterator) ≡ length (c.in-Some.removal ∷ into_iter_items c.next.new.self) = ap length c.in-Some.ensures.steps.0 in
     record {
       so_far =
-          one-left-out c.args.bank.now c.args.options c.args.event c.args.self.now c.args.counted.now.items c.args.removals c.args.results.items
+          one-left-out c.args.bank.now c.args.options c.args.event c.args.self.now (keys_in c.args.counted.now) c.args.removals c.args.results.items
           c.in-Some.removal (into_iter_items c.next.new.self) (into_iter_items c.loop-removal.results) (into_iter_items c.next_result-interned.new.results) c.next_result-interned.result
           c.next_result-interned.ensures
-          c.loop-removal.self c.loop-removal.counted.items (sym c.takes_effect.ensures ∙ c.if-takes_effect.false)
-          (subst (λ (ms : List Removal). AreProposedSoFar c.args.bank.now c.args.options c.args.event c.args.self.now c.args.counted.now.items c.args.removals c.args.results.items
-          c.loop-removal.self c.loop-removal.counted.items ms (into_iter_items c.loop-removal.results)) c.in-Some.ensures.steps.0 c.loop-removal.invariant.so_far);
+          c.loop-removal.self (keys_in c.loop-removal.counted) (sym c.takes_effect.ensures ∙ c.if-takes_effect.false)
+          (subst (λ (ms : List Removal). AreProposedSoFar c.args.bank.now c.args.options c.args.event c.args.self.now (keys_in c.args.counted.now) c.args.removals c.args.results.items
+          c.loop-removal.self (keys_in c.loop-removal.counted) ms (into_iter_items c.loop-removal.results)) c.in-Some.ensures.steps.0 c.loop-removal.invariant.so_far);
       len = let few = c.loop-removal.invariant.len in omega (arith, left, few);
       room = c.loop-removal.invariant.room;
     }
@@ -90,12 +91,12 @@ loop-removal-preserved c =
     let left : length (into_iter_items c.loop-removal.removal-iterator) ≡ length (c.in-Some.removal ∷ into_iter_items c.next.new.self) = ap length c.in-Some.ensures.steps.0 in
     record {
       so_far =
-          one-left-out c.args.bank.now c.args.options c.args.event c.args.self.now c.args.counted.now.items c.args.removals c.args.results.items
+          one-left-out c.args.bank.now c.args.options c.args.event c.args.self.now (keys_in c.args.counted.now) c.args.removals c.args.results.items
           c.in-Some.removal (into_iter_items c.next.new.self) (into_iter_items c.loop-removal.results) (into_iter_items c.next_result-interned.new.results) c.next_result-interned.result
           c.next_result-interned.ensures
-          c.loop-removal.self c.loop-removal.counted.items (sym c.takes_effect.ensures ∙ c.if-takes_effect.false)
-          (subst (λ (ms : List Removal). AreProposedSoFar c.args.bank.now c.args.options c.args.event c.args.self.now c.args.counted.now.items c.args.removals c.args.results.items
-          c.loop-removal.self c.loop-removal.counted.items ms (into_iter_items c.loop-removal.results)) c.in-Some.ensures.steps.0 c.loop-removal.invariant.so_far);
+          c.loop-removal.self (keys_in c.loop-removal.counted) (sym c.takes_effect.ensures ∙ c.if-takes_effect.false)
+          (subst (λ (ms : List Removal). AreProposedSoFar c.args.bank.now c.args.options c.args.event c.args.self.now (keys_in c.args.counted.now) c.args.removals c.args.results.items
+          c.loop-removal.self (keys_in c.loop-removal.counted) ms (into_iter_items c.loop-removal.results)) c.in-Some.ensures.steps.0 c.loop-removal.invariant.so_far);
       len = let few = c.loop-removal.invariant.len in omega (arith, left, few);
       room = c.loop-removal.invariant.room;
     }
@@ -105,7 +106,7 @@ returns-clause-proposed c = λ table r moment interned is.
     let none : into_iter_items c.loop-removal.removal-iterator ≡ [] =
     nothing-left (into_iter_items c.loop-removal.removal-iterator) (omega (arith, c.in-None.ensures.steps.0, c.loop-removal.removal-iterator.rest.ok.0)) in
     let was = c.loop-removal.invariant.so_far.came table r moment interned is in
-    subst (IsCountedStateOf c.args.bank.now table c.loop-removal.self c.loop-removal.counted.items)
+    subst (IsCountedStateOf c.args.bank.now table c.loop-removal.self (keys_in c.loop-removal.counted))
     (ap (λ (ms : List Removal). fold (proposed c.args.options) was.0 ms) (sym none) ∙ was.4) was.1
 
 pub returns-clause-noted : goal.returns-clause-noted

@@ -1,6 +1,7 @@
 use Rattle.std.proofs.Common.{◌≡◌, ◌++◌, List, length, refl, sym, ◌∙◌, subst, arith}
 use Rattle.std.specs.Prelude.{Option, None, nat_le, option_to_list}
 use Rattle.kernel_steps.specs.declared.step.Line.{Line}
+use Rattle.pool_core.specs.CountedList.{keys_in}
 use Rattle.pool_core.specs.Counting.{lines_of_fate}
 use Rattle.pool_core.specs.Placing.{IsInterned, IsResultOf, IsCountedStateOf, HasRoom}
 use Rattle.pool_core.specs.Returning.{replaced}
@@ -15,7 +16,7 @@ returns-in_default c =
     let none : lines_of_fate c.args.fate ≡ None = not-kept c.args.fate c.in_default.not-Kept in
     record {
       replaced = λ table r interned is.
-          subst (IsCountedStateOf c.args.bank.now table c.args.self.now c.args.counted.now.items)
+          subst (IsCountedStateOf c.args.bank.now table c.args.self.now (keys_in c.args.counted.now))
           (sym (replaced-other c.args.options c.args.victim c.args.fate r none)) is;
       room = λ lss deaths out enough. subst (λ (o : Option (List Line)). HasRoom c.args.self.now (option_to_list o ++ lss) deaths out) none enough;
       counted_len = omega arith;
@@ -28,12 +29,12 @@ returns-clause-replaced c = λ table r interned is.
     let one : IsInterned c.args.bank.now table c.in-Kept.lines c.in-Some.interned =
     subst (λ (o : Option Interned). IsResultOf c.args.bank.now table (Kept c.in-Kept.lines c.in-Kept.results) o) c.in-Some.is
     (subst (λ (f : Fate). IsResultOf c.args.bank.now table f c.args.interned) c.in-Kept.is interned) in
-    let many : c.len.result ≡ length c.push_reserved.new.self.items = omega (arith, c.len.ensures, c.push_reserved.new.self.ok.0) in
+    let many : c.len.result ≡ length (keys_in c.push.new.self) = c.len.ensures in
     let again : c.len-2.result ≡ c.len.result = omega (arith, c.len.ensures, c.len-2.ensures) in
-    subst (λ (f : Fate). IsCountedStateOf c.args.bank.now table c.spend.new.self c.push_reserved.new.self.items (replaced c.args.options c.args.victim f r)) (sym c.in-Kept.is)
+    subst (λ (f : Fate). IsCountedStateOf c.args.bank.now table c.spend.new.self (keys_in c.push.new.self) (replaced c.args.options c.args.victim f r)) (sym c.in-Kept.is)
     (one-replaced c.args.bank.now table c.args.options c.args.victim c.in-Kept.lines c.in-Kept.results (nat_le c.args.options.inferences c.len.result) c.len.result
-    c.args.self.now c.arrive_counted.new.self c.spend.new.self c.args.counted.now.items c.push_reserved.new.self.items c.in-Some.interned r
-    c.requires.unsplit c.requires.open c.push_reserved.ensures.items many refl one
+    c.args.self.now c.arrive_counted.new.self c.spend.new.self (keys_in c.args.counted.now) (keys_in c.push.new.self) c.in-Some.interned r
+    c.requires.unsplit c.requires.open c.push.ensures.keys many refl one
     (λ s state. c.arrive_counted.ensures.arrived table s one state)
     (λ s count state. c.spend.ensures.spent c.args.bank.now table s (again ∙ count) state) is)
 

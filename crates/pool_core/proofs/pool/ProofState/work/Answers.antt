@@ -2,6 +2,7 @@ use Rattle.std.proofs.Common.{List, [], ◌∷◌, ◌++◌, length, refl, sym, 
 use Rattle.std.specs.Prelude.{fold}
 use Rattle.std.specs.Vec.Iter.{into_iter_items}
 use Rattle.std.proofs.lemmas.Option.{slice_get_within}
+use Rattle.pool_core.specs.CountedList.{keys_in}
 use Rattle.pool_core.specs.Counting.{counts, keys_of, lines_of_entries, lines_of_fate}
 use Rattle.pool_core.specs.Placing.{AreInterned, IsCountedStateOf, NotesDeaths, HasRoom, IsOfGiven, entries_of, removals_of, lines_of_removals, with_queue}
 use Rattle.pool_core.specs.Record.{PoolRecord}
@@ -36,7 +37,7 @@ replace-requires-clause-room c =
 
 pub returns-in-Gone-clause-worked : goal.returns-in-Gone-clause-worked
 returns-in-Gone-clause-worked c = λ table r pairs moment is counted.
-    subst (λ (w : Work). IsCountedStateOf c.args.bank.now table c.replace.new.self c.replace.new.counted.items (worked c.args.options c.args.number w r)) (sym c.in-Gone.is)
+    subst (λ (w : Work). IsCountedStateOf c.args.bank.now table c.replace.new.self (keys_in c.replace.new.counted) (worked c.args.options c.args.number w r)) (sym c.in-Gone.is)
     (c.replace.ensures.replaced table (dies c.in-Gone.removal.victim c.in-Gone.removal.justifiers r)
     (lone-result c.args.bank.now table c.in-Gone.removal (into_iter_items c.into_iter-replacements.result) (into_iter_items c.next_result-interned.new.results) c.next_result-interned.result
     c.next_result-interned.ensures
@@ -83,7 +84,7 @@ count_entries-requires-clause-room c =
 pub propose-requires-clause-results : goal.propose-requires-clause-results
 propose-requires-clause-results c =
     let some = c.requires.work in
-    let r : PoolRecord = record some.1 { counted = c.args.counted.now.items } in
+    let r : PoolRecord = record some.1 { counted = (keys_in c.args.counted.now) } in
     let s : PoolRecord = sets_aside c.in-Met.entries (becomes_active c.args.number r) in (
       some.0,
       counts c.args.options (keys_of c.in-Met.entries) (lines_of_entries c.in-Met.entries) s,
@@ -107,7 +108,7 @@ pub returns-clause-worked : goal.returns-clause-worked
 returns-clause-worked c = λ table r pairs moment is counted.
     let s : PoolRecord = sets_aside c.in-Met.entries (becomes_active c.args.number r) in
     let t : PoolRecord = counts c.args.options (keys_of c.in-Met.entries) (lines_of_entries c.in-Met.entries) s in
-    subst (λ (w : Work). IsCountedStateOf c.args.bank.now table c.propose.new.self c.propose.new.counted.items (worked c.args.options c.args.number w r)) (sym c.in-Met.is)
+    subst (λ (w : Work). IsCountedStateOf c.args.bank.now table c.propose.new.self (keys_in c.propose.new.counted) (worked c.args.options c.args.number w r)) (sym c.in-Met.is)
     (c.propose.ensures.proposed table t
     (moment ∙ sym (counts-keeps c.args.options (keys_of c.in-Met.entries) (lines_of_entries c.in-Met.entries) s).events)
     (subst (λ (w : Work). AreInterned c.args.bank.now table (lines_of_removals (removals_of w)) c.args.prepared.removals.clauses.items) c.in-Met.is is.in_bank.removals.interned) (c.count_entries.ensures.counted table s

@@ -1,14 +1,14 @@
 use Rattle.std.proofs.Common.{◌≡◌, ℕ, true, List, refl, ap, ap₂, sym, ◌∙◌, subst, arith}
-use Rattle.std.specs.Prelude.{Option, None, Some, cond, is_none, position, slice_get}
+use Rattle.std.specs.Prelude.{Some, is_none, slice_get}
 use Rattle.std.proofs.Math.ListN.{set}
 use Rattle.std.proofs.lemmas.List.{length-set}
 use Rattle.std.proofs.lemmas.Option.{get_or_from_slice_get}
-use Rattle.bank_clause.specs.Clause.{equal_by_numbers}
-use Rattle.pool_core.specs.Register.{is_living_copy, dead_in}
-use Rattle.pool_core.specs.RegisterLiving.{IsOnlyCopy}
+use Rattle.pool_core.specs.Register.{dead_in}
+use Rattle.pool_core.specs.RegisterLiving.{IsChained, IsOnlyCopy}
 use Rattle.pool_core.specs.RegisterCode.{Registrations}
 use Rattle.pool_core.specs.declared.register.Registration.{Registration}
-use Rattle.pool_core.proofs.AboutRecords.RegisterLemmas.{found-after-burial, only-after-burial}
+use Rattle.pool_core.proofs.AboutRecords.RegisterLemmas.{only-after-burial}
+use Rattle.pool_core.proofs.AboutRecords.ChainLemmas.{hashes-set}
 use Rattle.pool_core.proofs.register.Register.bury.Goals as goal
 
 pub invariant_of-self : goal.invariant_of-self
@@ -18,16 +18,13 @@ invariant_of-self c =
     let s : Registration = (c.requires.living).0 in
     let there : slice_get ss n ≡ Some s = ap (λ (v : Registrations). slice_get v.clauses n) c.self.view_is ∙ (c.requires.living).1 in
     let alive : is_none s.death ≡ true = (c.requires.living).2 in
-    let read : c.index.result.now ≡ s = c.index.ensures ∙ get_or_from_slice_get ss n s c.index.result.now there in
     let written : c.index_mut.result.now ≡ s = c.index_mut.ensures.value ∙ get_or_from_slice_get ss n s c.index_mut.result.now there in
     let now : set ss n (dead_in c.args.event s) ≡ set ss n (dead_in c.args.event c.index_mut.result.now) =
     ap (λ (z : Registration). set ss n (dead_in c.args.event z)) (sym written) in
     record {
-      finds = λ q.
-          (c.swap_remove.ensures.updates).0 q
-          ∙ ap₂ (λ (z : Registration) (o : Option ℕ). cond (equal_by_numbers z.clause q) None o) read (c.self.invariant.finds q)
-          ∙ found-after-burial ss n s (dead_in c.args.event s) there alive refl c.self.invariant.only q
-          ∙ ap (position (is_living_copy q)) now;
+      chained =
+          subst (IsChained c.self.inside.chains) (hashes-set ss n c.index_mut.result.now (dead_in c.args.event c.index_mut.result.now) (there ∙ ap Some (sym written)) refl)
+          c.self.invariant.chained;
       only = subst IsOnlyCopy now (only-after-burial ss n s (dead_in c.args.event s) there alive refl c.self.invariant.only);
       few = let same = length-set ss n (dead_in c.args.event c.index_mut.result.now) in let few = c.self.invariant.few in omega (arith, same, few);
     }

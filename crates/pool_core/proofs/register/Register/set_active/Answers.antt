@@ -5,8 +5,10 @@ use Rattle.std.proofs.lemmas.List.{length-set}
 use Rattle.std.proofs.lemmas.Option.{get_or_from_slice_get, slice_get_read}
 use Rattle.pool_core.specs.Register.{made_active}
 use Rattle.pool_core.specs.RegisterCode.{Registrations}
+use Rattle.pool_core.specs.RegisterLiving.{IsChained}
 use Rattle.pool_core.specs.declared.register.Registration.{Registration}
-use Rattle.pool_core.proofs.AboutRecords.RegisterLemmas.{found-as-before, only-as-before}
+use Rattle.pool_core.proofs.AboutRecords.RegisterLemmas.{only-as-before}
+use Rattle.pool_core.proofs.AboutRecords.ChainLemmas.{hashes-set}
 use Rattle.pool_core.proofs.register.Register.set_active.Goals as goal
 
 pub invariant_of-self : goal.invariant_of-self
@@ -16,7 +18,7 @@ invariant_of-self c =
     let below : c.args.number < length ss = subst (λ (v : Registrations). c.args.number < length v.clauses) (sym c.self.view_is) c.requires in
     let there : slice_get ss c.args.number ≡ Some s = slice_get_read ss (length ss) c.args.number s refl below c.index_mut.ensures.value in
     record {
-      finds = λ q. c.self.invariant.finds q ∙ sym (found-as-before ss c.args.number s (made_active s) there refl refl q);
+      chained = subst (IsChained c.self.inside.chains) (hashes-set ss c.args.number s (made_active s) there refl) c.self.invariant.chained;
       only = only-as-before ss c.args.number s (made_active s) there refl refl c.self.invariant.only;
       few = let same = length-set ss c.args.number (made_active s) in let few = c.self.invariant.few in omega (arith, same, few);
     }

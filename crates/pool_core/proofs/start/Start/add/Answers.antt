@@ -41,9 +41,6 @@ push-requires g c = record {
 pub push-requires-2-clause-new : goal.push-requires-2-clause-new
 push-requires-2-clause-new g c = ap (position (is_living_copy c.in_ok-made.made)) c.reserve.ensures.clauses ∙ sym c.in_default.ensures.found
 
-pub push-requires-2-clause-key : goal.push-requires-2-clause-key
-push-requires-2-clause-key g c = c.in_ok-key.ensures
-
 pub push-requires-2-clause-room : goal.push-requires-2-clause-room
 push-requires-2-clause-room g c = let room = c.in_ok-reserve.ensures.room in omega (arith, room)
 

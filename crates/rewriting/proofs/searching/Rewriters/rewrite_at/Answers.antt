@@ -26,3 +26,9 @@ returns c =
     none-found c.args.self.now.units.now c.args.self.now.left_out c.args.self.now.asserted.now (spot_of c.args.spot) (tree_of c.args.term.now)
     c.in_ok-found.found c.in_ok-found.ensures
     (λ x there. c.loop-entry.invariant x (subst (IsIn x) (sym (take_all c.loop-entry.entry-index items (omega arith) ∙ c.as_slice-entry-items.ensures)) there))
+
+pub returns-then-is_empty : goal.returns-then-is_empty
+returns-then-is_empty c =
+    none-found c.args.self.now.units.now c.args.self.now.left_out c.args.self.now.asserted.now (spot_of c.args.spot) (tree_of c.args.term.now)
+    c.in_ok-found.found c.in_ok-found.ensures
+    (λ x there. absurd (subst (IsIn x) (c.is_empty.ensures.0 c.if-is_empty.true) there))

@@ -1,5 +1,5 @@
 use Rattle.rewriting.proofs.NumberedLemmas.{lent-clause}
-use Rattle.unit_index.proofs.IndexedLemmas.{clause_of_member, lent-low, lent-number}
+use Rattle.unit_index.proofs.IndexedLemmas.{clause_of_member, lent-low, lent-number, lent-one}
 use Rattle.unit_index.proofs.index.UnitIndex.unit.Goals as goal
 
 pub returns-clause-clause : goal.returns-clause-clause
@@ -11,3 +11,6 @@ returns-clause-number c = lent-number c.self.inside.lefts c.args.number c.self.i
 
 pub returns-clause-low : goal.returns-clause-low
 returns-clause-low c = lent-low c.self.inside.lefts c.args.number c.self.inside.units.entries c.get.result c.self.invariant c.get.ensures.value
+
+pub returns-clause-one : goal.returns-clause-one
+returns-clause-one c = lent-one c.self.inside.lefts c.args.number c.self.inside.units.entries c.get.result c.self.invariant c.get.ensures.value

@@ -1,0 +1,8 @@
+-- The clausal form of a problem, and the interpretations that make it true.
+pub mod ConsequenceLemmas
+pub mod ExtendedLemmas
+pub mod FormedLemmas
+pub mod KindLemmas
+pub mod ReturnedLemmas
+pub mod TableLemmas
+pub mod TermLemmas

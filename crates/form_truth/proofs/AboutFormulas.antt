@@ -1,0 +1,3 @@
+-- The truth of formulas under values of names.
+pub mod NameLemmas
+pub mod SignLemmas

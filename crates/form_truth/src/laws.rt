@@ -1,0 +1,12 @@
+// The laws: each is the contract of a function without arguments and with an empty body.
+
+mod examples;
+mod meaning;
+mod reading;
+
+pub use examples::{consequence_examples, hiding_examples, open_examples};
+pub use meaning::{
+    accepted_derivations_prove, forms_return, models_extend, refuted_axioms_are_unsatisfiable,
+    refuted_conjectures_follow, refuted_problems_have_no_model,
+};
+pub use reading::read_problems_are_closed;
