@@ -1,5 +1,5 @@
 -- The laws of runs: statuses come for their causes, each exactly where it says so, and a valid input is answered.
-use Rattle.std.specs.Prelude.{◌≡◌, ◌⊎◌, ◌==◌, ◌||◌, ◌++◌, ℕ, true, Bool, List, None, Some, IfSome, codes}
+use Rattle.std.specs.Prelude.{◌≡◌, ◌⊎◌, ◌==◌, ◌||◌, ◌++◌, ℕ, true, Bool, List, None, Some, IfSome, IsFalse, codes}
 use Rattle.outside.specs.Faults.{Rose}
 use Rattle.outside.specs.Library.{Holdings}
 use Rattle.outside.specs.Sink.{with_bytes}
@@ -9,6 +9,7 @@ use Rattle.tptp_reader.specs.declared.cause.ReadCause.TheVariants.{Load}
 use Rattle.tptp_problem.specs.Problem.{IsProblemFault}
 use Rattle.clausal_form.specs.FormFunctions.{IsHerbrandRefuted}
 use Rattle.clausal_form.specs.DerivationTexts.{IsAcceptedDerivation, IsRefusedDerivation}
+use Rattle.form_truth.specs.Meaning.{ConjectureFollows, AxiomsUnsatisfiable, has_conjecture as asks}
 use Rattle.clausal_form.specs.declared.fault.FormCause.{FormCause}
 use Rattle.tstp_checker.specs.Causes.{cause_meant}
 use Rattle.tstp_checker.specs.declared.cause.Cause.{Cause}
@@ -135,13 +136,18 @@ HasGivenUp options formulas =
 abbrev pub HasSaturation : Options → List Annotated → Type 0
 HasSaturation options formulas = (members : List ℕ) × IsSaturation formulas options members
 
--- What 0, 1 and 2 say of the problem: 0 comes only where some finite list of ground instances of its clausal form is true in no
+-- What 0, 1 and 2 say of the problem: 0 comes only where every finite interpretation that makes the axioms true makes the conjecture true,
+-- and without a conjecture none makes them true; and where some finite list of ground instances of its clausal form is true in no
 -- interpretation, and 1 and 2 only where some lawful history of its clausal form and the options ends so; with 1 its members are saturated for the form.
 pub record StatusesAreTrue : Type 0 where
   pub refuted :
       (words : List (List ℕ)) (outside : Outside) (taken : Taken) (status : ℕ) (command : Command)
       → command_of words ≡ Some command → IsRun words outside taken status → status ≡ 0
       → OfFormed outside (source_of command) IsHerbrandRefuted
+  pub proved :
+      (words : List (List ℕ)) (outside : Outside) (taken : Taken) (status : ℕ) (command : Command)
+      → command_of words ≡ Some command → IsRun words outside taken status → status ≡ 0
+      → OfFormed outside (source_of command) (λ formulas. ConjectureFollows formulas × (IsFalse (asks formulas) → AxiomsUnsatisfiable formulas))
   pub gave_up :
       (words : List (List ℕ)) (outside : Outside) (taken : Taken) (status : ℕ) (source : Source) (options : Options)
       → command_of words ≡ Some (prove source.file source.root options) → IsRun words outside taken status → status ≡ 2

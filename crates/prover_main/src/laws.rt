@@ -44,8 +44,9 @@ pub fn statuses_come_for_causes()
     texts_have_one_answer();
 }
 
-/// Soundness: 0 comes only where some finite list of ground instances of the problem's clausal form is true in no
-/// interpretation, and 1 and 2 only where some lawful history of that form and the options ends so; with 1 the living awake clauses are
+/// Soundness: 0 comes only where every finite interpretation that makes the axioms true makes the conjecture true, and
+/// without a conjecture none makes them true; some finite list of ground instances of the clausal form is then true in no
+/// interpretation. And 1 and 2 only where some lawful history of that form and the options ends so; with 1 the living awake clauses are
 /// saturated for the form.
 pub fn statuses_are_true()
     ensures { StatusesAreTrue }

@@ -1,11 +1,12 @@
 // The check of a derivation's text.
 
-ghost use Rattle.std.specs.Prelude.{◌≡◌, ◌<◌, ◌≤◌, IfOk, IfErr, length};
+ghost use Rattle.std.specs.Prelude.{◌≡◌, ◌<◌, ◌≤◌, IfOk, IfErr, IsTrue, length};
 ghost use Rattle.tptp_token.specs.Lexing.{lexed_of};
 ghost use Rattle.signature.specs.Form.{clausal_form};
 ghost use Rattle.clausal_form.specs.Form.{form_of};
 ghost use Rattle.clausal_form.specs.FormFunctions.{IsHerbrandRefuted};
 ghost use Rattle.clausal_form.specs.DerivationTexts.{IsAcceptedDerivation};
+ghost use Rattle.form_truth.specs.Meaning.{are_closed, ConjectureFollows};
 ghost use Rattle.clausal_form.specs.DerivationLine.{nothing_taken};
 ghost use Rattle.clausal_form.specs.DerivationLines.{accepted, refused_line};
 ghost use Rattle.tstp_checker.specs.Lines.{line_meant, setting_in, taken_in, IsReady, IsJudged};
@@ -46,7 +47,8 @@ impl From<NoMemory> for CheckFault {
 
 /// Checks the text of a derivation in the language TSTP, over the clausal form of a problem. It is accepted where each line
 /// can be read and is taken behind those before it, and the last one is the empty clause; the problem's clausal form is then
-/// refuted by finitely many of its ground instances.
+/// refuted by finitely many of its ground instances. So where no formula has a free variable, every finite interpretation that
+/// makes the axioms true makes the conjecture true; without a conjecture none makes them true.
 ///
 /// Else the first bad line is told, with the first cause there. A fault of the text's tokens is `Text` on the line behind
 /// those that were taken. Where all lines are taken and the last isn't the empty clause, it is `NoEmptyClause` on the last
@@ -61,6 +63,7 @@ pub fn check(
     requires small { length text.now ≤ MOST_TEXT_BYTES }
     ensures accepted { IfOk result (λ a. IsAcceptedDerivation problem.now.formulas text.now a.lines) }
     ensures refuted { IfOk result (λ _. IsHerbrandRefuted problem.now.formulas) }
+    ensures follows { IfOk result (λ _. IsTrue (are_closed problem.now.formulas) → ConjectureFollows problem.now.formulas) }
     ensures refused { IfErr result (IsCheckFault problem.now.formulas text.now) }
 {
     let lexed = tokens(alloc, text)?;

@@ -1,6 +1,6 @@
 -- The check of a derivation, line by line.
 use Rattle.std.proofs.Common.{◌≡◌, inl, inr, ℕ, zero, suc, ◌+◌, ◌-◌, ◌<◌, ◌≤◌, Option, None, Some, Result, Ok, Err, List, [], ◌∷◌, ◌++◌, length, drop, refl, ap, sym, ◌∙◌, subst, arith}
-use Rattle.std.specs.Prelude.{IfOk, IfErr, IsErrAnd}
+use Rattle.std.specs.Prelude.{IfOk, IfErr, IsErrAnd, IsTrue}
 use Rattle.std.proofs.lemmas.List.{length-append, length-map, drop_all, length-drop}
 use Rattle.tptp_token.specs.Lexemes.{Lexeme, lexeme_at}
 use Rattle.tptp_token.specs.Lexing.{with_piece, piece_length, lexed_from, lexed_of}
@@ -12,6 +12,8 @@ use Rattle.tptp_token.specs.declared.piece.Piece.TheVariants.{Token, Space, Bad,
 use Rattle.tptp_tree.specs.declared.problem.Annotated.{Annotated}
 use Rattle.signature.specs.Form.{ClausalForm, clausal_form}
 use Rattle.clausal_form.specs.FormFunctions.{IsHerbrandRefuted}
+use Rattle.form_truth.specs.Meaning.{are_closed, ConjectureFollows}
+use Rattle.form_truth.proofs.AboutForms.ConsequenceLemmas.{accepted_derivations_prove}
 use Rattle.clausal_form.specs.DerivationLine.{LineTree, NamedLine, Taken, nothing_taken}
 use Rattle.clausal_form.specs.DerivationParts.{Setting, setting_of}
 use Rattle.clausal_form.specs.DerivationCauses.{Cause, LineVerdict, refused, taken, line_verdict}
@@ -245,6 +247,12 @@ pub accepted-refutes :
     → IfOk result (λ a. IsAcceptedDerivation problem bytes a.lines) → IfOk result (λ a. IsHerbrandRefuted problem)
 accepted-refutes problem bytes (Ok a) h = accepted_derivations_refute problem bytes a.lines h
 accepted-refutes problem bytes (Err fault) h = tt
+
+pub accepted-proves :
+    (problem : List Annotated) (bytes : List ℕ) (result : Result Accepted CheckFault)
+    → IfOk result (λ a. IsAcceptedDerivation problem bytes a.lines) → IfOk result (λ a. IsTrue (are_closed problem) → ConjectureFollows problem)
+accepted-proves problem bytes (Ok a) h = λ closed. accepted_derivations_prove problem bytes a.lines closed h
+accepted-proves problem bytes (Err fault) h = tt
 
 -- what a call passes on
 pub passed : {Y E : Type 0} (q : Result Y E) (fault : E) (P : E → Type 0) → IsErrAnd q (λ e. e ≡ fault) → P fault → IfErr q P
