@@ -4,7 +4,10 @@ mod examples;
 mod meaning;
 mod reading;
 
-pub use examples::{consequence_examples, hiding_examples, open_examples};
+pub use examples::{
+    conjecture_examples, consequence_examples, extension_examples, hiding_examples,
+    interpretation_examples, open_examples, satisfiability_examples,
+};
 pub use meaning::{
     accepted_derivations_prove, forms_return, models_extend, refuted_axioms_are_unsatisfiable,
     refuted_conjectures_follow, refuted_problems_have_no_model,
