@@ -33,7 +33,7 @@ zero-refutes :
     → OfFormed outside (source_of command) IsRefutedTheorem
 zero-refutes outside (prove file root options) (Refuted c d) h s =
     record { formulas = h.formulas; formed = h.formed; says = (h.says.herbrand, h.says.theorem) }
-zero-refutes outside (check file derivation root) (Accepted n) h s = record { formulas = h.formulas; formed = h.formed; says = h.says.judgement.1 }
+zero-refutes outside (check file derivation root) (Accepted n) h s = record { formulas = h.formulas; formed = h.formed; says = (h.says.judgement.1, h.says.judgement.2) }
 zero-refutes outside (prove file root options) (Accepted n) h s = absurd h.says
 zero-refutes outside (check file derivation root) (Refuted c d) h s = absurd h.says.judgement
 zero-refutes outside command (Unread c f p) h s = absurd (cause-not-zero c s)
