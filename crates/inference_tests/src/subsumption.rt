@@ -35,17 +35,17 @@ const PAIRS: &[(&str, &str, bool)] = &[
     // Wide clauses: the literal that says it alone is looked at first, and one too many for their places is told without each order of them.
     (
         "p(X0) | p(X1) | p(X2) | p(X3) | p(X4) | p(X5) | p(X6) | p(X7) | p(X8) | p(X9) | q(X9)",
-        "p(a) | p(b) | p(c) | p(d) | p(e) | p(f) | p(g) | p(h) | p(i) | p(j) | q(k)",
+        "p(a) | p(b) | p(c) | p(d) | p(e) | p(f) | p(g) | p(h) | p(i) | p(j) | p(k) | p(l) | p(m) | q(o)",
         false,
     ),
     (
         "p(X0) | p(X1) | p(X2) | p(X3) | p(X4) | p(X5) | p(X6) | p(X7) | p(X8) | p(X9) | q(X9)",
-        "p(a) | p(b) | p(c) | p(d) | p(e) | p(f) | p(g) | p(h) | p(i) | p(j) | q(a)",
+        "p(a) | p(b) | p(c) | p(d) | p(e) | p(f) | p(g) | p(h) | p(i) | p(j) | p(k) | p(l) | p(m) | q(a)",
         true,
     ),
     (
-        "p(f(X0)) | p(f(X1)) | p(f(X2)) | p(f(X3)) | p(f(X4)) | p(f(X5)) | p(f(X6)) | p(f(X7)) | p(f(X8)) | p(f(X9))",
-        "p(f(a)) | p(f(b)) | p(f(c)) | p(f(d)) | p(f(e)) | p(f(g)) | p(f(h)) | p(f(i)) | p(f(j)) | p(a)",
+        "p(f(X0)) | p(f(X1)) | p(f(X2)) | p(f(X3)) | p(f(X4)) | p(f(X5)) | p(f(X6)) | p(f(X7)) | p(f(X8)) | p(f(X9)) | p(f(a)) | p(f(a)) | p(f(a)) | p(f(a))",
+        "p(f(a)) | p(f(a)) | p(f(a)) | p(f(a)) | p(f(a)) | p(f(a)) | p(f(a)) | p(f(a)) | p(f(a)) | p(f(a)) | p(f(a)) | p(f(a)) | p(f(a)) | p(a)",
         false,
     ),
 ];

@@ -14,6 +14,12 @@ use plain_types::Mem;
 use std::alloc::Global;
 use unifier::Matched;
 
+/// So many partners are counted at a step, shared out evenly among the patterns: the more patterns, the sooner counts stop being compared.
+const COUNTED: usize = 1024;
+
+/// Counts go as far as this at least, so that a pattern with one partner or none is told among any number of patterns.
+const FEWEST_COUNTED: usize = 2;
+
 /// Whether each literal of a lender has a partner among the targets. False only where nothing is an instance of one.
 pub(crate) fn have_partners<L: LendsLiterals>(
     alloc: Global,
@@ -68,11 +74,15 @@ pub(crate) fn choose(
         (λ chosen. chosen < length patterns.now)) }
 {
     let mut chosen = 0;
-    let mut fewest = usize::MAX;
+    let mut fewest = most_counted(patterns.len());
     for index in 0..patterns.len() {
-        let partners = partners(alloc, patterns[index], targets, used, so_far)?;
+        let partners = partners(alloc, patterns[index], targets, used, so_far, fewest)?;
         if partners == 0 {
             return Ok(None);
+        }
+        if partners == 1 && patterns[index].right.is_truth() {
+            // An atom turns one way alone, so a search never comes back to place it anew: nothing is lost if those behind aren't looked at.
+            return Ok(Some(index));
         }
         if partners < fewest {
             chosen = index;
@@ -83,13 +93,26 @@ pub(crate) fn choose(
     if crowded { Ok(None) } else { Ok(Some(chosen)) }
 }
 
-/// How many of the targets that aren't marked may be instances of a literal by the pairs.
+/// How many partners of each pattern are counted, where there are so many patterns.
+fn most_counted(patterns: usize) -> usize
+    requires { 0 < patterns }
+{
+    let share = COUNTED / patterns;
+    if share < FEWEST_COUNTED {
+        FEWEST_COUNTED
+    } else {
+        share
+    }
+}
+
+/// How many of the targets that aren't marked may be instances of a literal by the pairs. The count stops at a limit.
 pub(crate) fn partners(
     alloc: Global,
     literal: LiteralRef<'_>,
     targets: &[LiteralRef<'_>],
     used: &[bool],
     so_far: &Matched<'_>,
+    limit: usize,
 ) -> Mem<usize>
     requires { length used.now ≡ length targets.now }
     ensures { IfOk result (λ count. count ≡ 0
@@ -101,6 +124,9 @@ pub(crate) fn partners(
             let stands = may_stand(alloc, literal, targets[at], so_far)?;
             if stands {
                 count += 1;
+                if count >= limit {
+                    return Ok(count);
+                }
             }
         }
     }

@@ -65,7 +65,7 @@ fn is_room_short(
     }
     let mut crowd = 0;
     for one in patterns {
-        let others = partners(alloc, *one, targets, marks, so_far)?;
+        let others = partners(alloc, *one, targets, marks, so_far, 1)?;
         if others == 0 {
             crowd += 1;
         }

@@ -4,7 +4,7 @@ use Rattle.std.proofs.lemmas.Bool.{true≢false}
 use Rattle.fol_base.specs.Lent.{lent_of}
 use Rattle.subsume.proofs.AboutSearch.PlacingLemmas.{item, taken-marked}
 use Rattle.subsume.proofs.AboutSearch.ChoosingLemmas.{no-partner-more, no-partner-taken}
-use Rattle.subsume.proofs.choosing.partners.Goals.{then-not-used-at+in_ok-stands+then-stands, then-not-used-at+in_ok-stands+else-stands, else-not-used-at}
+use Rattle.subsume.proofs.choosing.partners.Goals.{then-not-used-at+in_ok-stands+then-stands+else-count-limit, then-not-used-at+in_ok-stands+else-stands, else-not-used-at}
 use Rattle.subsume.proofs.choosing.partners.Goals as goal
 
 pub loop-at-preserved : goal.loop-at-preserved
@@ -13,7 +13,7 @@ loop-at-preserved c =
     let ds = map lent_of c.args.targets.now in
     let at = c.loop-at.at in
     elim c.if-not-used-at.branch [
-      | then-not-used-at+in_ok-stands+then-stands w ↦ (omega (arith, w.count-is, c.loop-at.invariant.0), λ e. absurd (omega (arith, w.count-is, e)))
+      | then-not-used-at+in_ok-stands+then-stands+else-count-limit w ↦ (omega (arith, w.count-is, c.loop-at.invariant.0), λ e. absurd (omega (arith, w.count-is, e)))
       | then-not-used-at+in_ok-stands+else-stands w ↦
           let there : slice_get ds at ≡ Some (lent_of w.index-targets-at.result) =
           item lent_of c.args.targets.now at w.index-targets-at.result c.loop-at-test.true w.index-targets-at.is in (
