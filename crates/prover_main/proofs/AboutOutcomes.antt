@@ -5,3 +5,4 @@ pub mod HistoryLemmas
 pub mod OutcomeLemmas
 pub mod RefutedLemmas
 pub mod SaturatedLemmas
+pub mod TheoremLemmas

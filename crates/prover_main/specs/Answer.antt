@@ -1,12 +1,10 @@
 -- When each answer of a command comes.
 use Rattle.std.specs.Prelude.{◌≡◌, ◌≢◌, ◌≤◌, ◌⊎◌, ℕ, Bool, List, length, map, Option, None, Some, IfSome, slice_get, All, AllPairs, IsTrue}
-use Rattle.std.specs.List.{list_any}
 use Rattle.outside.specs.Faults.{Rose}
 use Rattle.outside.specs.Library.{HoldsExactly, FoundMore}
 use Rattle.fol_base.specs.Clause.{TreeClause}
 use Rattle.fol_base.specs.Symbols.{FunctionSymbols}
 use Rattle.tptp_token.specs.declared.limits.TheConstants.{MOST_TEXT_BYTES}
-use Rattle.tptp_tree.specs.Entries.{is_conjecture}
 use Rattle.tptp_tree.specs.declared.problem.Annotated.{Annotated}
 use Rattle.tptp_reader.specs.declared.cause.ReadCause.{ReadCause}
 use Rattle.tptp_problem.specs.Formulas.{placed}
@@ -23,6 +21,7 @@ use Rattle.clausal_form.specs.Fault.{form_fault}
 use Rattle.clausal_form.specs.FormFunctions.{is_predicate_in, OwnFunctions, IsHerbrandRefuted}
 use Rattle.clausal_form.specs.DerivationTexts.{IsAcceptedDerivation, IsRefusedDerivation}
 use Rattle.clausal_form.specs.declared.fault.FormCause.{FormCause}
+use Rattle.form_truth.specs.Meaning.{has_conjecture}
 use Rattle.pool_core.specs.Inputs.{IsHistoryOf}
 use Rattle.pool_core.specs.Laws.{IsCounted, IsHeavyAmong}
 use Rattle.pool_core.specs.Outcomes.{is_at_rest, is_of_living, outcome_of}
@@ -41,6 +40,7 @@ use Rattle.tstp_checker.specs.declared.cause.Cause.{Cause}
 use Rattle.tstp_checker.specs.declared.cause.Cause.TheVariants.{Text}
 use Rattle.pool_writer.specs.Refuted.{IsRefutationText}
 use Rattle.pool_writer.specs.Saturation.{saturation_text}
+use Rattle.prover_main.specs.Meaning.{IsTheorem}
 use Rattle.prover_main.specs.Names.{shown}
 use Rattle.prover_main.specs.Outside.{Outside}
 use Rattle.prover_main.specs.Words.{Command, prove, check}
@@ -81,9 +81,6 @@ pub record OfFormed (outside : Outside) (source : Source) (Says : List Annotated
 
 -- ---- what `prove` says of the formulas
 
-abbrev pub has_conjecture : List Annotated → Bool
-has_conjecture formulas = list_any (λ (a : Annotated). is_conjecture a.role) formulas
-
 -- what a pool of the problem's clausal form begins with
 abbrev pub origin_of : List Annotated → Options → Origin
 origin_of formulas options = record { inputs = (clausal_form formulas).clauses; options = options }
@@ -96,7 +93,8 @@ pub record HasHistory (formulas : List Annotated) (options : Options) (outcome :
   pub ends : outcome_of r ≡ Some outcome
 
 -- The derivation is what is written of the lines of such a history in which the empty clause was derived, with the problem's file as it is
--- shown. It is accepted, and so some finite list of ground instances of the clausal form is true in no interpretation.
+-- shown. It is accepted, and so some finite list of ground instances of the clausal form is true in no interpretation: the conjecture
+-- follows from the axioms, and without one the axioms are unsatisfiable.
 pub record IsRefuted (file : List ℕ) (formulas : List Annotated) (options : Options) (conjecture : Bool) (derivation : List ℕ) : Type 0 where
   pub r : PoolRecord
   pub history : HasHistory formulas options outcome.Refuted r
@@ -105,6 +103,7 @@ pub record IsRefuted (file : List ℕ) (formulas : List Annotated) (options : Op
   pub count : ℕ
   pub accepted : IsAcceptedDerivation formulas derivation count
   pub herbrand : IsHerbrandRefuted formulas
+  pub theorem : IsTheorem formulas
 
 -- So many entries were counted, all different, and at least as many as the limit. Each is an inference of registered clauses or a clause that
 -- was replaced.
@@ -174,9 +173,10 @@ pub record IsLoaded (outside : Outside) (derivation : List ℕ) (text : List ℕ
   pub held : HoldsExactly outside.told derivation text
   pub short : length text ≤ MOST_TEXT_BYTES
 
--- accepted, and so some finite list of ground instances of the clausal form is true in no interpretation; or refused at a line
+-- accepted, and so some finite list of ground instances of the clausal form is true in no interpretation, and the problem is a theorem; or
+-- refused at a line
 abbrev pub IsJudgement : List Annotated → List ℕ → Answer → Type 0
-IsJudgement formulas text (Accepted lines) = IsAcceptedDerivation formulas text lines × IsHerbrandRefuted formulas
+IsJudgement formulas text (Accepted lines) = IsAcceptedDerivation formulas text lines × IsHerbrandRefuted formulas × IsTheorem formulas
 IsJudgement formulas text (Refused line cause) = IsRefusedDerivation formulas text line (cause_meant cause)
 IsJudgement formulas text other = ⊥
 

@@ -10,7 +10,7 @@ use Rattle.signature.specs.Form.{clausal_form}
 use Rattle.clausal_form.specs.Form.{form_of}
 use Rattle.clausal_form.specs.Fault.{form_fault}
 use Rattle.clausal_form.specs.FormFunctions.{IsHerbrandRefuted}
-use Rattle.form_truth.specs.Meaning.{are_closed, ConjectureFollows}
+use Rattle.form_truth.specs.Meaning.{are_closed}
 use Rattle.pool_core.specs.Outcomes.{is_at_rest, is_of_living}
 use Rattle.pool_core.specs.Record.{PoolRecord}
 use Rattle.pool_core.specs.Saturated.{members_of}
@@ -19,6 +19,7 @@ use Rattle.pool_core.specs.declared.outcome.Outcome.{Outcome}
 use Rattle.pool_core.specs.declared.outcome.Outcome.TheVariants.{Refuted, Saturated, Spent, Heavy}
 use Rattle.proving.specs.Proved.{IsProvedFrom}
 use Rattle.prover_main.specs.Outside.{Outside}
+use Rattle.prover_main.specs.Meaning.{IsTheorem}
 use Rattle.prover_main.specs.Answer.{Source, IsUnread, IsUnformed, HasCounted, AreSaturatedFor}
 use Rattle.prover_main.specs.declared.answer.Answer.{Answer}
 use Rattle.prover_main.specs.declared.answer.Answer.TheVariants.{Unread, Unformed}
@@ -67,7 +68,7 @@ pub record IsProvedProblem (formulas : List Annotated) (options : Options) (prov
 -- free variable, every finite interpretation that makes the axioms true makes the conjecture true; or the members are saturated
 -- for it; or so many entries were counted; or nothing is left to do but the first inference of living awake clauses that was set aside.
 abbrev pub OutcomeSays : List Annotated → Options → PoolRecord → Outcome → Type 0
-OutcomeSays formulas options r Refuted = IsHerbrandRefuted formulas × (IsTrue (are_closed formulas) → ConjectureFollows formulas)
+OutcomeSays formulas options r Refuted = IsHerbrandRefuted formulas × (IsTrue (are_closed formulas) → IsTheorem formulas)
 OutcomeSays formulas options r Saturated = AreSaturatedFor formulas options (members_of r)
 OutcomeSays formulas options r (Spent count) = HasCounted formulas options count r
 OutcomeSays formulas options r (Heavy place) = IsTrue (is_at_rest r) × (position (is_of_living r) r.set_aside ≡ Some place)

@@ -7,12 +7,19 @@ use Rattle.outside.specs.declared.fault.SinkFault.{SinkFault}
 use Rattle.tptp_tree.specs.declared.formula.Formula.TheVariants.{Pred}
 use Rattle.tptp_tree.specs.declared.problem.Annotated.{Annotated}
 use Rattle.tptp_tree.specs.declared.role.Role.{Role}
+use Rattle.fol_base.specs.Clause.{TreeClause}
+use Rattle.signature.specs.Form.{ClausalForm, clausal_form}
+use Rattle.form_truth.specs.Examples.{hiding_alone}
 use Rattle.prover_main.specs.Outside.{Outside}
 use Rattle.prover_main.specs.Run.{AreWrites, DeliversInPieces}
 
 -- a pool counts so many inferences, and chooses negative literals
 abbrev pub counting : ℕ → Options
 counting n = record { select = Negative; split = false; inferences = n }
+
+-- `! [X] : ( p(X) | ? [X] : r(X,X) )` with these clauses in place of its own
+abbrev pub hiding_with : List TreeClause → ClausalForm
+hiding_with clauses = record { symbols = (clausal_form hiding_alone).symbols; clauses = clauses; origins = [] }
 
 -- the proposition p in this role
 abbrev pub formula_in : Role → Annotated

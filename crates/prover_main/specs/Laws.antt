@@ -1,5 +1,5 @@
 -- The laws of runs: statuses come for their causes, each exactly where it says so, and a valid input is answered.
-use Rattle.std.specs.Prelude.{◌≡◌, ◌⊎◌, ◌==◌, ◌||◌, ◌++◌, ℕ, true, Bool, List, None, Some, IfSome, IsFalse, codes}
+use Rattle.std.specs.Prelude.{◌≡◌, ◌⊎◌, ◌==◌, ◌||◌, ◌++◌, ℕ, true, Bool, List, None, Some, IfSome, codes}
 use Rattle.outside.specs.Faults.{Rose}
 use Rattle.outside.specs.Library.{Holdings}
 use Rattle.outside.specs.Sink.{with_bytes}
@@ -9,11 +9,11 @@ use Rattle.tptp_reader.specs.declared.cause.ReadCause.TheVariants.{Load}
 use Rattle.tptp_problem.specs.Problem.{IsProblemFault}
 use Rattle.clausal_form.specs.FormFunctions.{IsHerbrandRefuted}
 use Rattle.clausal_form.specs.DerivationTexts.{IsAcceptedDerivation, IsRefusedDerivation}
-use Rattle.form_truth.specs.Meaning.{ConjectureFollows, AxiomsUnsatisfiable, has_conjecture as asks}
 use Rattle.clausal_form.specs.declared.fault.FormCause.{FormCause}
 use Rattle.tstp_checker.specs.Causes.{cause_meant}
 use Rattle.tstp_checker.specs.declared.cause.Cause.{Cause}
 use Rattle.prover_main.specs.Outside.{Outside}
+use Rattle.prover_main.specs.Meaning.{IsTheorem}
 use Rattle.prover_main.specs.Words.{Command, prove, check, command_of}
 use Rattle.prover_main.specs.declared.answer.Answer.{Answer}
 use Rattle.prover_main.specs.declared.answer.Answer.TheVariants.{Refuted, Saturated, Spent, Heavy, Accepted, Refused}
@@ -136,18 +136,17 @@ HasGivenUp options formulas =
 abbrev pub HasSaturation : Options → List Annotated → Type 0
 HasSaturation options formulas = (members : List ℕ) × IsSaturation formulas options members
 
--- What 0, 1 and 2 say of the problem: 0 comes only where every finite interpretation that makes the axioms true makes the conjecture true,
--- and without a conjecture none makes them true; and where some finite list of ground instances of its clausal form is true in no
--- interpretation, and 1 and 2 only where some lawful history of its clausal form and the options ends so; with 1 its members are saturated for the form.
+-- some finite list of ground instances of the clausal form is true in no interpretation, and the problem is a theorem
+abbrev pub IsRefutedTheorem : List Annotated → Type 0
+IsRefutedTheorem formulas = IsHerbrandRefuted formulas × IsTheorem formulas
+
+-- What 0, 1 and 2 say of the problem: 0 comes only where it is refuted and a theorem, and 1 and 2 only where some lawful history of its
+-- clausal form and the options ends so; with 1 its members are saturated for the form.
 pub record StatusesAreTrue : Type 0 where
   pub refuted :
       (words : List (List ℕ)) (outside : Outside) (taken : Taken) (status : ℕ) (command : Command)
       → command_of words ≡ Some command → IsRun words outside taken status → status ≡ 0
-      → OfFormed outside (source_of command) IsHerbrandRefuted
-  pub proved :
-      (words : List (List ℕ)) (outside : Outside) (taken : Taken) (status : ℕ) (command : Command)
-      → command_of words ≡ Some command → IsRun words outside taken status → status ≡ 0
-      → OfFormed outside (source_of command) (λ formulas. ConjectureFollows formulas × (IsFalse (asks formulas) → AxiomsUnsatisfiable formulas))
+      → OfFormed outside (source_of command) IsRefutedTheorem
   pub gave_up :
       (words : List (List ℕ)) (outside : Outside) (taken : Taken) (status : ℕ) (source : Source) (options : Options)
       → command_of words ≡ Some (prove source.file source.root options) → IsRun words outside taken status → status ≡ 2

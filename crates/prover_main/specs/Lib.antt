@@ -2,6 +2,7 @@ pub mod Words
 pub mod WordParts
 pub mod Outside
 pub mod Names
+pub mod Meaning
 pub mod Answer
 pub mod AnswerShape
 pub mod Reports

@@ -6,6 +6,7 @@ ghost use Rattle.signature.specs.Form.{clausal_form};
 ghost use Rattle.clausal_form.specs.Form.{form_of};
 ghost use Rattle.prover_main.specs.Outside.{outside_by};
 ghost use Rattle.prover_main.specs.Answer.{IsCheckAnswer, IsJudgement};
+ghost use Rattle.prover_main.specs.AnswerShape.{WasRead};
 
 use crate::answer::Answer;
 use crate::problem::{FormedProblem, formed_problem};
@@ -48,6 +49,7 @@ pub fn check_answer<L: Library>(
 
 /// The answer on the text of a derivation.
 fn judged(alloc: Global, formed: &FormedProblem, text: &[u8]) -> Mem<Answer>
+    requires read { WasRead formed.now.problem }
     requires form { form_of formed.now.form ≡ clausal_form formed.now.problem.formulas }
     requires small { length text.now ≤ MOST_TEXT_BYTES }
     ensures { IfOk result (λ answer. IsJudgement formed.now.problem.formulas text.now answer) }

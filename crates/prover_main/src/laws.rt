@@ -14,10 +14,14 @@ ghost use Rattle.prover_main.specs.declared.answer.Answer.TheVariants.{Refuted, 
 ghost use Rattle.literal_selection.specs.declared.choice.Selection.TheVariants.{Nothing};
 ghost use Rattle.prover_main.specs.Words.{command_of, prove, check};
 ghost use Rattle.prover_main.specs.Names.{shown, problem_name};
-ghost use Rattle.prover_main.specs.Answer.{has_conjecture};
+ghost use Rattle.signature.specs.Examples.{clause, fof_axiom};
+ghost use Rattle.signature.specs.Form.{clausal_form};
+ghost use Rattle.form_truth.specs.Meaning.{has_conjecture};
+ghost use Rattle.form_truth.specs.Examples.{hiding_alone, every_p, some_p, contradiction, proving};
+ghost use Rattle.prover_main.specs.Meaning.{FormMeans, IsTheorem};
 ghost use Rattle.prover_main.specs.Reports.{status_of, read_status, read_status_word, report_of, memory_out_report, usage_report, read_word, form_word, limit_word, cause_word};
 ghost use Rattle.prover_main.specs.Laws.{is_exact, IsTold, ChecksHaveOneAnswer, FaultsAreTheOnlyAnswer, UsageIsTold, CommandsAreAnswered, FaultsAreCounted, FaultsComeForCauses, StatusesAreTrue, FormedIsValid, ValidProblemsAreAnswered, LoadedDerivationsAreAnswered};
-ghost use Rattle.prover_main.specs.Examples.{counting, formula_in, holding_nothing, AreWritesBy, DeliversInPiecesBy};
+ghost use Rattle.prover_main.specs.Examples.{counting, formula_in, hiding_with, holding_nothing, AreWritesBy, DeliversInPiecesBy};
 ghost use Rattle.prover_main.specs.Run.{IsDue};
 ghost use Rattle.prover_main.specs.declared.status.TheConstants.{SINK_FAILED, USAGE_SHOWN, MEMORY_OUT};
 
@@ -44,9 +48,8 @@ pub fn statuses_come_for_causes()
     texts_have_one_answer();
 }
 
-/// Soundness: 0 comes only where every finite interpretation that makes the axioms true makes the conjecture true, and
-/// without a conjecture none makes them true; some finite list of ground instances of the clausal form is then true in no
-/// interpretation. And 1 and 2 only where some lawful history of that form and the options ends so; with 1 the living awake clauses are
+/// Soundness: 0 comes only where some finite list of ground instances of the clausal form is true in no interpretation; so every
+/// finite interpretation that makes the axioms true makes the conjecture true, and without a conjecture none makes them true. And 1 and 2 only where some lawful history of that form and the options ends so; with 1 the living awake clauses are
 /// saturated for the form.
 pub fn statuses_are_true()
     ensures { StatusesAreTrue }
@@ -203,6 +206,18 @@ pub fn conjecture_examples()
     ensures none { has_conjecture (formula_in Axiom ∷ formula_in NegatedConjecture ∷ []) ≡ false }
     ensures first { has_conjecture (formula_in Conjecture ∷ formula_in Axiom ∷ []) ≡ true }
     ensures last { has_conjecture (formula_in Axiom ∷ formula_in Conjecture ∷ []) ≡ true }
+{}
+
+/// A form means its formulas, and wouldn't without a clause, or with the empty one. `! [X] : p(X)` is a theorem where it is an axiom, and
+/// not where `? [X] : p(X)` is; without a conjecture, an axiom with its negation is one, and `! [X] : p(X)` alone isn't.
+pub fn meaning_examples()
+    ensures form { FormMeans hiding_alone (clausal_form hiding_alone) }
+    ensures no_clause { FormMeans hiding_alone (hiding_with []) → ⊥ }
+    ensures empty_clause { FormMeans hiding_alone (hiding_with (clause [] ∷ [])) → ⊥ }
+    ensures theorem { IsTheorem (proving every_p every_p) }
+    ensures no_theorem { IsTheorem (proving some_p every_p) → ⊥ }
+    ensures unsatisfiable { IsTheorem (contradiction every_p) }
+    ensures satisfiable { IsTheorem (fof_axiom every_p ∷ []) → ⊥ }
 {}
 
 /// Counts of faults that rose, or stand at the end of their type, and others. What a library tells counts where its count stayed.

@@ -2,7 +2,9 @@
 
 ghost use Rattle.std.specs.Prelude.{◌≡◌, ◌≤◌, IfOk, IfErr};
 ghost use Rattle.std.specs.Option.{option_copied};
+ghost use Rattle.clausal_form.specs.Form.{form_of};
 ghost use Rattle.prover_main.specs.Outside.{outside_by};
+ghost use Rattle.prover_main.specs.Meaning.{FormMeans};
 ghost use Rattle.prover_main.specs.AnswerShape.{IsFormedFrom, IsReadFrom, IsStop, IsStopAnswer};
 
 use crate::answer::Answer;
@@ -66,7 +68,7 @@ pub fn problem_in<L: Library>(
     }
 }
 
-/// Reads the problem of a file, and brings it to clausal form.
+/// Reads the problem of a file, and brings it to clausal form, which means the same in finite interpretations.
 pub fn formed_problem<L: Library>(
     alloc: Global,
     library: &mut L,
@@ -75,6 +77,7 @@ pub fn formed_problem<L: Library>(
 ) -> Result<FormedProblem, Stop>
     ensures formed { IfOk result (IsFormedFrom (L.told library.old)
         (record { file = file.now; root = option_copied root.entry })) }
+    ensures means { IfOk result (λ formed. FormMeans formed.problem.formulas (form_of formed.form)) }
     ensures stopped { IfErr result (IsStop
         (outside_by L.told L.faults L.found L.failed library.old library.new)
         (record { file = file.now; root = option_copied root.entry })) }

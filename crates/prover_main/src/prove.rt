@@ -2,11 +2,12 @@
 
 ghost use Rattle.std.specs.Prelude.{◌≡◌, false, IfOk, IsTrue};
 ghost use Rattle.std.specs.Option.{option_copied};
+ghost use Rattle.form_truth.specs.Meaning.{has_conjecture};
 ghost use Rattle.pool_core.specs.Inputs.{IsLimit};
 ghost use Rattle.prover_main.specs.Words.{is_filled};
 ghost use Rattle.prover_main.specs.Outside.{outside_by};
 ghost use Rattle.prover_main.specs.Names.{shown};
-ghost use Rattle.prover_main.specs.Answer.{IsProveAnswer, IsProofAnswer, has_conjecture};
+ghost use Rattle.prover_main.specs.Answer.{IsProveAnswer, IsProofAnswer};
 ghost use Rattle.prover_main.specs.AnswerShape.{IsProvedProblem, WasRead};
 
 use crate::answer::Answer;

@@ -1,9 +1,12 @@
 // A problem from its formulas to the outcome of a pool.
 
-ghost use Rattle.std.specs.Prelude.{◌≡◌, false, IfOk, IfErr};
+ghost use Rattle.std.specs.Prelude.{◌≡◌, false, IfOk, IfErr, IsTrue};
 ghost use Rattle.tptp_tree.specs.ProblemSize.{HasProblemSize};
+ghost use Rattle.clausal_form.specs.Form.{form_of};
+ghost use Rattle.form_truth.specs.Meaning.{are_closed};
 ghost use Rattle.pool_core.specs.Inputs.{IsLimit};
 ghost use Rattle.pool_core.specs.Replay.{replay};
+ghost use Rattle.prover_main.specs.Meaning.{FormMeans};
 ghost use Rattle.prover_main.specs.AnswerShape.{IsProvedProblem, IsProveFault, OutcomeSays};
 
 use clausal_form::{Clausal, FormCause, FormFault, clausal};
@@ -34,7 +37,7 @@ pub enum ProveFault {
 }
 
 /// Brings a problem to clausal form, and works on a pool of its clauses until an outcome stands. Clauses aren't split. What
-/// the outcome says of the problem is told here; that the members of a saturated pool are saturated stands by the laws of saturation.
+/// the form and the outcome say of the problem is told here; that the members of a saturated pool are saturated stands by the laws of saturation.
 pub fn prove_problem<R: Wait>(
     rt: &R,
     alloc: Global,
@@ -45,6 +48,7 @@ pub fn prove_problem<R: Wait>(
     requires limit { IsLimit options }
     requires unsplit { options.split ≡ false }
     ensures proved { IfOk result (IsProvedProblem problem.now.formulas options) }
+    ensures means { IfOk result (λ p. IsTrue (are_closed problem.now.formulas) → FormMeans problem.now.formulas (form_of p.form)) }
     ensures says { IfOk result (λ p. OutcomeSays problem.now.formulas options (replay p.pool.origin p.pool.history) p.outcome) }
     ensures refused { IfErr result (IsProveFault problem.now.formulas) }
 {

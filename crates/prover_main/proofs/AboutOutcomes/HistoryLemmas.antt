@@ -11,9 +11,10 @@ use Rattle.kernel_steps.specs.Keys.{key_text}
 use Rattle.kernel_steps.specs.declared.key.Key.{Key}
 use Rattle.kernel_steps.specs.declared.key.Key.TheVariants.{Replaced}
 use Rattle.clausal_form.specs.DerivationTexts.{IsAcceptedDerivation}
-use Rattle.clausal_form.specs.FormFunctions.{is_predicate_in}
+use Rattle.clausal_form.specs.FormFunctions.{is_predicate_in, IsHerbrandRefuted}
 use Rattle.clausal_form.proofs.AboutForms.WellFormedLemmas.{forms-are-well-formed}
 use Rattle.clausal_form.proofs.AboutDerivations.RefutationLemmas.{accepted_derivations_refute}
+use Rattle.form_truth.specs.Meaning.{are_closed, has_conjecture}
 use Rattle.pool_core.specs.Inputs.{IsHistoryOf, IsUseOf}
 use Rattle.pool_core.specs.Laws.{IsCounted, IsHeavyAmong}
 use Rattle.pool_core.specs.Lawful.{IsLawful}
@@ -31,9 +32,10 @@ use Rattle.proving.proofs.EndLemmas.{outcomes-have-causes}
 use Rattle.pool_writer.specs.Refuted.{IsRefutationText}
 use Rattle.retracing.specs.Retraced.{steps_of}
 use Rattle.prover_main.specs.Names.{shown}
-use Rattle.prover_main.specs.Answer.{has_conjecture, HasHistory, IsRefuted, HasCounted, IsSpent, IsHeavy}
+use Rattle.prover_main.specs.Answer.{HasHistory, IsRefuted, HasCounted, IsSpent, IsHeavy}
 use Rattle.prover_main.specs.AnswerShape.{IsProvedProblem}
 use Rattle.prover_main.specs.declared.proved.Proved.{Proved}
+use Rattle.prover_main.proofs.AboutOutcomes.TheoremLemmas.{refuted-theorem}
 
 module _ (formulas : List Annotated) (options : Options) (proved : Proved) (is : IsProvedProblem formulas options proved) where
   -- what the pool's history amounts to
@@ -68,18 +70,21 @@ module _ (formulas : List Annotated) (options : Options) (proved : Proved) (is :
 
   pub is-refuted :
       (file name text : List ℕ) (conjecture : Bool)
-      → proved.outcome ≡ outcome.Refuted → conjecture ≡ has_conjecture formulas → name ≡ shown file
+      → IsTrue (are_closed formulas) → proved.outcome ≡ outcome.Refuted → conjecture ≡ has_conjecture formulas → name ≡ shown file
       → IsRefutationText name formulas (steps_of ended.lines) text → (count : ℕ) × IsAcceptedDerivation formulas text count
       → IsRefuted file formulas options conjecture text
-  is-refuted file name text conjecture same told is_shown printed accepted = record {
-    r = ended;
-    history = has-history outcome.Refuted same;
-    printed = subst (λ word. IsRefutationText word formulas (steps_of ended.lines) text) is_shown printed;
-    conjecture_is = told;
-    count = accepted.0;
-    accepted = accepted.1;
-    herbrand = accepted_derivations_refute formulas text accepted.0 accepted.1;
-  }
+  is-refuted file name text conjecture closed same told is_shown printed accepted =
+      let refuted : IsHerbrandRefuted formulas = accepted_derivations_refute formulas text accepted.0 accepted.1 in
+      record {
+        r = ended;
+        history = has-history outcome.Refuted same;
+        printed = subst (λ word. IsRefutationText word formulas (steps_of ended.lines) text) is_shown printed;
+        conjecture_is = told;
+        count = accepted.0;
+        accepted = accepted.1;
+        herbrand = refuted;
+        theorem = refuted-theorem formulas closed refuted;
+      }
 
   pub has-counted : (count : ℕ) → proved.outcome ≡ outcome.Spent count → HasCounted formulas options count ended
   has-counted count same =

@@ -6,12 +6,12 @@ use Rattle.pool_core.specs.declared.outcome.Outcome.{Outcome}
 use Rattle.pool_core.specs.declared.outcome.Outcome.TheVariants.{Refuted, Saturated, Spent, Heavy}
 use Rattle.saturation.specs.Laws.{SaturatedIsSaturated}
 use Rattle.clausal_form.specs.FormFunctions.{IsHerbrandRefuted}
-use Rattle.form_truth.proofs.AboutForms.ConsequenceLemmas.{refuted_conjectures_follow}
 use Rattle.prover_main.specs.AnswerShape.{IsProvedProblem, OutcomeSays}
 use Rattle.prover_main.specs.declared.proved.Proved.{Proved}
 use Rattle.prover_main.proofs.AboutOutcomes.HistoryLemmas.{ended, has-counted, heavy-cause}
 use Rattle.prover_main.proofs.AboutOutcomes.RefutedLemmas.{herbrand-refuted}
 use Rattle.prover_main.proofs.AboutOutcomes.SaturatedLemmas.{ended-saturated}
+use Rattle.prover_main.proofs.AboutOutcomes.TheoremLemmas.{refuted-theorem}
 
 pub outcome-says :
     (formulas : List Annotated) (options : Options) (proved : Proved) (is : IsProvedProblem formulas options proved)
@@ -19,7 +19,7 @@ pub outcome-says :
     → OutcomeSays formulas options (ended formulas options proved is) o
 outcome-says formulas options proved is unsplit saturates Refuted same =
     let refuted : IsHerbrandRefuted formulas = herbrand-refuted formulas options proved is same unsplit in
-    (refuted, λ closed. refuted_conjectures_follow formulas closed refuted)
+    (refuted, λ closed. refuted-theorem formulas closed refuted)
 outcome-says formulas options proved is unsplit saturates Saturated same = ended-saturated formulas options proved is same unsplit saturates
 outcome-says formulas options proved is unsplit saturates (Spent count) same = has-counted formulas options proved is count same
 outcome-says formulas options proved is unsplit saturates (Heavy place) same = heavy-cause formulas options proved is place same

@@ -2,7 +2,6 @@
 use Rattle.std.proofs.Common.{◌≡◌, ℕ, List, Some, refl, ap, sym, ◌∙◌, subst}
 use Rattle.std.specs.Prelude.{false, All}
 use Rattle.std.proofs.lemmas.List.Elements.{All-from_recursion}
-use Rattle.fol_base.specs.Clause.{TreeClause}
 use Rattle.fol_base.specs.Symbols.{FunctionSymbols}
 use Rattle.fol_base.specs.WellFormed.{SymbolUse, WellFormed}
 use Rattle.tptp_tree.specs.declared.problem.Annotated.{Annotated}
@@ -14,7 +13,7 @@ use Rattle.clausal_form.specs.FormFunctions.{is_predicate_in, OwnFunctions}
 use Rattle.clausal_form.specs.FormLaws.{use_of}
 use Rattle.clausal_form.proofs.AboutForms.FunctionLemmas.{form-functions}
 use Rattle.clausal_form.proofs.AboutForms.WellFormedLemmas.{forms-are-well-formed}
-use Rattle.pool_core.specs.Inputs.{AreInputs, IsHistoryOf, IsUseOf}
+use Rattle.pool_core.specs.Inputs.{AreInputs, IsUseOf}
 use Rattle.pool_core.specs.Lawful.{IsLawful}
 use Rattle.pool_core.specs.Outcomes.{outcome_of}
 use Rattle.pool_core.specs.Record.{PoolRecord}

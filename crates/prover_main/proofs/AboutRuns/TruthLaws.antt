@@ -1,11 +1,5 @@
 -- What the statuses 0, 1 and 2 of runs say of the problem.
 use Rattle.std.proofs.Common.{◌≡◌, ◌⊎◌, inl, inr, ℕ, List, Some, sym, ◌∙◌, arith}
-use Rattle.clausal_form.specs.FormFunctions.{IsHerbrandRefuted}
-use Rattle.tptp_tree.specs.declared.problem.Annotated.{Annotated}
-use Rattle.std.specs.Prelude.{IsFalse, IsTrue}
-use Rattle.form_truth.specs.Meaning.{are_closed, ConjectureFollows, AxiomsUnsatisfiable, has_conjecture}
-use Rattle.form_truth.proofs.AboutForms.ConsequenceLemmas.{refuted_conjectures_follow, refuted_axioms_are_unsatisfiable}
-use Rattle.form_truth.proofs.AboutReading.ClosedLemmas.{read_problems_are_closed}
 use Rattle.tptp_reader.specs.declared.cause.ReadCause.{ReadCause}
 use Rattle.tptp_reader.specs.declared.cause.ReadCause.TheVariants.{Inappropriate, Load}
 use Rattle.pool_core.specs.declared.options.Options.{Options}
@@ -16,7 +10,7 @@ use Rattle.prover_main.specs.declared.answer.Answer.{Answer}
 use Rattle.prover_main.specs.declared.answer.Answer.TheVariants.{Refuted, Saturated, Spent, Heavy, Accepted, Refused, Unloaded, Unread, Unformed}
 use Rattle.prover_main.specs.Reports.{status_of, read_status}
 use Rattle.prover_main.specs.Run.{Taken, IsRun}
-use Rattle.prover_main.specs.Laws.{EndsWith, EndsInMemoryOut, source_of, HasGivenUp, HasSaturation, StatusesAreTrue}
+use Rattle.prover_main.specs.Laws.{EndsWith, EndsInMemoryOut, source_of, IsRefutedTheorem, HasGivenUp, HasSaturation, StatusesAreTrue}
 use Rattle.prover_main.proofs.AboutRuns.RunLaws.{commands-are-answered}
 
 cause-not-zero : (c : ReadCause) → read_status c ≡ 0 → ⊥
@@ -36,9 +30,10 @@ cause-not-two c e = omega (arith, e)
 
 zero-refutes :
     (outside : Outside) (command : Command) (a : Answer) → IsAnswer outside command a → status_of a ≡ 0
-    → OfFormed outside (source_of command) IsHerbrandRefuted
-zero-refutes outside (prove file root options) (Refuted c d) h s = record { formulas = h.formulas; formed = h.formed; says = h.says.herbrand }
-zero-refutes outside (check file derivation root) (Accepted n) h s = record { formulas = h.formulas; formed = h.formed; says = h.says.judgement.1 }
+    → OfFormed outside (source_of command) IsRefutedTheorem
+zero-refutes outside (prove file root options) (Refuted c d) h s =
+    record { formulas = h.formulas; formed = h.formed; says = (h.says.herbrand, h.says.theorem) }
+zero-refutes outside (check file derivation root) (Accepted n) h s = record { formulas = h.formulas; formed = h.formed; says = (h.says.judgement.1, h.says.judgement.2) }
 zero-refutes outside (prove file root options) (Accepted n) h s = absurd h.says
 zero-refutes outside (check file derivation root) (Refuted c d) h s = absurd h.says.judgement
 zero-refutes outside command (Unread c f p) h s = absurd (cause-not-zero c s)
@@ -48,21 +43,6 @@ zero-refutes outside command (Saturated c m) h s = absurd (omega (arith, s))
 zero-refutes outside command (Refused n c) h s = absurd (omega (arith, s))
 zero-refutes outside command (Unloaded n) h s = absurd (omega (arith, s))
 zero-refutes outside command (Unformed c n) h s = absurd (omega (arith, s))
-
--- what the refutation of a problem that was read says of its formulas
-refuted-proves :
-    (outside : Outside) (source : Source) → OfFormed outside source IsHerbrandRefuted
-    → OfFormed outside source (λ formulas. ConjectureFollows formulas × (IsFalse (has_conjecture formulas) → AxiomsUnsatisfiable formulas))
-refuted-proves outside source h =
-    let closed : IsTrue (are_closed h.formulas) = read_problems_are_closed outside.told source.file source.root h.formulas h.formed.read in
-    record {
-      formulas = h.formulas;
-      formed = h.formed;
-      says = (
-        refuted_conjectures_follow h.formulas closed h.says,
-        λ none. refuted_axioms_are_unsatisfiable h.formulas closed none h.says,
-      );
-    }
 
 two-gives-up :
     (outside : Outside) (source : Source) (options : Options) (a : Answer)
@@ -112,9 +92,6 @@ statuses-are-true = record {
   refuted = λ words outside taken status command e r s.
       let x = answered words outside taken status 0 command e r s (λ f. omega (arith, f)) (λ f. omega (arith, f)) in
       zero-refutes outside command x.0 x.1 x.2;
-  proved = λ words outside taken status command e r s.
-      let x = answered words outside taken status 0 command e r s (λ f. omega (arith, f)) (λ f. omega (arith, f)) in
-      refuted-proves outside (source_of command) (zero-refutes outside command x.0 x.1 x.2);
   gave_up = λ words outside taken status source options e r s.
       let x = answered words outside taken status 2 (prove source.file source.root options) e r s (λ f. omega (arith, f)) (λ f. omega (arith, f)) in
       two-gives-up outside source options x.0 x.1 x.2;

@@ -1,8 +1,9 @@
 use Rattle.std.proofs.Common.{refl, ap, subst, sym, ◌∙◌, Some}
 use Rattle.tstp_writer.specs.Printable.{IsShown}
-use Rattle.prover_main.specs.Answer.{has_conjecture}
+use Rattle.form_truth.specs.Meaning.{has_conjecture}
 use Rattle.prover_main.proofs.AboutOutcomes.HistoryLemmas.{heavy-there, inputs-are, is-heavy, is-refuted, is-spent}
 use Rattle.prover_main.proofs.AboutOutcomes.SaturatedLemmas.{is-saturation}
+use Rattle.prover_main.proofs.AboutOutcomes.TheoremLemmas.{read-closed}
 use Rattle.prover_main.proofs.AboutPages.TextLemmas.{file-shown, read-printable}
 use Rattle.prover_main.proofs.prove.proof_answer.Goals as goal
 
@@ -25,7 +26,7 @@ heavy_key-key-requires c = heavy-there c.args.problem.now.formulas c.args.option
 pub returns-in_ok-derivation-in-Refuted : goal.returns-in_ok-derivation-in-Refuted
 returns-in_ok-derivation-in-Refuted c =
     is-refuted c.args.problem.now.formulas c.args.options c.args.proved.now c.requires.proved c.args.file.now c.as_slice-in-Refuted.result.now
-    c.in_ok-derivation-in-Refuted.derivation c.has_conjecture-conjecture.result c.in-Refuted.is (c.has_conjecture-conjecture.ensures ∙ ap has_conjecture c.as_slice.ensures)
+    c.in_ok-derivation-in-Refuted.derivation c.has_conjecture-conjecture.result (read-closed c.args.problem.now c.requires.read) c.in-Refuted.is (c.has_conjecture-conjecture.ensures ∙ ap has_conjecture c.as_slice.ensures)
     (c.as_slice-in-Refuted.ensures ∙ c.in_ok-name-in-Refuted.ensures) c.in_ok-derivation-in-Refuted.ensures.written c.in_ok-derivation-in-Refuted.ensures.accepted
 
 pub returns-in-Spent : goal.returns-in-Spent

@@ -5,6 +5,7 @@ use Rattle.pool_core.specs.Inputs.{AreInputs}
 use Rattle.proving.specs.Proved.{IsProvedFrom}
 use Rattle.prover_main.proofs.AboutOutcomes.FormInputs.{form-inputs}
 use Rattle.prover_main.proofs.AboutOutcomes.OutcomeLemmas.{outcome-says}
+use Rattle.prover_main.proofs.AboutOutcomes.TheoremLemmas.{form-means}
 use Rattle.prover_main.proofs.proved.prove_problem.Goals as goal
 
 pub prove_clauses-requires-clause-inputs : goal.prove_clauses-requires-clause-inputs
@@ -25,3 +26,6 @@ returns-in-Ok-prove_clauses-clause-says g c =
     })
     (record { within = c.in-Ok.ensures.within; form = c.in-Ok.ensures.form; pool = pool }) c.requires.unsplit c.saturated_is_saturated.ensures
     c.in-Ok-prove_clauses.proved.outcome refl
+
+pub returns-in-Ok-prove_clauses-clause-means : goal.returns-in-Ok-prove_clauses-clause-means
+returns-in-Ok-prove_clauses-clause-means g c = form-means c.args.problem.now.formulas _ c.in-Ok.ensures.form
