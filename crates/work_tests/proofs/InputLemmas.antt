@@ -1,0 +1,90 @@
+-- The clauses of the tests are inputs of a pool.
+use Rattle.std.proofs.Common.{◌≡◌, ◌≤◌, ◌==◌, ◌+◌, false, List, [], ◌∷◌, length, refl, lit≤}
+use Rattle.std.specs.Prelude.{All, IsTrue, sum_by, if◌then◌else◌}
+use Rattle.std.specs.List.{list_all}
+use Rattle.std.proofs.lemmas.List.Elements.{All-nil, All-cons, All-weaker}
+use Rattle.fol_base.specs.Clause.{TreeClause, clause_size}
+use Rattle.fol_base.specs.Canonical.{IsCanonical}
+use Rattle.fol_base.specs.Examples.{x, a, b, c, f, f₂, g, p, q, r, equation, clause, use_of_symbols}
+use Rattle.fol_base.specs.Rules.{disequation}
+use Rattle.fol_base.specs.WellFormed.{SymbolUse, are_literals_of}
+use Rattle.fol_base.specs.declared.limits.TheConstants.{MOST_SYMBOLS, MOST_FORM_SYMBOLS}
+use Rattle.pool_core.specs.Inputs.{AreInputs}
+use Rattle.work_tests.specs.Problems.{not_p, implying, two_values, three_values, constant_function, reducing, growing, group}
+
+-- what an input is by itself
+record IsInput (d : TreeClause) : Type 0 where
+  pub canonical : IsCanonical d
+  pub no_names : d.names ≡ []
+  pub small : clause_size d ≤ MOST_SYMBOLS
+
+inputs :
+    (usage : SymbolUse) (ds : List TreeClause)
+    → IsTrue (list_all (λ (d : TreeClause). are_literals_of usage d.literals) ds)
+    → sum_by clause_size ds + length ds ≤ MOST_FORM_SYMBOLS → All IsInput ds → AreInputs ds
+inputs usage ds used few all = record {
+  canonical = All-weaker IsInput IsCanonical (λ d (is : IsInput d). is.canonical) ds all;
+  no_names = All-weaker IsInput (λ (d : TreeClause). d.names ≡ []) (λ d (is : IsInput d). is.no_names) ds all;
+  small = All-weaker IsInput (λ (d : TreeClause). clause_size d ≤ MOST_SYMBOLS) (λ d (is : IsInput d). is.small) ds all;
+  few = few;
+  well_formed = record { usage = usage; used = used };
+}
+
+pub are_implying : AreInputs implying
+are_implying =
+    inputs use_of_symbols implying refl (lit≤ tt)
+    (All-cons IsInput (clause (p a ∷ [])) _ (record { canonical = refl; no_names = refl; small = lit≤ tt })
+    (All-cons IsInput (clause (not_p (x 0) ∷ q (x 0) ∷ [])) _ (record { canonical = refl; no_names = refl; small = lit≤ tt })
+    (All-cons IsInput (clause (r ∷ [])) _ (record { canonical = refl; no_names = refl; small = lit≤ tt }) (All-nil IsInput))))
+
+pub are_two_values : AreInputs two_values
+are_two_values =
+    inputs use_of_symbols two_values refl (lit≤ tt)
+    (All-cons IsInput (clause (equation (f a) b ∷ [])) _ (record { canonical = refl; no_names = refl; small = lit≤ tt })
+    (All-cons IsInput (clause (equation (f a) c ∷ [])) _ (record { canonical = refl; no_names = refl; small = lit≤ tt }) (All-nil IsInput)))
+
+pub are_three_values : AreInputs three_values
+are_three_values =
+    inputs use_of_symbols three_values refl (lit≤ tt)
+    (All-cons IsInput (clause (equation (f a) b ∷ [])) _ (record { canonical = refl; no_names = refl; small = lit≤ tt })
+    (All-cons IsInput (clause (equation b a ∷ [])) _ (record { canonical = refl; no_names = refl; small = lit≤ tt })
+    (All-cons IsInput (clause (equation (f a) c ∷ [])) _ (record { canonical = refl; no_names = refl; small = lit≤ tt }) (All-nil IsInput))))
+
+pub are_constant_function : AreInputs constant_function
+are_constant_function =
+    inputs use_of_symbols constant_function refl (lit≤ tt)
+    (All-cons IsInput (clause (equation (f a) c ∷ [])) _ (record { canonical = refl; no_names = refl; small = lit≤ tt })
+    (All-cons IsInput (clause (equation (f a) b ∷ [])) _ (record { canonical = refl; no_names = refl; small = lit≤ tt })
+    (All-cons IsInput (clause (equation (f (x 0)) b ∷ [])) _ (record { canonical = refl; no_names = refl; small = lit≤ tt }) (All-nil IsInput))))
+
+pub are_reducing : AreInputs reducing
+are_reducing =
+    inputs use_of_symbols reducing refl (lit≤ tt)
+    (All-cons IsInput (clause (p a ∷ [])) _ (record { canonical = refl; no_names = refl; small = lit≤ tt })
+    (All-cons IsInput (clause (p b ∷ [])) _ (record { canonical = refl; no_names = refl; small = lit≤ tt })
+    (All-cons IsInput (clause (equation (f a) b ∷ [])) _ (record { canonical = refl; no_names = refl; small = lit≤ tt })
+    (All-cons IsInput (clause (equation (f b) c ∷ [])) _ (record { canonical = refl; no_names = refl; small = lit≤ tt })
+    (All-cons IsInput (clause (q c ∷ [])) _ (record { canonical = refl; no_names = refl; small = lit≤ tt })
+    (All-cons IsInput (clause (not_p (x 0) ∷ q (f (x 0)) ∷ [])) _ (record { canonical = refl; no_names = refl; small = lit≤ tt })
+    (All-nil IsInput)))))))
+
+pub are_growing : AreInputs growing
+are_growing =
+    inputs use_of_symbols growing refl (lit≤ tt)
+    (All-cons IsInput (clause (p a ∷ [])) _ (record { canonical = refl; no_names = refl; small = lit≤ tt })
+    (All-cons IsInput (clause (not_p (x 0) ∷ p (f (x 0)) ∷ [])) _ (record { canonical = refl; no_names = refl; small = lit≤ tt })
+    (All-nil IsInput)))
+
+-- the product has two arguments and the inverse one
+use_in_group : SymbolUse
+use_in_group = record { is_predicate = λ symbol. false; arity = λ symbol. if symbol == 4 then 2 else (if symbol == 5 then 1 else 0) }
+
+pub are_group : AreInputs group
+are_group =
+    inputs use_in_group group refl (lit≤ tt)
+    (All-cons IsInput (clause (equation (f₂ a (x 0)) (x 0) ∷ [])) _ (record { canonical = refl; no_names = refl; small = lit≤ tt })
+    (All-cons IsInput (clause (equation (f₂ (g (x 0)) (x 0)) a ∷ [])) _ (record { canonical = refl; no_names = refl; small = lit≤ tt })
+    (All-cons IsInput (clause (equation (f₂ (f₂ (x 0) (x 1)) (x 2)) (f₂ (x 0) (f₂ (x 1) (x 2))) ∷ [])) _
+    (record { canonical = refl; no_names = refl; small = lit≤ tt })
+    (All-cons IsInput (clause (disequation (f₂ b a) b ∷ [])) _ (record { canonical = refl; no_names = refl; small = lit≤ tt })
+    (All-nil IsInput)))))

@@ -1,0 +1,18 @@
+// The tests of the work on given clauses, with its batches given back to a pool, and of the loop of one worker. They stand apart, since a
+// crate with tests is proved twice, with them and without.
+#![tactic(auto)]
+
+#[cfg(test)]
+mod batches;
+#[cfg(test)]
+mod going;
+#[cfg(test)]
+mod jobs;
+#[cfg(test)]
+mod meeting;
+#[cfg(test)]
+mod problems;
+#[cfg(test)]
+mod proving_tests;
+#[cfg(test)]
+mod samples;
