@@ -18,11 +18,20 @@ record IsInput (d : TreeClause) : Type 0 where
   pub no_names : d.names ≡ []
   pub small : clause_size d ≤ MOST_SYMBOLS
 
+-- and what a list of them is
+abbrev AreEach : List TreeClause → Type 0
+AreEach [] = Unit {0}
+AreEach (d ∷ ds) = IsInput d × AreEach ds
+
+all_of : (ds : List TreeClause) → AreEach ds → All IsInput ds
+all_of [] each = All-nil IsInput
+all_of (d ∷ ds) each = All-cons IsInput d ds each.0 (all_of ds each.1)
+
 inputs :
     (usage : SymbolUse) (ds : List TreeClause)
     → IsTrue (list_all (λ (d : TreeClause). are_literals_of usage d.literals) ds)
-    → sum_by clause_size ds + length ds ≤ MOST_FORM_SYMBOLS → All IsInput ds → AreInputs ds
-inputs usage ds used few all = record {
+    → sum_by clause_size ds + length ds ≤ MOST_FORM_SYMBOLS → AreEach ds → AreInputs ds
+inputs usage ds used few each = let all = all_of ds each in record {
   canonical = All-weaker IsInput IsCanonical (λ d (is : IsInput d). is.canonical) ds all;
   no_names = All-weaker IsInput (λ (d : TreeClause). d.names ≡ []) (λ d (is : IsInput d). is.no_names) ds all;
   small = All-weaker IsInput (λ (d : TreeClause). clause_size d ≤ MOST_SYMBOLS) (λ d (is : IsInput d). is.small) ds all;
@@ -33,47 +42,51 @@ inputs usage ds used few all = record {
 pub are_implying : AreInputs implying
 are_implying =
     inputs use_of_symbols implying refl (lit≤ tt)
-    (All-cons IsInput (clause (p a ∷ [])) _ (record { canonical = refl; no_names = refl; small = lit≤ tt })
-    (All-cons IsInput (clause (not_p (x 0) ∷ q (x 0) ∷ [])) _ (record { canonical = refl; no_names = refl; small = lit≤ tt })
-    (All-cons IsInput (clause (r ∷ [])) _ (record { canonical = refl; no_names = refl; small = lit≤ tt }) (All-nil IsInput))))
+    (record { canonical = refl; no_names = refl; small = lit≤ tt },
+    record { canonical = refl; no_names = refl; small = lit≤ tt },
+    record { canonical = refl; no_names = refl; small = lit≤ tt },
+    tt)
 
 pub are_two_values : AreInputs two_values
 are_two_values =
     inputs use_of_symbols two_values refl (lit≤ tt)
-    (All-cons IsInput (clause (equation (f a) b ∷ [])) _ (record { canonical = refl; no_names = refl; small = lit≤ tt })
-    (All-cons IsInput (clause (equation (f a) c ∷ [])) _ (record { canonical = refl; no_names = refl; small = lit≤ tt }) (All-nil IsInput)))
+    (record { canonical = refl; no_names = refl; small = lit≤ tt },
+    record { canonical = refl; no_names = refl; small = lit≤ tt },
+    tt)
 
 pub are_three_values : AreInputs three_values
 are_three_values =
     inputs use_of_symbols three_values refl (lit≤ tt)
-    (All-cons IsInput (clause (equation (f a) b ∷ [])) _ (record { canonical = refl; no_names = refl; small = lit≤ tt })
-    (All-cons IsInput (clause (equation b a ∷ [])) _ (record { canonical = refl; no_names = refl; small = lit≤ tt })
-    (All-cons IsInput (clause (equation (f a) c ∷ [])) _ (record { canonical = refl; no_names = refl; small = lit≤ tt }) (All-nil IsInput))))
+    (record { canonical = refl; no_names = refl; small = lit≤ tt },
+    record { canonical = refl; no_names = refl; small = lit≤ tt },
+    record { canonical = refl; no_names = refl; small = lit≤ tt },
+    tt)
 
 pub are_constant_function : AreInputs constant_function
 are_constant_function =
     inputs use_of_symbols constant_function refl (lit≤ tt)
-    (All-cons IsInput (clause (equation (f a) c ∷ [])) _ (record { canonical = refl; no_names = refl; small = lit≤ tt })
-    (All-cons IsInput (clause (equation (f a) b ∷ [])) _ (record { canonical = refl; no_names = refl; small = lit≤ tt })
-    (All-cons IsInput (clause (equation (f (x 0)) b ∷ [])) _ (record { canonical = refl; no_names = refl; small = lit≤ tt }) (All-nil IsInput))))
+    (record { canonical = refl; no_names = refl; small = lit≤ tt },
+    record { canonical = refl; no_names = refl; small = lit≤ tt },
+    record { canonical = refl; no_names = refl; small = lit≤ tt },
+    tt)
 
 pub are_reducing : AreInputs reducing
 are_reducing =
     inputs use_of_symbols reducing refl (lit≤ tt)
-    (All-cons IsInput (clause (p a ∷ [])) _ (record { canonical = refl; no_names = refl; small = lit≤ tt })
-    (All-cons IsInput (clause (p b ∷ [])) _ (record { canonical = refl; no_names = refl; small = lit≤ tt })
-    (All-cons IsInput (clause (equation (f a) b ∷ [])) _ (record { canonical = refl; no_names = refl; small = lit≤ tt })
-    (All-cons IsInput (clause (equation (f b) c ∷ [])) _ (record { canonical = refl; no_names = refl; small = lit≤ tt })
-    (All-cons IsInput (clause (q c ∷ [])) _ (record { canonical = refl; no_names = refl; small = lit≤ tt })
-    (All-cons IsInput (clause (not_p (x 0) ∷ q (f (x 0)) ∷ [])) _ (record { canonical = refl; no_names = refl; small = lit≤ tt })
-    (All-nil IsInput)))))))
+    (record { canonical = refl; no_names = refl; small = lit≤ tt },
+    record { canonical = refl; no_names = refl; small = lit≤ tt },
+    record { canonical = refl; no_names = refl; small = lit≤ tt },
+    record { canonical = refl; no_names = refl; small = lit≤ tt },
+    record { canonical = refl; no_names = refl; small = lit≤ tt },
+    record { canonical = refl; no_names = refl; small = lit≤ tt },
+    tt)
 
 pub are_growing : AreInputs growing
 are_growing =
     inputs use_of_symbols growing refl (lit≤ tt)
-    (All-cons IsInput (clause (p a ∷ [])) _ (record { canonical = refl; no_names = refl; small = lit≤ tt })
-    (All-cons IsInput (clause (not_p (x 0) ∷ p (f (x 0)) ∷ [])) _ (record { canonical = refl; no_names = refl; small = lit≤ tt })
-    (All-nil IsInput)))
+    (record { canonical = refl; no_names = refl; small = lit≤ tt },
+    record { canonical = refl; no_names = refl; small = lit≤ tt },
+    tt)
 
 -- the product has two arguments and the inverse one
 use_in_group : SymbolUse
@@ -82,9 +95,8 @@ use_in_group = record { is_predicate = λ symbol. false; arity = λ symbol. if s
 pub are_group : AreInputs group
 are_group =
     inputs use_in_group group refl (lit≤ tt)
-    (All-cons IsInput (clause (equation (f₂ a (x 0)) (x 0) ∷ [])) _ (record { canonical = refl; no_names = refl; small = lit≤ tt })
-    (All-cons IsInput (clause (equation (f₂ (g (x 0)) (x 0)) a ∷ [])) _ (record { canonical = refl; no_names = refl; small = lit≤ tt })
-    (All-cons IsInput (clause (equation (f₂ (f₂ (x 0) (x 1)) (x 2)) (f₂ (x 0) (f₂ (x 1) (x 2))) ∷ [])) _
-    (record { canonical = refl; no_names = refl; small = lit≤ tt })
-    (All-cons IsInput (clause (disequation (f₂ b a) b ∷ [])) _ (record { canonical = refl; no_names = refl; small = lit≤ tt })
-    (All-nil IsInput)))))
+    (record { canonical = refl; no_names = refl; small = lit≤ tt },
+    record { canonical = refl; no_names = refl; small = lit≤ tt },
+    record { canonical = refl; no_names = refl; small = lit≤ tt },
+    record { canonical = refl; no_names = refl; small = lit≤ tt },
+    tt)

@@ -105,7 +105,10 @@ pub(crate) fn next_job_beside(
     ensures right { IsRightBatch pool.new.origin pool.new.history result.batch }
 {
     let job = next_job(rt, alloc, bank, pool);
-    assert!(rt; job.batch.job != held.job);
+    let is_held = job.batch.job == held.job;
+    if is_held {
+        panic!(rt; "the job is held");
+    }
     job
 }
 
@@ -165,7 +168,10 @@ pub(crate) fn take_beside<R: Wait + Abort>(
     ensures pool { IsPoolOf bank.now pool.new }
     ensures held { IsRightBatch pool.new.origin pool.new.history held.now }
 {
-    assert!(rt; batch.job != held.job);
+    let is_held = batch.job == held.job;
+    if is_held {
+        panic!(rt; "the job is held");
+    }
     take(rt, alloc, bank, pool, batch);
 }
 

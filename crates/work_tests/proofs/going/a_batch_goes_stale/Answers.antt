@@ -3,5 +3,5 @@ use Rattle.pool_core.specs.Inputs.{AreInputs}
 use Rattle.work_tests.proofs.InputLemmas.{are_three_values}
 use Rattle.work_tests.proofs.going.a_batch_goes_stale.Goals as goal
 
-pub pool_of-requires-clause-inputs : goal.pool_of-requires-clause-inputs
-pool_of-requires-clause-inputs c = subst AreInputs (sym c.three_values.ensures) are_three_values
+pub pool_of-pool-requires-clause-inputs : goal.pool_of-pool-requires-clause-inputs
+pool_of-pool-requires-clause-inputs c = subst AreInputs (sym c.three_values-inputs.ensures) are_three_values
