@@ -1,16 +1,15 @@
 -- The clauses of the tests are inputs of a pool.
-use Rattle.std.proofs.Common.{◌≡◌, ◌≤◌, ◌==◌, ◌+◌, false, List, [], ◌∷◌, length, refl, lit≤}
-use Rattle.std.specs.Prelude.{All, IsTrue, sum_by, if◌then◌else◌}
+use Rattle.std.proofs.Common.{◌≡◌, ◌≤◌, ◌+◌, List, [], ◌∷◌, length, refl, lit≤}
+use Rattle.std.specs.Prelude.{All, IsTrue, sum_by}
 use Rattle.std.specs.List.{list_all}
 use Rattle.std.proofs.lemmas.List.Elements.{All-nil, All-cons, All-weaker}
 use Rattle.fol_base.specs.Clause.{TreeClause, clause_size}
 use Rattle.fol_base.specs.Canonical.{IsCanonical}
-use Rattle.fol_base.specs.Examples.{x, a, b, c, f, f₂, g, p, q, r, equation, clause, use_of_symbols}
-use Rattle.fol_base.specs.Rules.{disequation}
+use Rattle.fol_base.specs.Examples.{use_of_symbols}
 use Rattle.fol_base.specs.WellFormed.{SymbolUse, are_literals_of}
 use Rattle.fol_base.specs.declared.limits.TheConstants.{MOST_SYMBOLS, MOST_FORM_SYMBOLS}
 use Rattle.pool_core.specs.Inputs.{AreInputs}
-use Rattle.work_tests.specs.Problems.{not_p, implying, two_values, three_values, constant_function, reducing, growing, group}
+use Rattle.work_tests.specs.Problems.{implying, two_values, three_values, constant_function, reducing}
 
 -- what an input is by itself
 record IsInput (d : TreeClause) : Type 0 where
@@ -41,62 +40,47 @@ inputs usage ds used few each = let all = all_of ds each in record {
 
 pub are_implying : AreInputs implying
 are_implying =
-    inputs use_of_symbols implying refl (lit≤ tt)
-    (record { canonical = refl; no_names = refl; small = lit≤ tt },
-    record { canonical = refl; no_names = refl; small = lit≤ tt },
-    record { canonical = refl; no_names = refl; small = lit≤ tt },
-    tt)
+    inputs use_of_symbols implying refl (lit≤ tt) (
+      record { canonical = refl; no_names = refl; small = lit≤ tt },
+      record { canonical = refl; no_names = refl; small = lit≤ tt },
+      record { canonical = refl; no_names = refl; small = lit≤ tt },
+      tt,
+    )
 
 pub are_two_values : AreInputs two_values
 are_two_values =
-    inputs use_of_symbols two_values refl (lit≤ tt)
-    (record { canonical = refl; no_names = refl; small = lit≤ tt },
-    record { canonical = refl; no_names = refl; small = lit≤ tt },
-    tt)
+    inputs use_of_symbols two_values refl (lit≤ tt) (
+      record { canonical = refl; no_names = refl; small = lit≤ tt },
+      record { canonical = refl; no_names = refl; small = lit≤ tt },
+      tt,
+    )
 
 pub are_three_values : AreInputs three_values
 are_three_values =
-    inputs use_of_symbols three_values refl (lit≤ tt)
-    (record { canonical = refl; no_names = refl; small = lit≤ tt },
-    record { canonical = refl; no_names = refl; small = lit≤ tt },
-    record { canonical = refl; no_names = refl; small = lit≤ tt },
-    tt)
+    inputs use_of_symbols three_values refl (lit≤ tt) (
+      record { canonical = refl; no_names = refl; small = lit≤ tt },
+      record { canonical = refl; no_names = refl; small = lit≤ tt },
+      record { canonical = refl; no_names = refl; small = lit≤ tt },
+      tt,
+    )
 
 pub are_constant_function : AreInputs constant_function
 are_constant_function =
-    inputs use_of_symbols constant_function refl (lit≤ tt)
-    (record { canonical = refl; no_names = refl; small = lit≤ tt },
-    record { canonical = refl; no_names = refl; small = lit≤ tt },
-    record { canonical = refl; no_names = refl; small = lit≤ tt },
-    tt)
+    inputs use_of_symbols constant_function refl (lit≤ tt) (
+      record { canonical = refl; no_names = refl; small = lit≤ tt },
+      record { canonical = refl; no_names = refl; small = lit≤ tt },
+      record { canonical = refl; no_names = refl; small = lit≤ tt },
+      tt,
+    )
 
 pub are_reducing : AreInputs reducing
 are_reducing =
-    inputs use_of_symbols reducing refl (lit≤ tt)
-    (record { canonical = refl; no_names = refl; small = lit≤ tt },
-    record { canonical = refl; no_names = refl; small = lit≤ tt },
-    record { canonical = refl; no_names = refl; small = lit≤ tt },
-    record { canonical = refl; no_names = refl; small = lit≤ tt },
-    record { canonical = refl; no_names = refl; small = lit≤ tt },
-    record { canonical = refl; no_names = refl; small = lit≤ tt },
-    tt)
-
-pub are_growing : AreInputs growing
-are_growing =
-    inputs use_of_symbols growing refl (lit≤ tt)
-    (record { canonical = refl; no_names = refl; small = lit≤ tt },
-    record { canonical = refl; no_names = refl; small = lit≤ tt },
-    tt)
-
--- the product has two arguments and the inverse one
-use_in_group : SymbolUse
-use_in_group = record { is_predicate = λ symbol. false; arity = λ symbol. if symbol == 4 then 2 else (if symbol == 5 then 1 else 0) }
-
-pub are_group : AreInputs group
-are_group =
-    inputs use_in_group group refl (lit≤ tt)
-    (record { canonical = refl; no_names = refl; small = lit≤ tt },
-    record { canonical = refl; no_names = refl; small = lit≤ tt },
-    record { canonical = refl; no_names = refl; small = lit≤ tt },
-    record { canonical = refl; no_names = refl; small = lit≤ tt },
-    tt)
+    inputs use_of_symbols reducing refl (lit≤ tt) (
+      record { canonical = refl; no_names = refl; small = lit≤ tt },
+      record { canonical = refl; no_names = refl; small = lit≤ tt },
+      record { canonical = refl; no_names = refl; small = lit≤ tt },
+      record { canonical = refl; no_names = refl; small = lit≤ tt },
+      record { canonical = refl; no_names = refl; small = lit≤ tt },
+      record { canonical = refl; no_names = refl; small = lit≤ tt },
+      tt,
+    )

@@ -2,7 +2,7 @@
 use Rattle.std.specs.Prelude.{List, [], ◌∷◌}
 use Rattle.fol_base.specs.Tree.{Tree, application, no_trees, tree_then, true_tree}
 use Rattle.fol_base.specs.Clause.{TreeLiteral, TreeClause}
-use Rattle.fol_base.specs.Examples.{x, a, b, c, f, f₂, g, p, q, r, equation, clause}
+use Rattle.fol_base.specs.Examples.{x, a, b, c, f, p, q, r, equation, clause}
 use Rattle.fol_base.specs.Rules.{disequation}
 
 -- the negation of the atom p(t)
@@ -31,16 +31,4 @@ abbrev pub reducing : List TreeClause
 reducing =
     clause (p a ∷ []) ∷ clause (p b ∷ []) ∷ clause (equation (f a) b ∷ []) ∷ clause (equation (f b) c ∷ []) ∷ clause (q c ∷ [])
     ∷ clause (not_p (x 0) ∷ q (f (x 0)) ∷ [])
-    ∷ []
-
--- p(a), and not p(x) or p(f(x))
-abbrev pub growing : List TreeClause
-growing = clause (p a ∷ []) ∷ clause (not_p (x 0) ∷ p (f (x 0)) ∷ []) ∷ []
-
--- A group with left unit a and left inverse g, in which a isn't a right unit for b.
-abbrev pub group : List TreeClause
-group =
-    clause (equation (f₂ a (x 0)) (x 0) ∷ []) ∷ clause (equation (f₂ (g (x 0)) (x 0)) a ∷ [])
-    ∷ clause (equation (f₂ (f₂ (x 0) (x 1)) (x 2)) (f₂ (x 0) (f₂ (x 1) (x 2))) ∷ [])
-    ∷ clause (disequation (f₂ b a) b ∷ [])
     ∷ []

@@ -1,12 +1,11 @@
 // Clauses that go, and the jobs that hang on them.
 
-use crate::batches::{becomes, gone, met};
+use crate::batches::{becomes, drops, gone, met, replaces};
 use crate::jobs::{
     find_stale, find_void, finish_jobs, next_job, next_job_beside, pool_of, take, take_beside,
 };
 use crate::problems::{constant_function, three_values, two_values};
 use crate::samples::{a, b, c, equation, unit};
-use pool_core::{Fate, Outcome, Redundancy};
 use term_bank::Bank;
 
 /// The second clause is rewritten by the first, whose job is out. The first then meets nothing, since the second one wasn't told to it.
@@ -68,13 +67,8 @@ fn a_clause_removes_others(rt: HostRuntime) {
     let (_, removals) = met(&rt, &third.batch);
     assert_eq!(rt; removals.len(), 2);
     let values = unit(&rt, alloc, equation(b(alloc), c(alloc)));
-    assert!(rt;
-        removals.iter().any(|removal| removal.victim == 0 && becomes(&removal.fate, 1, &values))
-    );
-    assert!(rt;
-        removals.iter().any(|removal| removal.victim == 1
-            && matches!(removal.fate, Fate::Dropped(Redundancy::Subsumed(2))))
-    );
+    assert!(rt; replaces(removals, 0, 2, &values));
+    assert!(rt; drops(removals, 1, 2));
     take_beside(&rt, alloc, &bank, &mut pool, third.batch, &first.batch);
     assert_eq!(rt; find_void(&rt, alloc, &bank, &mut pool, first.batch), 3);
 }

@@ -1,5 +1,5 @@
-// The tests of the work on given clauses, with its batches given back to a pool, and of the loop of one worker. They stand apart, since a
-// crate with tests is proved twice, with them and without.
+// The tests of the work on given clauses, with its batches given back to a pool. They stand apart, since a crate with tests is proved twice,
+// with them and without.
 #![tactic(auto)]
 
 #[cfg(test)]
@@ -12,7 +12,5 @@ mod jobs;
 mod meeting;
 #[cfg(test)]
 mod problems;
-#[cfg(test)]
-mod proving_tests;
 #[cfg(test)]
 mod samples;

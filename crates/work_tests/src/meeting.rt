@@ -2,13 +2,13 @@
 
 ghost use Rattle.std.specs.Prelude.{◌≤◌};
 
-use crate::batches::{becomes, met};
+use crate::batches::{becomes, is_subsumed, met};
 use crate::jobs::{Job, finish_jobs, next_job, pool_of, take};
 use crate::problems::{implying, reducing};
 use crate::samples::{a, b, q, unit};
 use fol_base::Side;
 use kernel_steps::Key;
-use pool_core::{Fate, Outcome, Redundancy};
+use pool_core::Outcome;
 use std::alloc::Global;
 use std::process::Abort;
 use std::sync::Wait;
@@ -88,9 +88,7 @@ fn conclusions_are_reduced(rt: HostRuntime) {
             .iter()
             .any(|entry| becomes(&entry.fate, 3, &rewritten))
     );
-    assert!(rt;
-        entries.iter().any(|entry| matches!(entry.fate, Fate::Dropped(Redundancy::Subsumed(4))))
-    );
+    assert!(rt; entries.iter().any(|entry| is_subsumed(&entry.fate, 4)));
 }
 
 /// With one inference left, the batch stops after it.

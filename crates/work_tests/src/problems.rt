@@ -1,21 +1,13 @@
 // The inputs of the tests.
 
-ghost use Rattle.std.specs.Prelude.{◌≡◌, [], ◌∷◌, map};
-ghost use Rattle.fol_base.specs.Examples.{x, g, f₂, equation, clause};
+ghost use Rattle.std.specs.Prelude.{◌≡◌, map};
 ghost use Rattle.fol_base.specs.Literal.{clause_of};
-ghost use Rattle.fol_base.specs.Term.{tree_of};
-ghost use Rattle.work_tests.specs.Problems.{implying, two_values, three_values, constant_function, reducing, growing, group};
+ghost use Rattle.work_tests.specs.Problems.{implying, two_values, three_values, constant_function, reducing};
 
-use crate::samples::{
-    F, a, b, c, disequation, either, equation, f, not_p, p, q, r, three, two, unit,
-};
-use fol_base::{Clause, Clauses, Term};
-use sample_terms::{binary, unary};
+use crate::samples::{a, b, c, either, equation, f, not_p, p, q, r, three, two, unit};
+use fol_base::{Clauses, Term};
 use std::alloc::Global;
 use std::process::Abort;
-
-/// The inverse in a group.
-const G: u32 = 5;
 
 /// `p(a)`, `~p(X0) | q(X0)` and `r`.
 pub(crate) fn implying(rt: &impl Abort, alloc: Global) -> Clauses
@@ -72,56 +64,5 @@ pub(crate) fn reducing(rt: &impl Abort, alloc: Global) -> Clauses
     let conclusion = q(rt, alloc, f(rt, alloc, Term::Var(0)));
     let rule = either(rt, alloc, condition, conclusion);
     clauses.push(rule).expect(rt, "memory");
-    clauses
-}
-
-/// `p(a)` and `~p(X0) | p(f(X0))`.
-pub(crate) fn growing(rt: &impl Abort, alloc: Global) -> Clauses
-    ensures { map clause_of result ≡ growing }
-{
-    let fact = unit(rt, alloc, p(rt, alloc, a(alloc)));
-    let condition = not_p(rt, alloc, Term::Var(0));
-    let conclusion = p(rt, alloc, f(rt, alloc, Term::Var(0)));
-    let rule = either(rt, alloc, condition, conclusion);
-    two(rt, alloc, fact, rule)
-}
-
-/// The product of two elements of a group.
-fn product(rt: &impl Abort, alloc: Global, left: Term, right: Term) -> Term
-    ensures { tree_of result ≡ f₂ (tree_of left) (tree_of right) }
-{
-    binary(alloc, F, left, right).expect(rt, "memory")
-}
-
-/// The inverse of X0.
-fn inverse(rt: &impl Abort, alloc: Global) -> Term
-    ensures { tree_of result ≡ g (x 0) }
-{
-    unary(alloc, G, Term::Var(0)).expect(rt, "memory")
-}
-
-/// The associative law.
-fn associative(rt: &impl Abort, alloc: Global) -> Clause
-    ensures { clause_of result ≡ clause (equation (f₂ (f₂ (x 0) (x 1)) (x 2)) (f₂ (x 0) (f₂ (x 1) (x 2))) ∷ []) }
-{
-    let inner = product(rt, alloc, Term::Var(0), Term::Var(1));
-    let left = product(rt, alloc, inner, Term::Var(2));
-    let inner = product(rt, alloc, Term::Var(1), Term::Var(2));
-    let right = product(rt, alloc, Term::Var(0), inner);
-    unit(rt, alloc, equation(left, right))
-}
-
-/// A group with left unit `a`, in which `a` isn't a right unit for `b`.
-pub(crate) fn group(rt: &impl Abort, alloc: Global) -> Clauses
-    ensures { map clause_of result ≡ group }
-{
-    let product_of_unit = product(rt, alloc, a(alloc), Term::Var(0));
-    let left_unit = unit(rt, alloc, equation(product_of_unit, Term::Var(0)));
-    let product_of_inverse = product(rt, alloc, inverse(rt, alloc), Term::Var(0));
-    let left_inverse = unit(rt, alloc, equation(product_of_inverse, a(alloc)));
-    let mut clauses = three(rt, alloc, left_unit, left_inverse, associative(rt, alloc));
-    let other = product(rt, alloc, b(alloc), a(alloc));
-    let goal = unit(rt, alloc, disequation(other, b(alloc)));
-    clauses.push(goal).expect(rt, "memory");
     clauses
 }

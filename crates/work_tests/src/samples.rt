@@ -3,7 +3,6 @@
 ghost use Rattle.std.specs.Prelude.{◌≡◌, [], ◌∷◌, map};
 ghost use Rattle.fol_base.specs.Examples.{a, b, c, f, p, q, r, equation, clause};
 ghost use Rattle.fol_base.specs.Literal.{clause_of, literal_of};
-ghost use Rattle.fol_base.specs.Rules.{disequation};
 ghost use Rattle.fol_base.specs.Term.{tree_of};
 ghost use Rattle.work_tests.specs.Problems.{not_p};
 
@@ -20,7 +19,7 @@ const B: u32 = 2;
 
 const C: u32 = 3;
 
-pub(crate) const F: u32 = 4;
+const F: u32 = 4;
 
 const P: u32 = 6;
 
@@ -86,16 +85,6 @@ pub(crate) fn equation(left: Term, right: Term) -> Literal
 {
     Literal {
         positive: true,
-        left,
-        right,
-    }
-}
-
-pub(crate) fn disequation(left: Term, right: Term) -> Literal
-    ensures { literal_of result ≡ disequation (tree_of left) (tree_of right) }
-{
-    Literal {
-        positive: false,
         left,
         right,
     }
