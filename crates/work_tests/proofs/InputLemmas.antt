@@ -42,45 +42,69 @@ pub are_implying : AreInputs implying
 are_implying =
     inputs use_of_symbols implying refl (lit≤ tt) (
       record { canonical = refl; no_names = refl; small = lit≤ tt },
-      record { canonical = refl; no_names = refl; small = lit≤ tt },
-      record { canonical = refl; no_names = refl; small = lit≤ tt },
-      tt,
+      (
+        record { canonical = refl; no_names = refl; small = lit≤ tt },
+        (
+          record { canonical = refl; no_names = refl; small = lit≤ tt },
+          tt,
+        ),
+      ),
     )
 
 pub are_two_values : AreInputs two_values
 are_two_values =
     inputs use_of_symbols two_values refl (lit≤ tt) (
       record { canonical = refl; no_names = refl; small = lit≤ tt },
-      record { canonical = refl; no_names = refl; small = lit≤ tt },
-      tt,
+      (
+        record { canonical = refl; no_names = refl; small = lit≤ tt },
+        tt,
+      ),
     )
 
 pub are_three_values : AreInputs three_values
 are_three_values =
     inputs use_of_symbols three_values refl (lit≤ tt) (
       record { canonical = refl; no_names = refl; small = lit≤ tt },
-      record { canonical = refl; no_names = refl; small = lit≤ tt },
-      record { canonical = refl; no_names = refl; small = lit≤ tt },
-      tt,
+      (
+        record { canonical = refl; no_names = refl; small = lit≤ tt },
+        (
+          record { canonical = refl; no_names = refl; small = lit≤ tt },
+          tt,
+        ),
+      ),
     )
 
 pub are_constant_function : AreInputs constant_function
 are_constant_function =
     inputs use_of_symbols constant_function refl (lit≤ tt) (
       record { canonical = refl; no_names = refl; small = lit≤ tt },
-      record { canonical = refl; no_names = refl; small = lit≤ tt },
-      record { canonical = refl; no_names = refl; small = lit≤ tt },
-      tt,
+      (
+        record { canonical = refl; no_names = refl; small = lit≤ tt },
+        (
+          record { canonical = refl; no_names = refl; small = lit≤ tt },
+          tt,
+        ),
+      ),
     )
 
 pub are_reducing : AreInputs reducing
 are_reducing =
     inputs use_of_symbols reducing refl (lit≤ tt) (
       record { canonical = refl; no_names = refl; small = lit≤ tt },
-      record { canonical = refl; no_names = refl; small = lit≤ tt },
-      record { canonical = refl; no_names = refl; small = lit≤ tt },
-      record { canonical = refl; no_names = refl; small = lit≤ tt },
-      record { canonical = refl; no_names = refl; small = lit≤ tt },
-      record { canonical = refl; no_names = refl; small = lit≤ tt },
-      tt,
+      (
+        record { canonical = refl; no_names = refl; small = lit≤ tt },
+        (
+          record { canonical = refl; no_names = refl; small = lit≤ tt },
+          (
+            record { canonical = refl; no_names = refl; small = lit≤ tt },
+            (
+              record { canonical = refl; no_names = refl; small = lit≤ tt },
+              (
+                record { canonical = refl; no_names = refl; small = lit≤ tt },
+                tt,
+              ),
+            ),
+          ),
+        ),
+      ),
     )
