@@ -1,3 +1,7 @@
+-- A map of the proofs, by topic; what is proved of one function stands in the folder of its module.
+-- InputLemmas: the clauses of the tests are inputs of a pool.
 mod InputLemmas
+-- ResolvingLemmas: the batches of the tests by which a literal t != t goes are right.
 mod ResolvingLemmas
+-- SubsumingLemmas: the batches of the tests by which a clause goes that another subsumes are right.
 mod SubsumingLemmas

@@ -1,1 +1,3 @@
+-- A map of the proofs, by topic; what is proved of one function stands in the folder of its module.
+-- Parity: numbers as doubles of their halves, with one more for odd ones.
 pub mod Parity
