@@ -287,11 +287,18 @@ module _ {S E O : Type 0} (history_of : S → List E) (origin_of : S → O) (key
             (λ n from below. ⊎_elim
             (λ (l : n < length old). still_owned s.views id me.0 w at (Contains-append_left me.0.own (added_places old log)) n
             (r.owned n from (let d : length old ≡ length r.log = ap length h.2 in omega (arith, l, d))))
-            (λ (l : length old ≤ n). (id, w, set_there s.views id me.0 w at,
-              Contains-append_right me.0.own (added_places old log) n (range_has (length old) (length log - length old) n l (omega (arith, below)))))
+            (λ (l : length old ≤ n). (
+              id,
+              w,
+              set_there s.views id me.0 w at,
+              Contains-append_right me.0.own (added_places old log) n (range_has (length old) (length log - length old) n l (omega (arith, below))),
+            ))
             (cases_lt n (length old))),
-        λ y old' carries' holds'. (same_raise y old' (same_state y (sym carries ∙ carries')) (same_Some old old' (sym holds ∙ holds')),
-          let live = mine.live h.3 in subst (λ (l : List E). AreAdded l log w.own) (sym live.start) live.added, (mine.live h.3).keys),
+        λ y old' carries' holds'. (
+          same_raise y old' (same_state y (sym carries ∙ carries')) (same_Some old old' (sym holds ∙ holds')),
+          let live = mine.live h.3 in subst (λ (l : List E). AreAdded l log w.own) (sym live.start) live.added,
+          (mine.live h.3).keys,
+        ),
       )
     where
       same_state : (y : S) → ◌≡◌ {A = List (ℕ × Option S)} ((0, Some x) ∷ []) ((0, Some y) ∷ []) → x ≡ y
@@ -361,15 +368,18 @@ module _ {S E O : Type 0} (history_of : S → List E) (origin_of : S → O) (key
     keeps,
     tt,
     unmoved made s r 1 id me.1 me.0 me.0 at (λ _ _ _ k. k) refl refl refl,
-    (refl, record {
-      counted = omega (arith, le, n);
-      added = subst (λ (l : List E). AreAdded l me.0.seen me.0.own) (sym live.start) live.added;
-      once = live.once;
-      keys = keys_seen key_of me.0.seen r.log me.0.own live.begins live.keys (λ k has. (live.added k has).1);
-      shorter = live.shorter;
-      start = live.other_start ∙ sym live.start;
-      origin = live.other_origin ∙ sym live.origin;
-    }),
+    (
+      refl,
+      record {
+        counted = omega (arith, le, n);
+        added = subst (λ (l : List E). AreAdded l me.0.seen me.0.own) (sym live.start) live.added;
+        once = live.once;
+        keys = keys_seen key_of me.0.seen r.log me.0.own live.begins live.keys (λ k has. (live.added k has).1);
+        shorter = live.shorter;
+        start = live.other_start ∙ sym live.start;
+        origin = live.other_origin ∙ sym live.origin;
+      },
+    ),
   )
 
   kept_known : (id gate holder : ℕ) (v : V) (made : Made E O) (log : List E) → v.held ≡ None → v.planned < v.shares → Knows gate holder log made id v → Knows gate holder log made id (kept_part v)
@@ -477,8 +487,12 @@ module _ {S E O : Type 0} (history_of : S → List E) (origin_of : S → O) (key
         home = r.home;
         begun = r.begun;
         owned = λ k from below. let o = r.owned k from below in dite (ℕ_discrete o.0 other)
-            (λ is. (id, both, set_else vs other id spent_view (λ e. ne (sym e)) ∙ set_there s.views id v both at,
-              Contains-append_right v.own w.own k (subst (λ (z : V). Contains z.own k) (same_at s.views other o.1 w (subst (λ (z : ℕ). get_elem? s.views z ≡ some o.1) is o.2) at') o.3)))
+            (λ is. (
+              id,
+              both,
+              set_else vs other id spent_view (λ e. ne (sym e)) ∙ set_there s.views id v both at,
+              Contains-append_right v.own w.own k (subst (λ (z : V). Contains z.own k) (same_at s.views other o.1 w (subst (λ (z : ℕ). get_elem? s.views z ≡ some o.1) is o.2) at') o.3),
+            ))
             (λ not. let p = still_owned_at s.views id v both at (Contains-append_left v.own w.own) k o in
             (o.0, p.0, set_else vs other o.0 spent_view not ∙ p.1, p.2));
         closed = λ shut. still_held r.holder r.log vs other w spent_view there free' (still_held r.holder r.log s.views id v both at free (r.closed shut));

@@ -1,6 +1,6 @@
 -- What contracts see of a pass, and of a turn's hold on the lock.
 use Rattle.std.specs.Prelude.{ℕ, List, [], Option}
-use Rattle.atomic_table.specs.Seated.{TableId}
+pub use Rattle.atomic_table.specs.Seated.{TableId}
 
 -- the lock, the history that the pass has seen, the places that were added through it, how many of the lock's shares it has, and the history and the origin of the state with which the lock was made
 pub record Known (E O : Type 0) : Type 0 where

@@ -1,4 +1,4 @@
-use Rattle.std.proofs.Common.{◌≡◌, length, Some, IsSome, sym, refl, ap, ◌∙◌, subst}
+use Rattle.std.proofs.Common.{◌≡◌, Some, IsSome, sym, refl, ap, ◌∙◌, subst}
 use mathlib.Core.List.{IsPrefix}
 use Rattle.turn_lock.specs.History.{OwnsAdded, OwnsKeys}
 use Rattle.turn_lock.specs.Shown.{Known}

@@ -1,10 +1,9 @@
-use Rattle.std.proofs.Common.{rules, ◌≡◌, ◌++◌, ◌<◌, [], length, List, Option, None, ap, sym, ◌∙◌, subst}
-use mathlib.Core.List.{IsPrefix}
+use Rattle.std.proofs.Common.{rules, ◌≡◌, ◌++◌, ◌<◌, List, Option, ap, sym, ◌∙◌, subst}
 use Rattle.atomic_table.specs.Table.{Me}
 use Rattle.turn_lock.specs.declared.view.View.{View}
 use Rattle.turn_lock.specs.History.{AreAdded, AreApart, AreKeysApart, IsDistinct, OwnsKeys, longer}
 use Rattle.turn_lock.specs.Shown.{Known}
-use Rattle.turn_lock.specs.Steps.{joined, IsKnownOf}
+use Rattle.turn_lock.specs.Steps.{joined}
 use Rattle.turn_lock.proofs.Lists.{distinct_parts, keys_apart}
 use Rattle.turn_lock.proofs.Keeps.{joins, looks}
 use Rattle.turn_lock.proofs.lock.TurnLock.join_pass.Given.{Over}

@@ -1,4 +1,4 @@
-use Rattle.std.proofs.Common.{rules, length, Some, ap, sym, ◌∙◌, ◌∷◌, subst}
+use Rattle.std.proofs.Common.{rules, Some, ap, sym, ◌∙◌, ◌∷◌, subst}
 use Rattle.turn_lock.specs.History.{AreAdded}
 use Rattle.turn_lock.specs.Shown.{Known}
 use Rattle.atomic_table.specs.Table.{rest}
