@@ -1,5 +1,5 @@
 -- A pass that a worker holds between its turns.
-use Rattle.std.specs.Prelude.{◌≡◌, ℕ, Option, Some}
+use Rattle.std.specs.Prelude.{◌≡◌, Option, Some}
 use Rattle.turn_lock.specs.Shown.{TableId, Known}
 
 -- the pass is there, is of this lock and has one share

@@ -2,6 +2,7 @@
 
 ghost use Rattle.std.specs.Prelude.{◌≡◌, ℕ, ◌++◌, [], ◌∷◌, length, slice_get, Some, MatchBool};
 ghost use Rattle.std.specs.Bool.{OnTrue};
+ghost use Rattle.lock_tests.specs.declared.notes.Note.{Note};
 
 use std::alloc::Global;
 use std::sync::Wait;

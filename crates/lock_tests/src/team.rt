@@ -70,10 +70,15 @@ fn work<R: Threads + Wait + Sync>(rt: &R, lock: &TurnLock<Notes>, team: &mut [Wo
     ensures ready { All (λ worker. IsReady lock.now worker.pass) team.new }
     ensures len { length team.new ≡ length team.old }
 {
-    thread::for_each_mut(rt, team, TEAM, &|_, worker: &mut Worker|
-        requires { IsReady lock.now worker.old.pass }
-        ensures { IsReady lock.entry.now worker.new.pass }
-    { worker.leave_notes(rt, lock) });
+    thread::for_each_mut(
+        rt,
+        team,
+        TEAM,
+        &|_, worker: &mut Worker|
+            requires { IsReady lock.now worker.old.pass }
+            ensures { IsReady lock.entry.now worker.new.pass }
+        { worker.leave_notes(rt, lock) },
+    );
 }
 
 /// The pass takes in those of the team.
