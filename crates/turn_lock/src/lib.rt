@@ -4,6 +4,7 @@
 #![tactic(auto)]
 
 mod historied;
+pub mod laws;
 mod lock;
 mod pass;
 mod steps;
