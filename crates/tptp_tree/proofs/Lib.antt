@@ -17,3 +17,11 @@ pub mod UniqueAtoms
 pub mod UniqueLemmas
 -- UniqueEntries: a list of tokens is that of at most one annotated formula, with what follows it, and of at most one list of entries.
 pub mod UniqueEntries
+-- LevelLemmas: what is written within so many levels is printed within twice as many.
+pub mod LevelLemmas
+-- LimitLemmas: no token of a phrase is too deep exactly where its levels are within the limit.
+pub mod LimitLemmas
+-- PrintedLevels: the levels of printed texts.
+pub mod PrintedLevels
+-- EqualityLemmas: formulas are the same exactly where they are equal.
+pub mod EqualityLemmas

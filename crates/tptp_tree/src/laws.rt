@@ -6,6 +6,8 @@ ghost use Rattle.std.specs.Prelude.{◌≡◌, ℕ, true, List};
 ghost use Rattle.tptp_token.specs.Lexemes.{Lexeme};
 ghost use Rattle.tptp_tree.specs.Formula.{FormulaTree};
 ghost use Rattle.tptp_tree.specs.Spelling.{SpellsName, SpellsFormula};
+ghost use Rattle.tptp_tree.specs.Equality.{SameFormulasAreEqual};
+ghost use Rattle.tptp_tree.specs.LevelLaws.{PrintingAtMostDoubles, PrintedWithinItsLevels, WrittenIsAtMostDoubled, LimitIsOfLevels};
 ghost use Rattle.tptp_tree.specs.Entries.{AnnotatedPhrase, is_right_annotated, annotated_lexemes, AnnotatedTree, SpellsAnnotated, EntryTree, SpellsEntries};
 
 /// Worked examples of printed formulas.
@@ -72,4 +74,26 @@ pub fn one_annotated()
 /// A text spells at most one list of annotated formulas and includes.
 pub fn one_problem()
     ensures { (text : List ℕ) (es fs : List EntryTree) → SpellsEntries text es → SpellsEntries text fs → es ≡ fs }
+{}
+
+/// What some text spells within a number of levels is printed within at most twice as many.
+pub fn printing_at_most_doubles()
+    ensures texts { PrintingAtMostDoubles }
+    ensures written { WrittenIsAtMostDoubled }
+{}
+
+/// The levels of a tree are those of its printed text.
+pub fn printed_levels()
+    ensures { PrintedWithinItsLevels }
+{}
+
+/// The readers' limit of nesting is one of levels: no token of a formula or a clause is too deep exactly where its levels are
+/// within the limit.
+pub fn limit_is_of_levels()
+    ensures { LimitIsOfLevels }
+{}
+
+/// Formulas are the same exactly where they are equal.
+pub fn same_formulas_are_equal()
+    ensures { SameFormulasAreEqual }
 {}

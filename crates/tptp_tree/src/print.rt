@@ -1,10 +1,11 @@
 // How names and formulas are printed.
 
-ghost use Rattle.std.specs.Prelude.{◌≡◌, ℕ, List, ◌++◌, map, IfOk, codes};
+ghost use Rattle.std.specs.Prelude.{◌≡◌, ℕ, ◌*◌, List, ◌++◌, map, IfOk, codes};
 ghost use Rattle.tptp_tree.specs.Term.{terms_of};
 ghost use Rattle.tptp_tree.specs.Formula.{negation, formulas_of};
 ghost use Rattle.tptp_tree.specs.Shape.{term_of, formula_of};
 ghost use Rattle.tptp_tree.specs.Spelling.{SpellsName, SpellsFormula};
+ghost use Rattle.tptp_tree.specs.Levels.{SpellsFormulaWithin};
 ghost use Rattle.tptp_token.specs.Words.{name_text};
 ghost use Rattle.tptp_tree.specs.Printing.{term_text, arguments_text, more_arguments_text, variables_text, more_variables_text, is_joined as joined, is_bare as bare, in_parentheses, formula_text, operand_text, operands_text, more_operands_text};
 
@@ -28,11 +29,13 @@ pub fn print_name(alloc: Global, name: &Text) -> Mem<Text>
 /// The text of a formula. Arguments are separated by `,`, the signs of connectives and equations stand between single
 /// blanks, a quantifier is `! [X,Y] : ` before its body. An operand of a connective and the body of a quantifier stand in
 /// parentheses exactly where they are made by a connective of two or more operands, what is negated where it is no atom
-/// without equality and no negation. Where some text spells the formula, this one does.
+/// without equality and no negation. Where some text spells the formula, this one does, within at most twice as many levels.
 pub fn print_formula(alloc: Global, formula: &Formula) -> Mem<Text>
     ensures printed { IfOk result (λ text. text ≡ formula_text (formula_of formula.now)) }
     ensures read_again { IfOk result (λ text.
         (other : List ℕ) → SpellsFormula other (formula_of formula.now) → SpellsFormula text (formula_of formula.now)) }
+    ensures within { IfOk result (λ text. (levels : ℕ) (other : List ℕ)
+        → SpellsFormulaWithin levels other (formula_of formula.now) → SpellsFormulaWithin (2 * levels) text (formula_of formula.now)) }
 {
     let mut page = Vec::new(alloc);
     push_formula(&mut page, formula)?;
