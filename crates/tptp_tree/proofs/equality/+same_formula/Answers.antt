@@ -1,4 +1,4 @@
-use Rattle.std.proofs.Math.List.{length-map}
+use Rattle.std.proofs.lemmas.List.{length-map}
 use Rattle.std.proofs.Common.{arith, map, sym, ◌∙◌}
 use Rattle.tptp_tree.specs.Shape.{formula_of}
 use Rattle.tptp_tree.proofs.SizeLemmas.{formula-item-is}
