@@ -25,3 +25,5 @@ pub mod LimitLemmas
 pub mod PrintedLevels
 -- EqualityLemmas: formulas are the same exactly where they are equal.
 pub mod EqualityLemmas
+-- FormulaNames: the printed name of a formula spells the name again.
+pub mod FormulaNames

@@ -98,7 +98,7 @@ clause-same (clause_in_brackets c) (clause_in_brackets d) rs ss h k e =
 
 -- ---- names and notes
 
-name-same : (n m : NamePhrase) → name_lexeme n ≡ name_lexeme m → n ≡ m
+pub name-same : (n m : NamePhrase) → name_lexeme n ≡ name_lexeme m → n ≡ m
 name-same (word_name w) (word_name v) e = ap word_name (word-same w v e)
 name-same (word_name (bare w)) (digits_name ds) e = absurd (let k : Lower ≡ Number = ap (λ (l : Lexeme). l.kind) e in cc)
 name-same (word_name (quoted w)) (digits_name ds) e = absurd (let k : Quoted ≡ Number = ap (λ (l : Lexeme). l.kind) e in cc)

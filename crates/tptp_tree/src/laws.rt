@@ -8,7 +8,7 @@ ghost use Rattle.tptp_tree.specs.Formula.{FormulaTree};
 ghost use Rattle.tptp_tree.specs.Spelling.{SpellsName, SpellsFormula};
 ghost use Rattle.tptp_tree.specs.Equality.{SameFormulasAreEqual};
 ghost use Rattle.tptp_tree.specs.LevelLaws.{PrintingAtMostDoubles, PrintedWithinItsLevels, WrittenIsAtMostDoubled, LimitIsOfLevels};
-ghost use Rattle.tptp_tree.specs.Entries.{AnnotatedPhrase, is_right_annotated, annotated_lexemes, AnnotatedTree, SpellsAnnotated, EntryTree, SpellsEntries};
+ghost use Rattle.tptp_tree.specs.Entries.{SpellsFormulaName, AnnotatedPhrase, is_right_annotated, annotated_lexemes, AnnotatedTree, SpellsAnnotated, EntryTree, SpellsEntries};
 
 /// Worked examples of printed formulas.
 pub fn printing_examples()
@@ -32,6 +32,11 @@ pub fn one_formula()
 /// A text spells at most one name.
 pub fn one_name()
     ensures { (text name other : List ℕ) → SpellsName text name → SpellsName text other → name ≡ other }
+{}
+
+/// A text spells at most one name of a formula.
+pub fn one_formula_name()
+    ensures { (text name other : List ℕ) → SpellsFormulaName text name → SpellsFormulaName text other → name ≡ other }
 {}
 
 /// Worked examples of entries: their tokens, what they say, and what is wrong with their tokens.

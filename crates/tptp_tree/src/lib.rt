@@ -13,7 +13,7 @@ mod term;
 pub use equality::same_formula;
 pub use formula::{Formula, FormulaBox, Formulas};
 pub use limits::{MOST_DERIVATION_NESTING, MOST_NESTING, MOST_PRINTED_NESTING};
-pub use print::{print_formula, print_name};
+pub use print::{print_formula, print_formula_name, print_name, push_formula_name};
 pub use problem::{Annotated, AnnotatedList, Problem};
 pub use role::Role;
 pub use term::{TreeTerm, TreeTerms};
