@@ -6,7 +6,7 @@ use Rattle.std.proofs.lemmas.Bool.{and_parts, agree_below_at}
 use Rattle.std.proofs.Math.Seq.{drop-append_seam}
 use Rattle.tptp_token.specs.Spelling.{is_digit}
 use Rattle.tptp_token.specs.Pieces.{starts_with_either}
-use Rattle.tptp_token.specs.Words.{name_text, name_of}
+use Rattle.tptp_token.specs.Words.{name_text}
 use Rattle.tptp_token.specs.Lexemes.{Lexeme, IsLexedAs, lexeme, word_lexeme}
 use Rattle.tptp_token.specs.declared.token.Kind.TheVariants.{Number}
 use Rattle.tptp_token.proofs.AboutLexemes.TestLemmas.{second-false}

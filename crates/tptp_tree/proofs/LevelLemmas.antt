@@ -1,8 +1,8 @@
 -- What is written within so many levels is printed within twice as many.
-use Rattle.std.proofs.Common.{◌≡◌, ℕ, suc, ◌+◌, ◌*◌, ◌≤◌, Bool, true, false, not, List, [], ◌∷◌, refl, ap, arith}
+use Rattle.std.proofs.Common.{◌≡◌, ℕ, suc, ◌*◌, ◌≤◌, Bool, true, false, not, List, [], ◌∷◌, refl, arith}
 use Rattle.std.specs.Prelude.{max}
 use Rattle.std.proofs.Math.Nat.{max-le, le-max_left, le-max_right}
-use Rattle.tptp_tree.specs.Formula.{FormulaTree, negation, no_formulas, formula_then}
+use Rattle.tptp_tree.specs.Formula.{FormulaTree, negation, formula_then}
 use Rattle.tptp_tree.specs.Printing.{is_joined, is_bare}
 use Rattle.tptp_tree.specs.Spelling.{Atom, true_atom, false_atom, predicate_atom, equation_atom, atom_meant, UnitPhrase, negated, bound, in_brackets, atomic, UnitPhrases, no_units, unit_then, Phrase, alone, all_of, some_of, joined_by, unit_meant, units_meant, meant}
 use Rattle.tptp_tree.specs.Entries.{atom_of, LiteralPhrase, positive_literal, negated_literal, negated_in_brackets, ClausePhrase, literals, clause_in_brackets, literal_meant, literals_meant, clause_meant, Body, formula_body, clause_body, body_meant}

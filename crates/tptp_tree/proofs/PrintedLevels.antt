@@ -1,12 +1,12 @@
 -- The levels of printed texts.
-use Rattle.std.proofs.Common.{◌≡◌, ℕ, suc, ◌*◌, ◌≤◌, Bool, true, false, not, List, [], ◌∷◌, ◌↔◌, refl, ap, ap₂, sym, ◌∙◌, subst, arith}
+use Rattle.std.proofs.Common.{◌≡◌, ℕ, suc, ◌*◌, ◌≤◌, List, [], ◌∷◌, ◌↔◌, refl, ap, ap₂, sym, ◌∙◌, subst, arith}
 use Rattle.std.specs.Prelude.{max}
 use Rattle.tptp_token.specs.Lexemes.{IsLexedAs}
 use Rattle.tptp_tree.specs.Formula.{FormulaTree, truth, falsity, predicate, equation, negation, conjunction, disjunction, connected, quantified, FormulaTrees, no_formulas, formula_then}
-use Rattle.tptp_tree.specs.Printing.{is_joined, is_bare, formula_text}
-use Rattle.tptp_tree.specs.Spelling.{Phrase, phrase_lexemes, meant, SpellsFormula}
-use Rattle.tptp_tree.specs.Levels.{with_parentheses, formula_levels, operands_levels, arguments_levels, term_levels, unit_levels, units_levels, phrase_levels, SpellsFormulaWithin, IsWrittenWithin}
-use Rattle.tptp_tree.proofs.CanonicalLemmas.{WellFormula, WellFormulas, term-meant, terms-meant, formula-meant, unit_of, negated_unit, all_from, some_from, phrase_of, units_of}
+use Rattle.tptp_tree.specs.Printing.{is_bare, formula_text}
+use Rattle.tptp_tree.specs.Spelling.{phrase_lexemes, SpellsFormula}
+use Rattle.tptp_tree.specs.Levels.{formula_levels, operands_levels, arguments_levels, term_levels, unit_levels, units_levels, phrase_levels, SpellsFormulaWithin, IsWrittenWithin}
+use Rattle.tptp_tree.proofs.CanonicalLemmas.{WellFormula, WellFormulas, term-meant, terms-meant, formula-meant, unit_of, negated_unit, phrase_of, units_of}
 use Rattle.tptp_tree.proofs.AgainLemmas.{formula-lexed}
 use Rattle.tptp_tree.proofs.UniqueLemmas.{one_phrase}
 use Rattle.tptp_tree.proofs.WellLemmas.{spelled-well}

@@ -15,3 +15,4 @@ pub mod Equality
 pub mod LevelLaws
 pub mod Examples
 pub mod EntryExamples
+pub mod LevelExamples

@@ -97,8 +97,7 @@ fn same_bound(
     ensures { result ≡ same_terms (term_then (encoded body.now) (text_terms names.now))
         (term_then (encoded other_body.now) (text_terms other_names.now)) }
 {
-    are_same(body.get(), other_body.get())
-        && same_names(names.as_slice(), other_names.as_slice())
+    are_same(body.get(), other_body.get()) && same_names(names.as_slice(), other_names.as_slice())
 }
 
 /// Whether two lists of variables' names are the same.

@@ -43,27 +43,41 @@ impl Formula {
         match self {
             Formula::True => Ok(Formula::True),
             Formula::False => Ok(Formula::False),
-            Formula::Pred(name, arguments) =>
-                Ok(Formula::Pred(name.copy(alloc)?, arguments.copy(alloc)?)),
-            Formula::Equal(left, right) =>
-                Ok(Formula::Equal(left.copy(alloc)?, right.copy(alloc)?)),
-            Formula::NotEqual(left, right) =>
-                Ok(Formula::NotEqual(left.copy(alloc)?, right.copy(alloc)?)),
+            Formula::Pred(name, arguments) => Ok(Formula::Pred(
+                name.copy(alloc)?,
+                arguments.copy(alloc)?,
+            )),
+            Formula::Equal(left, right) => Ok(Formula::Equal(
+                left.copy(alloc)?,
+                right.copy(alloc)?,
+            )),
+            Formula::NotEqual(left, right) => Ok(Formula::NotEqual(
+                left.copy(alloc)?,
+                right.copy(alloc)?,
+            )),
             Formula::Not(inner) => Ok(Formula::Not(inner.copy(alloc)?)),
             Formula::And(formulas) => Ok(Formula::And(formulas.copy(alloc)?)),
             Formula::Or(formulas) => Ok(Formula::Or(formulas.copy(alloc)?)),
-            Formula::Implies(left, right) =>
-                Ok(Formula::Implies(left.copy(alloc)?, right.copy(alloc)?)),
-            Formula::Implied(left, right) =>
-                Ok(Formula::Implied(left.copy(alloc)?, right.copy(alloc)?)),
+            Formula::Implies(left, right) => Ok(Formula::Implies(
+                left.copy(alloc)?,
+                right.copy(alloc)?,
+            )),
+            Formula::Implied(left, right) => Ok(Formula::Implied(
+                left.copy(alloc)?,
+                right.copy(alloc)?,
+            )),
             Formula::Iff(left, right) => Ok(Formula::Iff(left.copy(alloc)?, right.copy(alloc)?)),
             Formula::Xor(left, right) => Ok(Formula::Xor(left.copy(alloc)?, right.copy(alloc)?)),
             Formula::Nor(left, right) => Ok(Formula::Nor(left.copy(alloc)?, right.copy(alloc)?)),
             Formula::Nand(left, right) => Ok(Formula::Nand(left.copy(alloc)?, right.copy(alloc)?)),
-            Formula::All(names, body) =>
-                Ok(Formula::All(copied_names(alloc, names)?, body.copy(alloc)?)),
-            Formula::Ex(names, body) =>
-                Ok(Formula::Ex(copied_names(alloc, names)?, body.copy(alloc)?)),
+            Formula::All(names, body) => Ok(Formula::All(
+                copied_names(alloc, names)?,
+                body.copy(alloc)?,
+            )),
+            Formula::Ex(names, body) => Ok(Formula::Ex(
+                copied_names(alloc, names)?,
+                body.copy(alloc)?,
+            )),
         }
     }
 }

@@ -7,6 +7,7 @@ ghost use Rattle.tptp_token.specs.Lexemes.{Lexeme};
 ghost use Rattle.tptp_tree.specs.Formula.{FormulaTree};
 ghost use Rattle.tptp_tree.specs.Spelling.{SpellsName, SpellsFormula};
 ghost use Rattle.tptp_tree.specs.Equality.{SameFormulasAreEqual};
+ghost use Rattle.tptp_tree.specs.LevelExamples.{NegatedEquationLevels, BareNegatedEquation, NegatedQuantifierLevels, NegatedTwiceLevels, JoinedOperandLevels, WrittenBrackets, WrittenClause, DigitsName, QuotedName, BareName, SameImplication, TurnedImplication, OtherConnective, InequationAndNegation};
 ghost use Rattle.tptp_tree.specs.LevelLaws.{PrintingAtMostDoubles, PrintedWithinItsLevels, WrittenIsAtMostDoubled, LimitIsOfLevels};
 ghost use Rattle.tptp_tree.specs.Entries.{SpellsFormulaName, AnnotatedPhrase, is_right_annotated, annotated_lexemes, AnnotatedTree, SpellsAnnotated, EntryTree, SpellsEntries};
 
@@ -22,6 +23,32 @@ pub fn printing_examples()
 pub fn size_examples()
     ensures implication { OccurrencesInImplication }
     ensures truth { OccurrencesInTruth }
+{}
+
+/// Worked examples of levels, printed and written.
+pub fn level_examples()
+    ensures negated_equation { NegatedEquationLevels }
+    ensures bare_equation { BareNegatedEquation }
+    ensures negated_quantifier { NegatedQuantifierLevels }
+    ensures negated_twice { NegatedTwiceLevels }
+    ensures joined_operand { JoinedOperandLevels }
+    ensures written_brackets { WrittenBrackets }
+    ensures written_clause { WrittenClause }
+{}
+
+/// Worked examples of printed names of formulas.
+pub fn formula_name_examples()
+    ensures digits { DigitsName }
+    ensures quoted { QuotedName }
+    ensures bare { BareName }
+{}
+
+/// Worked examples of formulas that are the same or aren't.
+pub fn equality_examples()
+    ensures same { SameImplication }
+    ensures turned { TurnedImplication }
+    ensures connective { OtherConnective }
+    ensures inequation { InequationAndNegation }
 {}
 
 /// A text spells at most one formula.

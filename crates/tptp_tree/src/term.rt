@@ -55,8 +55,10 @@ impl TreeTerm {
     {
         match self {
             TreeTerm::Var(name) => Ok(TreeTerm::Var(name.copy(alloc)?)),
-            TreeTerm::App(name, arguments) =>
-                Ok(TreeTerm::App(name.copy(alloc)?, arguments.copy(alloc)?)),
+            TreeTerm::App(name, arguments) => Ok(TreeTerm::App(
+                name.copy(alloc)?,
+                arguments.copy(alloc)?,
+            )),
         }
     }
 }
