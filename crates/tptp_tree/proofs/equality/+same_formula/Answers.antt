@@ -1,8 +1,8 @@
 use Rattle.std.proofs.lemmas.List.{length-map}
 use Rattle.std.proofs.Common.{arith, map, sym, ◌∙◌}
 use Rattle.tptp_tree.specs.Shape.{formula_of}
-use Rattle.tptp_tree.proofs.SizeLemmas.{formula-item-is}
-use Rattle.tptp_tree.proofs.EqualityLemmas.{formulas-lengths}
+use Rattle.tptp_tree.proofs.AboutTrees.SizeLemmas.{formula-item-is}
+use Rattle.tptp_tree.proofs.AboutTrees.EqualityLemmas.{formulas-lengths}
 use Rattle.tptp_tree.proofs.equality.+same_formula.Goals as goal
 
 pub same_formulas-returns-then-left-right : goal.same_formulas-returns-then-left-right

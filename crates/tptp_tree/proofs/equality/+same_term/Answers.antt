@@ -1,8 +1,8 @@
 use Rattle.std.proofs.lemmas.List.{length-map}
 use Rattle.std.proofs.Common.{arith, map, sym, ◌∙◌}
 use Rattle.tptp_tree.specs.Shape.{term_of}
-use Rattle.tptp_tree.proofs.SizeLemmas.{term-item-is}
-use Rattle.tptp_tree.proofs.EqualityLemmas.{terms-lengths}
+use Rattle.tptp_tree.proofs.AboutTrees.SizeLemmas.{term-item-is}
+use Rattle.tptp_tree.proofs.AboutTrees.EqualityLemmas.{terms-lengths}
 use Rattle.tptp_tree.proofs.equality.+same_term.Goals as goal
 
 pub same_terms-returns-then-left-right : goal.same_terms-returns-then-left-right

@@ -1,7 +1,7 @@
 use Rattle.std.proofs.Common.{◌≡◌, subst, sym, rules}
 use Rattle.std.specs.Prelude.{◌↔◌, IsTrue}
 use Rattle.tptp_tree.specs.Shape.{formula_of}
-use Rattle.tptp_tree.proofs.EqualityLemmas.{formulas-equal}
+use Rattle.tptp_tree.proofs.AboutTrees.EqualityLemmas.{formulas-equal}
 use Rattle.tptp_tree.proofs.equality.same_formula.Goals as goal
 
 pub returns-clause-equal : goal.returns-clause-equal

@@ -1,4 +1,4 @@
-use Rattle.tptp_tree.proofs.EqualityLemmas.{names-lengths}
+use Rattle.tptp_tree.proofs.AboutTrees.EqualityLemmas.{names-lengths}
 use Rattle.tptp_tree.proofs.equality.same_names.Goals as goal
 
 pub returns-then-left-right : goal.returns-then-left-right

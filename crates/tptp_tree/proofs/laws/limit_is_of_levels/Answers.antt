@@ -1,5 +1,5 @@
 use Rattle.std.proofs.Common.{[]}
-use Rattle.tptp_tree.proofs.LimitLemmas.{body-within, body-shallow}
+use Rattle.tptp_tree.proofs.AboutLevels.LimitLemmas.{body-within, body-shallow}
 use Rattle.tptp_tree.proofs.laws.limit_is_of_levels.Goals as goal
 
 pub returns : goal.returns

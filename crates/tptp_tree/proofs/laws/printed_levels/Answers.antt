@@ -1,4 +1,4 @@
-use Rattle.tptp_tree.proofs.PrintedLevels.{printed-exactly}
+use Rattle.tptp_tree.proofs.AboutLevels.PrintedLevels.{printed-exactly}
 use Rattle.tptp_tree.proofs.laws.printed_levels.Goals as goal
 
 pub returns : goal.returns

@@ -1,8 +1,8 @@
 use Rattle.std.proofs.Common.{◌*◌, sym, subst, rules}
 use Rattle.tptp_tree.specs.Levels.{SpellsFormulaWithin}
 use Rattle.tptp_tree.specs.Shape.{formula_of}
-use Rattle.tptp_tree.proofs.AgainLemmas.{formula-again}
-use Rattle.tptp_tree.proofs.PrintedLevels.{printing-doubles}
+use Rattle.tptp_tree.proofs.AboutPrinting.AgainLemmas.{formula-again}
+use Rattle.tptp_tree.proofs.AboutLevels.PrintedLevels.{printing-doubles}
 use Rattle.tptp_tree.proofs.print.print_formula.Goals as goal
 
 pub returns-clause-read_again : goal.returns-clause-read_again

@@ -1,5 +1,5 @@
 use Rattle.std.proofs.Common.{rules}
-use Rattle.tptp_tree.proofs.FormulaNames.{formula_name-again}
+use Rattle.tptp_tree.proofs.AboutNames.FormulaNames.{formula_name-again}
 use Rattle.tptp_tree.proofs.print.print_formula_name.Goals as goal
 
 pub returns-clause-read_again : goal.returns-clause-read_again

@@ -6,13 +6,13 @@ use Rattle.tptp_tree.specs.Formula.{FormulaTree}
 use Rattle.tptp_token.specs.Words.{name_text, name_of}
 use Rattle.tptp_tree.specs.Printing.{formula_text}
 use Rattle.tptp_tree.specs.Spelling.{phrase_lexemes, meant, SpellsName, SpellsFormula}
-use Rattle.tptp_tree.proofs.NameLemmas.{WellName, word_of, name_of-word_of, name-lexes}
-use Rattle.tptp_tree.proofs.CanonicalLemmas.{WellFormula, phrase_of, formula-meant}
-use Rattle.tptp_tree.proofs.LexingLemmas.{formula-lexes}
-use Rattle.tptp_tree.proofs.UniqueLemmas.{one_phrase, one_word}
+use Rattle.tptp_tree.proofs.AboutNames.NameLemmas.{WellName, word_of, name_of-word_of, name-lexes}
+use Rattle.tptp_tree.proofs.AboutPrinting.CanonicalLemmas.{WellFormula, phrase_of, formula-meant}
+use Rattle.tptp_tree.proofs.AboutPrinting.LexingLemmas.{formula-lexes}
+use Rattle.tptp_tree.proofs.AboutUniqueness.UniqueLemmas.{one_phrase, one_word}
 use Rattle.tptp_tree.specs.Entries.{AnnotatedTree, EntryTree, AreEntriesOf, IsAnnotatedOf, SpellsAnnotated, SpellsEntries}
-use Rattle.tptp_tree.proofs.UniqueEntries.{annotated-same, tree-same, entries-same, trees-same}
-use Rattle.tptp_tree.proofs.WellLemmas.{text-spelled, word-well, spelled-well}
+use Rattle.tptp_tree.proofs.AboutUniqueness.UniqueEntries.{annotated-same, tree-same, entries-same, trees-same}
+use Rattle.tptp_tree.proofs.AboutPrinting.WellLemmas.{text-spelled, word-well, spelled-well}
 
 pub name-again : (printed other name : List ℕ) → printed ≡ name_text name → SpellsName other name → SpellsName printed name
 name-again printed other name e s =

@@ -15,10 +15,10 @@ use Rattle.tptp_token.proofs.AboutLexemes.LexemeLemmas.{Lexes, lexes-whole, lexe
 use Rattle.tptp_token.proofs.AboutTexts.FrontLemmas.{may_be_space, lexes-plain}
 use Rattle.tptp_tree.specs.Printing.{is_number_name, formula_name_text}
 use Rattle.tptp_tree.specs.Entries.{NamePhrase, word_name, digits_name, name_lexeme, name_meant, is_right_name, SpellsFormulaName}
-use Rattle.tptp_tree.proofs.NameLemmas.{WellName, word_of, name_of-word_of, name-lexes}
-use Rattle.tptp_tree.proofs.WellLemmas.{text-spelled, word-well}
-use Rattle.tptp_tree.proofs.UniqueAtoms.{head-same}
-use Rattle.tptp_tree.proofs.UniqueEntries.{name-same}
+use Rattle.tptp_tree.proofs.AboutNames.NameLemmas.{WellName, word_of, name_of-word_of, name-lexes}
+use Rattle.tptp_tree.proofs.AboutPrinting.WellLemmas.{text-spelled, word-well}
+use Rattle.tptp_tree.proofs.AboutUniqueness.UniqueAtoms.{head-same}
+use Rattle.tptp_tree.proofs.AboutUniqueness.UniqueEntries.{name-same}
 
 -- ---- numbers of digits alone
 

@@ -6,11 +6,11 @@ use Rattle.tptp_tree.specs.Formula.{FormulaTree, truth, falsity, predicate, equa
 use Rattle.tptp_tree.specs.Printing.{is_bare, formula_text}
 use Rattle.tptp_tree.specs.Spelling.{phrase_lexemes, SpellsFormula}
 use Rattle.tptp_tree.specs.Levels.{formula_levels, operands_levels, arguments_levels, term_levels, unit_levels, units_levels, phrase_levels, SpellsFormulaWithin, IsWrittenWithin}
-use Rattle.tptp_tree.proofs.CanonicalLemmas.{WellFormula, WellFormulas, term-meant, terms-meant, formula-meant, unit_of, negated_unit, phrase_of, units_of}
-use Rattle.tptp_tree.proofs.AgainLemmas.{formula-lexed}
-use Rattle.tptp_tree.proofs.UniqueLemmas.{one_phrase}
-use Rattle.tptp_tree.proofs.WellLemmas.{spelled-well}
-use Rattle.tptp_tree.proofs.LevelLemmas.{operand_levels, negated_levels, phrase-twice, body-twice}
+use Rattle.tptp_tree.proofs.AboutPrinting.CanonicalLemmas.{WellFormula, WellFormulas, term-meant, terms-meant, formula-meant, unit_of, negated_unit, phrase_of, units_of}
+use Rattle.tptp_tree.proofs.AboutPrinting.AgainLemmas.{formula-lexed}
+use Rattle.tptp_tree.proofs.AboutUniqueness.UniqueLemmas.{one_phrase}
+use Rattle.tptp_tree.proofs.AboutPrinting.WellLemmas.{spelled-well}
+use Rattle.tptp_tree.proofs.AboutLevels.LevelLemmas.{operand_levels, negated_levels, phrase-twice, body-twice}
 
 abbrev HasItsLevels : FormulaTree → Type 0
 HasItsLevels f = phrase_levels (phrase_of f) ≡ formula_levels f
