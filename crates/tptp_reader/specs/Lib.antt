@@ -4,6 +4,7 @@ pub mod Answers
 pub mod Verdicts
 pub mod AnswerExamples
 pub mod Placed
+pub mod Bound
 pub mod Telling
 pub mod TellingNotes
 pub mod TellingEntries

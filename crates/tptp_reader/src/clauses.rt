@@ -5,8 +5,9 @@ ghost use Rattle.tptp_tree.specs.Shape.{formula_of};
 ghost use Rattle.tptp_reader.specs.Machine.{a_clause, a_literal, a_plain_literal};
 ghost use Rattle.tptp_reader.specs.Telling.{one, Halts, ReadsClause, ReadsPlainClause, ReadsLiterals, ReadsLiteral, ReadsNegated, further_literals};
 
+use crate::bound::Bound;
 use crate::cause::Halt;
-use crate::source::{Name, Reader};
+use crate::source::Reader;
 use std::alloc::Global;
 use tptp_tree::{Formula, FormulaBox, Formulas};
 
@@ -15,7 +16,7 @@ impl<'a> Reader<'a> {
     pub fn clause(
         &self,
         alloc: Global,
-        bound: &[Name<'a>],
+        bound: &Bound<'a>,
         at: usize,
         level: u32,
     ) -> Result<(Formula, usize), Halt>
@@ -37,7 +38,7 @@ impl<'a> Reader<'a> {
     fn literals(
         &self,
         alloc: Global,
-        bound: &[Name<'a>],
+        bound: &Bound<'a>,
         at: usize,
         level: u32,
     ) -> Result<(Formula, usize), Halt>
@@ -57,7 +58,7 @@ impl<'a> Reader<'a> {
     fn more_literals(
         &self,
         alloc: Global,
-        bound: &[Name<'a>],
+        bound: &Bound<'a>,
         first: Formula,
         at: usize,
         level: u32,
@@ -84,7 +85,7 @@ impl<'a> Reader<'a> {
     fn literal(
         &self,
         alloc: Global,
-        bound: &[Name<'a>],
+        bound: &Bound<'a>,
         at: usize,
         level: u32,
     ) -> Result<(Formula, usize), Halt>
@@ -106,7 +107,7 @@ impl<'a> Reader<'a> {
     fn negated_atom(
         &self,
         alloc: Global,
-        bound: &[Name<'a>],
+        bound: &Bound<'a>,
         at: usize,
         level: u32,
     ) -> Result<(Formula, usize), Halt>

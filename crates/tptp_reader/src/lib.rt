@@ -2,6 +2,7 @@
 #![tactic(auto)]
 
 mod atoms;
+mod bound;
 mod cause;
 mod clauses;
 mod entry;

@@ -1,4 +1,4 @@
-use Rattle.std.proofs.Common.{refl, sym, ap, take, arith, ◌∙◌}
+use Rattle.std.proofs.Common.{refl, sym, ap, take, ◌∙◌}
 use Rattle.tptp_reader.specs.Machine.{a_unit, maybe_more_units}
 use Rattle.tptp_reader.proofs.AboutRuns.LoopLemmas.{passed, first-halts, kept-reads, kept-halts}
 use Rattle.tptp_reader.proofs.AboutSteps.FormulaSteps.{quantifier-is}
@@ -132,13 +132,13 @@ unit-returns-in_err-plain-clause-halted t c =
     passed _ _ _ c.from_residual-in_err-plain.ensures.1
     (atom_unit-halted _ _ _ _ _ _ c.in_ok-token.ensures.found (sym c.is_connective.ensures ∙ c.if-is_connective.false)
     (sym c.is_quantifier.ensures ∙ c.if-is_quantifier.false) (sym c.is_mark.ensures ∙ c.if-is_mark.false)
-    (kept-halts _ _ _ _ _ _ _ c.as_slice.ensures.value c.in_err-plain.ensures.halted))
+    c.in_err-plain.ensures.halted)
 
 pub unit-returns-clause-read : goal.unit-returns-clause-read
 unit-returns-clause-read t c =
     atom_unit-read _ _ _ _ _ _ _ c.in_ok-token.ensures.found (sym c.is_connective.ensures ∙ c.if-is_connective.false)
     (sym c.is_quantifier.ensures ∙ c.if-is_quantifier.false) (sym c.is_mark.ensures ∙ c.if-is_mark.false)
-    (kept-reads _ _ _ _ _ _ _ _ _ _ c.as_slice.ensures.value c.in_ok-plain.ensures.read)
+    c.in_ok-plain.ensures.read
 
 -- ---- negated
 
@@ -206,6 +206,6 @@ quantified-returns-clause-read t c =
 
 pub quantified-returns-clause-kept : goal.quantified-returns-clause-kept
 quantified-returns-clause-kept t c =
-    c.truncate.ensures.items
-    ∙ ap (λ n. take n c.unit.new.bound.items) (omega (arith, c.len-outer.ensures, c.args.bound.now.ok.0))
+    c.truncate.ensures
+    ∙ ap (λ n. take n c.unit.new.bound) c.len-outer.ensures
     ∙ cut_back _ _ _ _ c.in_ok-variables.ensures.binds c.in_ok-inner.ensures.kept
