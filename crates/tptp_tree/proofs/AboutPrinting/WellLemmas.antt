@@ -8,8 +8,8 @@ use Rattle.tptp_token.specs.declared.token.Token.{Token as TokenRecord}
 use Rattle.tptp_token.proofs.AboutLexemes.LexemeLemmas.{tokens-spelled}
 use Rattle.tptp_token.specs.Words.{Word, bare, quoted, name_of}
 use Rattle.tptp_tree.specs.Spelling.{TermPhrase, variable_word, word_with, TermPhrases, no_phrases, phrase_then, term_lexemes, arguments_lexemes, more_arguments_lexemes, term_meant, terms_meant, Atom, true_atom, false_atom, predicate_atom, equation_atom, atom_lexemes, atom_meant, UnitPhrase, negated, bound, in_brackets, atomic, UnitPhrases, no_units, unit_then, Phrase, alone, all_of, some_of, joined_by, more_variables_lexemes, unit_lexemes, units_lexemes, phrase_lexemes, unit_meant, units_meant, meant}
-use Rattle.tptp_tree.proofs.NameLemmas.{WellName, lower-well, quoted-well}
-use Rattle.tptp_tree.proofs.CanonicalLemmas.{WellTerm, WellTerms, WellFormula, WellFormulas}
+use Rattle.tptp_tree.proofs.AboutNames.NameLemmas.{WellName, lower-well, quoted-well}
+use Rattle.tptp_tree.proofs.AboutPrinting.CanonicalLemmas.{WellTerm, WellTerms, WellFormula, WellFormulas}
 
 -- the bytes spell the kind
 abbrev pub IsSpelled : Lexeme → Type 0

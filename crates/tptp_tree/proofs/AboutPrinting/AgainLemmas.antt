@@ -6,13 +6,13 @@ use Rattle.tptp_tree.specs.Formula.{FormulaTree}
 use Rattle.tptp_token.specs.Words.{name_text, name_of}
 use Rattle.tptp_tree.specs.Printing.{formula_text}
 use Rattle.tptp_tree.specs.Spelling.{phrase_lexemes, meant, SpellsName, SpellsFormula}
-use Rattle.tptp_tree.proofs.NameLemmas.{WellName, word_of, name_of-word_of, name-lexes}
-use Rattle.tptp_tree.proofs.CanonicalLemmas.{WellFormula, phrase_of, formula-meant}
-use Rattle.tptp_tree.proofs.LexingLemmas.{formula-lexes}
-use Rattle.tptp_tree.proofs.UniqueLemmas.{one_phrase, one_word}
+use Rattle.tptp_tree.proofs.AboutNames.NameLemmas.{WellName, word_of, name_of-word_of, name-lexes}
+use Rattle.tptp_tree.proofs.AboutPrinting.CanonicalLemmas.{WellFormula, phrase_of, formula-meant}
+use Rattle.tptp_tree.proofs.AboutPrinting.LexingLemmas.{formula-lexes}
+use Rattle.tptp_tree.proofs.AboutUniqueness.UniqueLemmas.{one_phrase, one_word}
 use Rattle.tptp_tree.specs.Entries.{AnnotatedTree, EntryTree, AreEntriesOf, IsAnnotatedOf, SpellsAnnotated, SpellsEntries}
-use Rattle.tptp_tree.proofs.UniqueEntries.{annotated-same, tree-same, entries-same, trees-same}
-use Rattle.tptp_tree.proofs.WellLemmas.{text-spelled, word-well, spelled-well}
+use Rattle.tptp_tree.proofs.AboutUniqueness.UniqueEntries.{annotated-same, tree-same, entries-same, trees-same}
+use Rattle.tptp_tree.proofs.AboutPrinting.WellLemmas.{text-spelled, word-well, spelled-well}
 
 pub name-again : (printed other name : List ℕ) → printed ≡ name_text name → SpellsName other name → SpellsName printed name
 name-again printed other name e s =
@@ -24,16 +24,17 @@ name-again printed other name e s =
       name_of-word_of name,
     )
 
+-- the tokens of a printed text
+pub formula-lexed : (f : FormulaTree) → WellFormula f → IsLexedAs (formula_text f) (phrase_lexemes (phrase_of f) [])
+formula-lexed f w =
+    subst (λ us. IsLexedAs us (phrase_lexemes (phrase_of f) [])) (append-nil (formula_text f))
+    (lexes-whole (formula_text f ++ []) (phrase_lexemes (phrase_of f) []) (formula-lexes f w [] [] tt lexes-nothing))
+
 pub formula-again :
     (printed other : List ℕ) (f : FormulaTree) → printed ≡ formula_text f → SpellsFormula other f → SpellsFormula printed f
 formula-again printed other f e s =
     let well : WellFormula f = subst WellFormula s.2 (spelled-well other s.0 s.1) in
-    let lexes = formula-lexes f well [] [] tt lexes-nothing in (
-      phrase_of f,
-      subst (λ us. IsLexedAs us (phrase_lexemes (phrase_of f) [])) (append-nil (formula_text f) ∙ sym e)
-          (lexes-whole (formula_text f ++ []) (phrase_lexemes (phrase_of f) []) lexes),
-      formula-meant f well,
-    )
+    (phrase_of f, subst (λ us. IsLexedAs us (phrase_lexemes (phrase_of f) [])) (sym e) (formula-lexed f well), formula-meant f well)
 
 -- two formulas that one text spells are one
 pub one_formula : (text : List ℕ) (f g : FormulaTree) → SpellsFormula text f → SpellsFormula text g → f ≡ g

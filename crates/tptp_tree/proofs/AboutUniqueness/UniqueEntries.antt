@@ -10,8 +10,8 @@ use Rattle.tptp_token.specs.Words.{bare, quoted}
 use Rattle.tptp_tree.specs.Spelling.{Atom, atom_lexemes, atomic}
 use Rattle.tptp_tree.specs.Brackets.{Bracket, open_after, open_behind, is_nothing_open, are_balanced}
 use Rattle.tptp_tree.specs.Entries.{PlainAtom, plain_true, plain_false, plain_predicate, plain_equation, atom_of, LiteralPhrase, positive_literal, negated_literal, negated_in_brackets, ClausePhrase, literals, clause_in_brackets, literal_lexemes, more_literals_lexemes, clause_lexemes, NamePhrase, word_name, digits_name, name_lexeme, is_right_name, Body, formula_body, clause_body, is_clause_body, body_lexemes, language_word, AnnotatedPhrase, is_right_annotated, notes_lexemes, annotated_lexemes, AnnotatedTree, IsAnnotatedOf, Selection, EntryPhrase, annotated_entry, whole_include, selected_include, is_right_entry, more_names_lexemes, include_end, entry_lexemes, problem_lexemes, EntryTree, annotated_tree, IsEntryOf, AreEntriesOf}
-use Rattle.tptp_tree.proofs.UniqueAtoms.{tail-same, head-same, first_is, first_joint, nothing, ors, EndsUnit, EndsPhrase, word-same, first_start, atom_start, atom-start, atom-same}
-use Rattle.tptp_tree.proofs.UniqueLemmas.{tilde, bracket, atom_of as atom_unit, first_unit, unit-start, or-ends, closed-ends, phrase-same}
+use Rattle.tptp_tree.proofs.AboutUniqueness.UniqueAtoms.{tail-same, head-same, first_is, first_joint, nothing, ors, EndsUnit, EndsPhrase, word-same, first_start, atom_start, atom-start, atom-same}
+use Rattle.tptp_tree.proofs.AboutUniqueness.UniqueLemmas.{tilde, bracket, atom_of as atom_unit, first_unit, unit-start, or-ends, closed-ends, phrase-same}
 
 -- ---- literals and clauses
 
@@ -98,7 +98,7 @@ clause-same (clause_in_brackets c) (clause_in_brackets d) rs ss h k e =
 
 -- ---- names and notes
 
-name-same : (n m : NamePhrase) → name_lexeme n ≡ name_lexeme m → n ≡ m
+pub name-same : (n m : NamePhrase) → name_lexeme n ≡ name_lexeme m → n ≡ m
 name-same (word_name w) (word_name v) e = ap word_name (word-same w v e)
 name-same (word_name (bare w)) (digits_name ds) e = absurd (let k : Lower ≡ Number = ap (λ (l : Lexeme). l.kind) e in cc)
 name-same (word_name (quoted w)) (digits_name ds) e = absurd (let k : Quoted ≡ Number = ap (λ (l : Lexeme). l.kind) e in cc)

@@ -15,8 +15,8 @@ use Rattle.tptp_tree.specs.Formula.{BinaryConnective, implies, implied, equivale
 use Rattle.tptp_token.specs.Words.{name_text, quoted_text}
 use Rattle.tptp_tree.specs.Printing.{term_text, arguments_text, more_arguments_text, equals_text, connective_text, quantifier_text, variables_text, more_variables_text, is_joined, is_bare, in_parentheses, formula_text, more_operands_text}
 use Rattle.tptp_tree.specs.Spelling.{term_lexemes, arguments_lexemes, more_arguments_lexemes, equals_lexeme, connective_lexeme, quantifier_lexeme, more_variables_lexemes, variables_lexemes, Phrase, in_brackets, units_lexemes, unit_lexemes, phrase_lexemes}
-use Rattle.tptp_tree.proofs.NameLemmas.{name-lexes, word_of}
-use Rattle.tptp_tree.proofs.CanonicalLemmas.{WellTerm, WellTerms, WellFormula, WellFormulas, term_phrase, term_phrases, phrase_of, units_of, unit_of, negated_unit, all_from}
+use Rattle.tptp_tree.proofs.AboutNames.NameLemmas.{name-lexes, word_of}
+use Rattle.tptp_tree.proofs.AboutPrinting.CanonicalLemmas.{WellTerm, WellTerms, WellFormula, WellFormulas, term_phrase, term_phrases, phrase_of, units_of, unit_of, negated_unit, all_from}
 
 -- one text behind another
 regroup : (a b c : List ℕ) (ls : List Lexeme) → Lexes (a ++ (b ++ c)) ls → Lexes (a ++ b ++ c) ls

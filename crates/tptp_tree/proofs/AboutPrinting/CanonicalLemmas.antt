@@ -6,7 +6,7 @@ use Rattle.tptp_tree.specs.Term.{TermTree, variable, application, TermTrees, no_
 use Rattle.tptp_tree.specs.Formula.{Quantifier, FormulaTree, truth, falsity, predicate, equation, negation, conjunction, disjunction, connected, quantified, FormulaTrees, no_formulas, formula_then}
 use Rattle.tptp_tree.specs.Printing.{is_bare}
 use Rattle.tptp_tree.specs.Spelling.{TermPhrase, variable_word, word_with, TermPhrases, no_phrases, phrase_then, term_meant, terms_meant, true_atom, false_atom, predicate_atom, equation_atom, UnitPhrase, negated, bound, in_brackets, atomic, UnitPhrases, no_units, unit_then, Phrase, alone, all_of, some_of, joined_by, unit_meant, units_meant, meant}
-use Rattle.tptp_tree.proofs.NameLemmas.{WellName, word_of, name_of-word_of}
+use Rattle.tptp_tree.proofs.AboutNames.NameLemmas.{WellName, word_of, name_of-word_of}
 
 -- ---- what a text can spell
 

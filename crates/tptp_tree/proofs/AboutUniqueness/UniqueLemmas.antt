@@ -7,7 +7,7 @@ use Rattle.tptp_token.specs.declared.token.Kind.TheVariants.{Lower, Variable, Qu
 use Rattle.tptp_tree.specs.Formula.{BinaryConnective, implies, implied, equivalent, different, nor, nand, Quantifier, for_all, exists_some}
 use Rattle.tptp_token.specs.Words.{Word, bare, quoted}
 use Rattle.tptp_tree.specs.Spelling.{TermPhrase, variable_word, word_with, term_lexemes, arguments_lexemes, true_atom, false_atom, predicate_atom, equation_atom, equals_lexeme, Variables, UnitPhrase, negated, bound, in_brackets, atomic, UnitPhrases, no_units, unit_then, Phrase, alone, all_of, some_of, joined_by, connective_lexeme, quantifier_lexeme, more_variables_lexemes, variables_lexemes, unit_lexemes, units_lexemes, phrase_lexemes}
-use Rattle.tptp_tree.proofs.UniqueAtoms.{tail-same, head-same, first_is, Joint, nothing, ands, ors, two_by, first_joint, EndsUnit, EndsPhrase, word-same, Start, other_start, dollar_start, atom_start, atom-same}
+use Rattle.tptp_tree.proofs.AboutUniqueness.UniqueAtoms.{tail-same, head-same, first_is, Joint, nothing, ands, ors, two_by, first_joint, EndsUnit, EndsPhrase, word-same, Start, other_start, dollar_start, atom_start, atom-same}
 
 -- ---- variables
 
