@@ -11,3 +11,4 @@ pub mod TellingEntries
 pub mod Faults
 pub mod Annotating
 pub mod Printed
+pub mod Rising

@@ -7,6 +7,7 @@ ghost use Rattle.tptp_reader.specs.Telling.{one, Halts, ReadsClause, ReadsPlainC
 
 use crate::bound::Bound;
 use crate::cause::Halt;
+use crate::lists::fitted_formulas;
 use crate::source::Reader;
 use std::alloc::Global;
 use tptp_tree::{Formula, FormulaBox, Formulas};
@@ -73,7 +74,7 @@ impl<'a> Reader<'a> {
         loop {
             let token = self.look(next)?;
             if !token.is_connective(b"|") {
-                return Ok((literals, next));
+                return Ok((fitted_formulas(literals), next));
             }
             let (literal, after) = self.literal(alloc, bound, next + 1, level)?;
             literals.push(literal)?;

@@ -10,6 +10,7 @@ ghost use Rattle.tptp_reader.specs.Telling.{one, IsNext, Halts, ReadsFormula, Re
 
 use crate::bound::Bound;
 use crate::cause::{Halt, Refusal};
+use crate::lists::fitted_formulas;
 use crate::source::{Binary, Name, Reader, binary_connective, is_quantifier};
 use plain_types::{Mem, Text, Texts};
 use std::alloc::Global;
@@ -93,7 +94,7 @@ impl<'a> Reader<'a> {
         loop {
             let token = self.look(next)?;
             if !token.is_connective(sign) {
-                return Ok((operands, next));
+                return Ok((fitted_formulas(operands), next));
             }
             let (operand, after) = self.unit(alloc, bound, next + 1, level)?;
             operands.push(operand)?;

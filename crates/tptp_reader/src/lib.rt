@@ -8,9 +8,11 @@ mod clauses;
 mod entry;
 mod formulas;
 pub mod laws;
+mod lists;
 mod notes;
 mod source;
 mod terms;
 
 pub use cause::{Form, ReadCause, ReadFault};
 pub use entry::{Read, annotated};
+pub use source::Name;

@@ -86,7 +86,7 @@ pub enum Binary {
     Nand,
 }
 
-/// A variable's name, as it stands in the text.
+/// A name that is lent, by which tables find it.
 #[derive(Clone, Copy)]
 pub struct Name<'a> {
     pub bytes: &'a [u8],

@@ -8,6 +8,7 @@ ghost use Rattle.tptp_reader.specs.Telling.{one, ReadsTerm, ReadsArguments, Read
 
 use crate::bound::Bound;
 use crate::cause::{Halt, Refusal};
+use crate::lists::fitted_terms;
 use crate::source::{Reader, refusal_as_term};
 use plain_types::Text;
 use std::alloc::Global;
@@ -79,7 +80,7 @@ impl<'a> Reader<'a> {
         loop {
             let token = self.look(next)?;
             if token.is_mark(b")") {
-                return Ok((terms, next + 1));
+                return Ok((fitted_terms(terms), next + 1));
             }
             if !token.is_mark(b",") {
                 return Err(Halt::At(Refusal::Syntax, next));
