@@ -6,7 +6,7 @@ use tptp_tree::{Formulas, TreeTerms};
 
 /// The same terms. Takes no memory.
 pub fn fitted_terms(terms: TreeTerms) -> TreeTerms
-    ensures { result ≡ terms.entry }
+    ensures { result ≡ terms }
 {
     let mut items = terms.into_vec();
     items.shrink_to_fit();
@@ -15,7 +15,7 @@ pub fn fitted_terms(terms: TreeTerms) -> TreeTerms
 
 /// The same formulas. Takes no memory.
 pub fn fitted_formulas(formulas: Formulas) -> Formulas
-    ensures { result ≡ formulas.entry }
+    ensures { result ≡ formulas }
 {
     let mut items = formulas.into_vec();
     items.shrink_to_fit();

@@ -1,5 +1,5 @@
 -- Tokens rise, and end within the text.
-use Rattle.std.proofs.Common.{◌≡◌, ◌≤◌, ◌<◌, ℕ, zero, suc, ◌+◌, ◌-◌, List, [], ◌∷◌, length, refl, arith}
+use Rattle.std.proofs.Common.{◌≡◌, ◌≤◌, ℕ, zero, suc, ◌+◌, ◌-◌, List, [], ◌∷◌, length, arith}
 use Rattle.tptp_token.specs.Pieces.{piece_of, StaysWithin}
 use Rattle.tptp_token.specs.Lexing.{piece_length, with_piece, lexed_from, lexed_of}
 use Rattle.tptp_token.specs.declared.piece.Piece.{Piece}
