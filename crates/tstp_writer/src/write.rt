@@ -9,6 +9,7 @@ ghost use Rattle.tstp_writer.specs.Cone.{NeedEarlier};
 ghost use Rattle.tstp_writer.specs.ReadableLines.{Fits};
 ghost use Rattle.tstp_writer.specs.Written.{IsWritten, IsAcceptedWhereReadable};
 
+use crate::fits::prove_lines_fit;
 use crate::layout::lay_out;
 use crate::needed::cone;
 use crate::page::Page;
@@ -49,6 +50,7 @@ pub fn write_lines(
         prefix: prefix.as_slice(),
     };
     prove_counts(form);
+    prove_lines_fit(lines.as_slice());
     let lines_needed = cone(alloc, lines, last)?;
     let layout = lay_out(alloc, script, lines.as_slice(), lines_needed)?;
     let mut page = Page::new(alloc);
