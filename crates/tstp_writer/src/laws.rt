@@ -12,9 +12,6 @@ ghost use Rattle.fol_base.specs.Tree.{variable};
 ghost use Rattle.fol_base.specs.Clause.{TreeClause};
 ghost use Rattle.clausal_form.specs.DerivationCauses.{text};
 ghost use Rattle.clausal_form.specs.DerivationLines.{verdict_on_lines, accepted, refused_line};
-ghost use Rattle.tptp_tree.specs.Term.{variable as named_variable, no_terms};
-ghost use Rattle.tptp_tree.specs.Formula.{implies, for_all, truth, falsity, predicate, equation, negation, conjunction, connected, quantified, no_formulas, formula_then};
-ghost use Rattle.tstp_writer.specs.Levels.{formula_levels};
 ghost use Rattle.tstp_writer.specs.DerivedLines.{DerivedLinesAreTaken};
 ghost use Rattle.tstp_writer.specs.LineTexts.{line_text, lines_text};
 ghost use Rattle.tstp_writer.specs.LineTrees.{script_of, derived_name, step_source, clause_tree, derivation_trees};
@@ -49,16 +46,6 @@ pub fn needed_line_examples()
 pub fn cone_examples()
     ensures split { IsCone split_lines 5 (0 ∷ 1 ∷ 2 ∷ 4 ∷ 5 ∷ []) }
     ensures implication { IsCone implication_steps 7 implication_numbers }
-{}
-
-/// What stands behind `~` has parentheses of its own where it is quantified or an equation, and none where it is negated or another
-/// atom. An operand has them where it is joined.
-pub fn printed_level_examples()
-    ensures negated_quantifier { formula_levels (negation (quantified for_all (codes "X" ∷ []) (predicate (codes "p") no_terms))) ≡ 4 }
-    ensures negated_equation { formula_levels (negation (equation true (named_variable (codes "X")) (named_variable (codes "Y")))) ≡ 2 }
-    ensures negated_twice { formula_levels (negation (negation (predicate (codes "p") no_terms))) ≡ 2 }
-    ensures joined_operand { formula_levels (connected implies
-        (conjunction (formula_then truth (formula_then falsity no_formulas))) (negation truth)) ≡ 1 }
 {}
 
 /// The formulas of a problem that was read can be printed, with at most twice the levels that a text may have; so can the lines
