@@ -4,8 +4,8 @@ use Rattle.std.specs.List.{AllByRecursion}
 use Rattle.fol_base.specs.Tree.{tree_variables}
 use Rattle.kernel_steps.specs.declared.step.Step.{Step}
 use Rattle.tstp_writer.specs.ReadableLines.{Fits, bound_by}
-use Rattle.pool_writer.proofs.FitLemmas.{one-fits, two-fit}
-use Rattle.pool_writer.proofs.fits.prove_step_fits.Goals as goal
+use Rattle.tstp_writer.proofs.AboutPrinted.FitLemmas.{one-fits, two-fit}
+use Rattle.tstp_writer.proofs.fits.prove_variables_fit.Goals as goal
 
 -- the variables of what a step binds
 abbrev AreCounted : Step → Type 0

@@ -1,7 +1,8 @@
--- Variables below a bound are counted by a machine word.
+-- Numbers of machine words can be read again.
 use Rattle.std.proofs.Common.{◌≡◌, ℕ, ◌+◌, ◌≤◌, ◌^◌, List, [], ◌∷◌, ◌++◌, zero, suc, take, length, refl, ap, sym, subst, arith}
 use Rattle.std.specs.Prelude.{flat_map, slice_get, Some}
 use Rattle.std.specs.List.{AllByRecursion}
+use Rattle.std.proofs.lemmas.Grind.{flat_map-append}
 use Rattle.fol_base.specs.Tree.{Tree, trees_of, tree_variables, trees_variables}
 use Rattle.fol_base.specs.Clause.{TreeClause, clause_variables}
 use Rattle.fol_base.specs.Canonical.{bound_of}
@@ -75,3 +76,18 @@ take-past (x ∷ xs) (suc k) long = ap (λ ys. x ∷ ys) (take-past xs k (omega 
 
 pub all-taken : {X : Type 0} (P : X → Type 0) (xs : List X) (k : ℕ) → length xs ≤ k → AllByRecursion P (take k xs) → AllByRecursion P xs
 all-taken P xs k long all = subst (AllByRecursion P) (take-past xs k long) all
+
+-- the numbers of lists, one list after another
+pub lists-more :
+    (xs : List (List ℕ)) (k : ℕ) (x : List ℕ)
+    → slice_get xs k ≡ Some x → AllByRecursion Fits (flat_map (λ ns. ns) (take k xs)) → AllByRecursion Fits x
+    → AllByRecursion Fits (flat_map (λ ns. ns) (take (k + 1) xs))
+lists-more xs k x at all one =
+    subst (λ ys. AllByRecursion Fits (flat_map (λ ns. ns) ys)) (sym (take_more_there xs k x at))
+    (subst (AllByRecursion Fits) (sym (flat_map-append (λ ns. ns) (take k xs) (x ∷ [])))
+    (fits-append (flat_map (λ ns. ns) (take k xs)) (x ++ []) all (fits-append x [] one tt)))
+
+pub lists-taken :
+    (xs : List (List ℕ)) (k : ℕ) → length xs ≤ k → AllByRecursion Fits (flat_map (λ ns. ns) (take k xs))
+    → AllByRecursion Fits (flat_map (λ ns. ns) xs)
+lists-taken xs k long all = subst (λ ys. AllByRecursion Fits (flat_map (λ ns. ns) ys)) (take-past xs k long) all
