@@ -14,7 +14,6 @@ use Rattle.kernel_steps.specs.declared.step.Step.TheVariants.{Component}
 use Rattle.kernel_steps.specs.declared.step.Line.{Line}
 use Rattle.kernel_steps.proofs.AboutCalls.LineLemmas.{last-there}
 use Rattle.clausal_form.specs.FormLaws.{use_of}
-use Rattle.tstp_writer.specs.ReadableLines.{line_variables, Fits}
 use Rattle.tstp_writer.specs.WrittenLaws.{IsReadableRefutation}
 use Rattle.pool_core.specs.Derived.{is_plain_step, ArePoolLines, LinesAreDerived, RefutedIsRefutation}
 use Rattle.pool_core.specs.Inputs.{AreInputs, IsUseOf, IsHistoryOf}
@@ -82,7 +81,6 @@ module _ (fs : List Annotated) (form : List TreeClause) (lines : List Line) (is 
   }
 
   module _ (made : List Line) (refutes : IsRefutation form made) (retracing : IsRetracing form (steps_of lines) made)
-      (fits : AllByRecursion (λ (l : Line). AllByRecursion Fits (line_variables l.step (clause_of l.clause))) made)
     where
       pub made-refutes : IsRefutation (clausal_form fs).clauses made
       made-refutes = subst (λ (cs : List TreeClause). IsRefutation cs made) is.same refutes
@@ -110,7 +108,7 @@ module _ (fs : List Annotated) (form : List TreeClause) (lines : List Line) (is 
         readable =
             λ n line at needed.
             readable-anew fs lines is.of_pool retracing.numbers made
-            (retracing.lines lines (subst (λ (cs : List TreeClause). IsRefutation cs lines) (sym is.same) is.refutes).derived refl) fits n line at;
+            (retracing.lines lines (subst (λ (cs : List TreeClause). IsRefutation cs lines) (sym is.same) is.refutes).derived refl) n line at;
         names = λ n m name greater line later at later_at needed later_needed less step_is later_is. absurd (none-introduced n line name at step_is);
         line = refutes.last;
         ends =

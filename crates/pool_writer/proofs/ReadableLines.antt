@@ -23,8 +23,7 @@ use Rattle.kernel_steps.specs.declared.step.Step.TheVariants.{Input, Negate, Cla
 use Rattle.kernel_steps.specs.declared.step.Line.{Line}
 use Rattle.clausal_form.specs.FormFunctions.{is_predicate_in}
 use Rattle.clausal_form.specs.FormLaws.{use_of}
-use Rattle.tstp_writer.specs.ReadableLines.{step_numbers, is_symbol_in, is_term_over, line_variables, Fits, IsReadable, IsReadableLine}
-use Rattle.tstp_writer.proofs.AboutPrinted.PlaceLemmas.{all-there}
+use Rattle.tstp_writer.specs.ReadableLines.{is_symbol_in, is_term_over, IsReadable, IsReadableLine}
 use Rattle.pool_core.specs.Derived.{is_plain_step, is_function_term_of, IsPlainLine, ArePoolLines}
 use Rattle.retracing.specs.Needed.{is_plain_step as is_retraced_step}
 use Rattle.retracing.specs.Renumbered.{renumbered}
@@ -34,19 +33,6 @@ use Rattle.pool_writer.proofs.FormSymbols.{form-symbols-pass, truth-passes}
 use Rattle.pool_writer.proofs.FormUse.{literals-over}
 
 -- ---- steps
-
-plain-numbers : (step : Step) → is_plain_step step ≡ true → AllByRecursion Fits (step_numbers step)
-plain-numbers (Clausify i) plain = tt
-plain-numbers (Para first second from from_side into into_side place first_bind second_bind) plain = tt
-plain-numbers (Refl parent literal bind) plain = tt
-plain-numbers (Factor parent becomes becomes_side other other_side bind) plain = tt
-plain-numbers (Merge parent stays goes bind) plain = tt
-plain-numbers (Input place) plain = tt
-plain-numbers (Negate place) plain = tt
-plain-numbers (Component name) plain = absurd (false≢true plain)
-plain-numbers (Opposite name) plain = tt
-plain-numbers (Split parent definitions parts) plain = absurd (false≢true plain)
-plain-numbers (Chain numbers pivots) plain = tt
 
 plain-retraced : (step : Step) → is_plain_step step ≡ is_retraced_step step
 plain-retraced (Clausify i) = refl
@@ -100,8 +86,8 @@ term-over symbols t formed known =
     (and_parts (is_function_term (is_predicate_in symbols) t) (has_arities (use_of symbols).arity t) formed).0 known
 
 plain-readable :
-    (symbols : List Symbol) (step : Step) (c : TreeClause) → IsPlain symbols step c → AllByRecursion Fits (line_variables step c) → IsReadable symbols step c
-plain-readable symbols step c is fits = record {
+    (symbols : List Symbol) (step : Step) (c : TreeClause) → IsPlain symbols step c → IsReadable symbols step c
+plain-readable symbols step c is = record {
   literals = literals-over symbols c.literals is.formed is.known;
   sides = is.sides;
   binds =
@@ -110,8 +96,6 @@ plain-readable symbols step c is fits = record {
       (bindings_of step) is.terms is.bound;
   small = is.small;
   canonical = is.canonical;
-  variables = fits;
-  numbers = plain-numbers step is.plain;
 }
 
 -- ---- the lines of a pool
@@ -151,12 +135,10 @@ module _ (fs : List Annotated) (lines : List Line)
     -- the lines that are made anew can be read again
     pub readable-anew :
         (numbers : List ℕ) (made : List Line) → AreRetraced numbers lines made
-        → AllByRecursion (λ (l : Line). AllByRecursion Fits (line_variables l.step (clause_of l.clause))) made
         → (n : ℕ) (line : Line) → slice_get made n ≡ Some line → IsReadableLine symbols line
-    readable-anew numbers made retraced fits n line at =
+    readable-anew numbers made retraced n line at =
         plain-readable symbols line.step (clause_of line.clause)
         (property-carries_over (IsPlain symbols) numbers lines made (renumbered-is-plain symbols) retraced plain-at n line at)
-        (all-there (λ (l : Line). AllByRecursion Fits (line_variables l.step (clause_of l.clause))) made n line fits at)
 
     -- and introduce no names
     pub plain-anew :

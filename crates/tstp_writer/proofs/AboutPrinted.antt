@@ -1,6 +1,7 @@
 -- Printed clauses, terms, names and sources.
 pub mod AcceptedTexts
 pub mod ClausePhrases
+pub mod FitLemmas
 pub mod LayoutLemmas
 pub mod LineLemmas
 pub mod NameOrder

@@ -17,7 +17,7 @@ use Rattle.clausal_form.specs.DerivationCauses.{is_line_of, taken, line_verdict}
 use Rattle.tstp_writer.specs.Cone.{parents_of, has_number, IsRising}
 use Rattle.tstp_writer.specs.ClauseTrees.{introduced_name}
 use Rattle.tstp_writer.specs.LineTrees.{Script, script_of, origin, Layout, place_in, derived_name, origin_name, step_source, clause_tree}
-use Rattle.tstp_writer.specs.ReadableLines.{Fits, IsReadableLine, step_names, read_clause, written_place, placed_line, taken_as}
+use Rattle.tstp_writer.specs.ReadableLines.{Fits, IsReadableLine, NumbersFit, step_names, read_clause, written_place, placed_line, taken_as}
 
 -- the symbols of a problem's clausal form are those of a signature, and the numbers of its clauses can be read again
 pub record HasNumberedForm (problem : List Annotated) : Type 0 where
@@ -77,7 +77,8 @@ IsNewLine layout e n = list_any (λ (l : NamedLine). bytes_eq (derived_name layo
 abbrev pub DerivedLinesAreTaken : Type 0
 DerivedLinesAreTaken =
     (problem : List Annotated) (file : List ℕ) (layout : Layout) (names known : List ℕ) (lines : List Line) (e : Taken) (n : ℕ) (line : Line)
-    → HasNumberedForm problem → IsReadableLine (clausal_form problem).symbols line → IsTrue (is_clause_step line.step)
+    → HasNumberedForm problem → IsReadableLine (clausal_form problem).symbols line → NumbersFit line.step (clause_of line.clause)
+    → IsTrue (is_clause_step line.step)
     → ComesBy line.step (clausal_form problem).clauses (take n lines) (clause_of line.clause)
     → AreIntroduced (script_of file problem).prefix names known e line.step → IsNewLine layout e n
     → SourcesAreTaken problem (script_of file problem) layout names known lines e n line.step

@@ -69,14 +69,20 @@ pub record IsReadable (symbols : List Symbol) (step : Step) (c : TreeClause) : T
   pub binds : IsTrue (binds_each (is_term_over symbols) step)
   pub small : IsTrue (binds_each is_small_term step)
   pub canonical : IsCanonical c
-  pub variables : AllByRecursion Fits (line_variables step c)
-  pub numbers : AllByRecursion Fits (step_numbers step)
 
 abbrev pub IsReadableLine : List Symbol → Line → Type 0
 IsReadableLine symbols line = IsReadable symbols line.step (clause_of line.clause)
 
 abbrev pub IsReadableClauseLine : List Symbol → Line → Type 0
 IsReadableClauseLine symbols line = IsTrue (is_clause_step line.step) × IsReadableLine symbols line
+
+-- The numbers in the text of a line can be read again. Those of the kernel's own lines are machine words.
+pub record NumbersFit (step : Step) (c : TreeClause) : Type 0 where
+  pub variables : AllByRecursion Fits (line_variables step c)
+  pub numbers : AllByRecursion Fits (step_numbers step)
+
+abbrev pub LinesFit : List Line → Type 0
+LinesFit lines = AllByRecursion (λ (l : Line). NumbersFit l.step (clause_of l.clause)) lines
 
 -- ---- names
 

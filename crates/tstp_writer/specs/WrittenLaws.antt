@@ -10,7 +10,7 @@ use Rattle.kernel_steps.specs.declared.step.Line.{Line}
 use Rattle.clausal_form.specs.DerivationLines.{accepted, verdict_on_lines}
 use Rattle.tstp_writer.specs.Cone.{IsNeeded, IsCone}
 use Rattle.tstp_writer.specs.LineTrees.{script_of, layout_of, derivation_trees}
-use Rattle.tstp_writer.specs.ReadableLines.{IsReadableLine}
+use Rattle.tstp_writer.specs.ReadableLines.{IsReadableLine, LinesFit}
 use Rattle.tstp_writer.specs.DerivedLines.{HasNumberedForm}
 use Rattle.tstp_writer.specs.Places.{IsCounted}
 
@@ -39,6 +39,6 @@ pub record IsReadableRefutation (problem : List Annotated) (lines : List Line) (
 abbrev pub WrittenLinesAreAccepted : Type 0
 WrittenLinesAreAccepted =
     (file : List ℕ) (problem : List Annotated) (lines : List Line) (last : ℕ) (numbers : List ℕ)
-    → HasNumberedForm problem → IsReadableRefutation problem lines last → IsCone lines last numbers → IsCounted (layout_of (script_of file problem) lines numbers)
+    → HasNumberedForm problem → LinesFit lines → IsReadableRefutation problem lines last → IsCone lines last numbers → IsCounted (layout_of (script_of file problem) lines numbers)
     → verdict_on_lines problem (derivation_trees (script_of file problem) lines numbers)
     ≡ accepted (length (derivation_trees (script_of file problem) lines numbers))

@@ -9,7 +9,7 @@ use Rattle.clausal_form.specs.DerivationLine.{LineTree}
 use Rattle.clausal_form.specs.DerivationTexts.{SpellsDerivation}
 use Rattle.tstp_writer.specs.LineTexts.{lines_text}
 use Rattle.tstp_writer.specs.LineTrees.{script_of, Layout, lines_at, derived_tree, derivation_trees}
-use Rattle.tstp_writer.specs.ReadableLines.{IsReadableClauseLine}
+use Rattle.tstp_writer.specs.ReadableLines.{IsReadableClauseLine, LinesFit}
 use Rattle.tstp_writer.specs.Printable.{IsShown, IsPrintable}
 use Rattle.tstp_writer.specs.ProblemLaws.{ArePrintableEntries}
 use Rattle.tstp_writer.specs.DerivedLines.{HasNumberedForm}
@@ -57,4 +57,4 @@ ReadableDerivationsAreSpelled =
 abbrev pub WrittenTextsAreAccepted : Type 0
 WrittenTextsAreAccepted =
     (file : List ℕ) (problem : List Annotated) (lines : List Line) (last : ℕ) (text : List ℕ)
-    → HasNumberedForm problem → IsWritten file problem lines last text → IsAcceptedWhereReadable file problem lines last text
+    → HasNumberedForm problem → LinesFit lines → IsWritten file problem lines last text → IsAcceptedWhereReadable file problem lines last text

@@ -41,7 +41,7 @@ use Rattle.clausal_form.specs.DerivationParts.{Setting, setting_of, line_kind, i
 use Rattle.clausal_form.specs.DerivationCauses.{text, order, unknown_parent, clausification, binding, rule, conclusion, new_symbol, fault, gives_clause, is_line_of, is_clausified, index_in, is_bound, are_bound, line_step, concluded, given_by_rule, given_by, is_formula_kind, is_written, has_new_symbol, is_old_name, LineVerdict, refused, taken, compared, line_verdict, opposite_from}
 use Rattle.tstp_writer.specs.ClauseTrees.{variable_name, clause_formula, introduced_name}
 use Rattle.tstp_writer.specs.LineTrees.{Script, script_of, Layout, derived_name, status_item, step_items, step_source, clause_tree, place_in, pivot_item}
-use Rattle.tstp_writer.specs.ReadableLines.{is_term_over, bound_by, line_variables, IsReadable, written_place, read_renaming, read_terms, placed_step, placed_line, Fits, step_names, read_name, read_clause}
+use Rattle.tstp_writer.specs.ReadableLines.{NumbersFit, is_term_over, bound_by, line_variables, IsReadable, written_place, read_renaming, read_terms, placed_step, placed_line, Fits, step_names, read_name, read_clause}
 use Rattle.tstp_writer.specs.DerivedLines.{HasNumberedForm, ParentIsTaken, OriginIsTaken, SourcesAreTaken, IsNewLine, DerivedLinesAreTaken, AreIntroduced, IsKnown, ComponentIsTaken}
 use Rattle.tstp_writer.proofs.AboutPrinted.VariableNames.{IsReadBy, AreReadBy, all-front, all-back, read-by-places}
 use Rattle.tstp_writer.proofs.AboutPrinted.WrittenNumbers.{decimal-back}
@@ -168,9 +168,10 @@ module _ (problem : List Annotated) (file : List ℕ) (layout : Layout) (names k
   tree n c step = clause_tree script (derived_name layout n) c (step_source script layout step)
 
   pub read-back :
-      (n : ℕ) (step : Step) (c : TreeClause) → IsReadable symbols step c → Introduced step → AllKnown c.names → are_sorted c.names ≡ true
+      (n : ℕ) (step : Step) (c : TreeClause) → IsReadable symbols step c → NumbersFit step c → Introduced step → AllKnown c.names
+      → are_sorted c.names ≡ true
       → IsReadBack (tree n c step) step c
-  read-back n step c r a known_names sorted =
+  read-back n step c r f a known_names sorted =
       record {
         written =
             or_right (is_formula_kind (line_kind t)) (true && is_written_clause (line_names e t) formula)
@@ -246,7 +247,7 @@ module _ (problem : List Annotated) (file : List ℕ) (layout : Layout) (names k
           (ap (λ xs. numbered_from 0 (different_names xs)) named)
 
       read : AreReadBy environment σ variables
-      read = read-by-places variables r.variables
+      read = read-by-places variables f.variables
 
       read_clause_is :
           clause_by (numbered symbols (form.symbols).different environment σ) (map (introduced_name script.prefix) known) formula
@@ -300,7 +301,7 @@ module _ (problem : List Annotated) (file : List ℕ) (layout : Layout) (names k
   -- what is to be shown of a step
   abbrev pub IsTakenBy : ℕ → TreeClause → Step → Type 0
   IsTakenBy n c step =
-      IsReadable symbols step c → Introduced step → ComesBy step (clausal_form problem).clauses (take n lines) c
+      IsReadable symbols step c → NumbersFit step c → Introduced step → ComesBy step (clausal_form problem).clauses (take n lines) c
       → SourcesAreTaken problem script layout names known lines e n step
       → IsTakenLine (tree n c step) c (placed_line layout names step c)
 

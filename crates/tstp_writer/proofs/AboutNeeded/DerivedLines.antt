@@ -20,13 +20,13 @@ use Rattle.clausal_form.specs.DerivationParts.{Setting, setting_of, entry_at, li
 use Rattle.clausal_form.specs.DerivationCauses.{fits, is_conjecture_at as is_conjecture_in, taken, line_verdict}
 use Rattle.tstp_writer.specs.Cone.{parents_of, has_number, IsRising, IsCone, IsAbove, IsNeeded}
 use Rattle.tstp_writer.specs.LineTrees.{Script, script_of, is_conjecture_at, origin, Layout, comes_from, lines_at, layout_of, line_name, place_in, cited_name, negated_name, derived_name, step_source, input_at, negate_at, clause_tree, line_tree, derived_tree}
-use Rattle.tstp_writer.specs.ReadableLines.{IsReadableLine, written_place, placed_line, first_place, taken_as, inputs_taken, negations_taken, derived_taken, all_written, Fits, step_numbers, step_names, names_of_lines, read_clause, read_renaming, placed_step}
+use Rattle.tstp_writer.specs.ReadableLines.{NumbersFit, LinesFit, IsReadableLine, written_place, placed_line, first_place, taken_as, inputs_taken, negations_taken, derived_taken, all_written, Fits, step_numbers, step_names, names_of_lines, read_clause, read_renaming, placed_step}
 use Rattle.tstp_writer.specs.DerivedLines.{HasNumberedForm, ParentIsTaken, OriginIsTaken, SourcesAreTaken, IsKnown, AreIntroduced, ComponentIsTaken}
 use Rattle.tstp_writer.specs.Places.{IsCounted}
 use Rattle.tstp_writer.specs.WrittenLaws.{IsReadableRefutation}
 use Rattle.tstp_writer.proofs.AboutPrinted.StepTrees.{tree-is}
 use Rattle.tstp_writer.proofs.ReadAgain.SameLemmas.{entry-turned, same-conjecture}
-use Rattle.tstp_writer.proofs.AboutPrinted.PlaceLemmas.{there-below, kept-there, there-behind, number-there, has-passing, has-between, all-passing, passing-pass, all-from, all-below, rising-passing, rising-numbers, AllPlaced, rising-placed, stands-before, AreNamed, named-joined, name-new, above-has}
+use Rattle.tstp_writer.proofs.AboutPrinted.PlaceLemmas.{all-there, there-below, kept-there, there-behind, number-there, has-passing, has-between, all-passing, passing-pass, all-from, all-below, rising-passing, rising-numbers, AllPlaced, rising-placed, stands-before, AreNamed, named-joined, name-new, above-has}
 use Rattle.tstp_writer.proofs.AboutPrinted.WalkLemmas.{state, Walks, walk-none, walk-line, named_state, NamedWalk, named-none, named-line}
 use Rattle.tstp_writer.proofs.ReadAgain.InputLines.{IsFirstPlace, first-place, entry-there, input_taken, negation_taken, inputs-walk, HasInputs, HasNegations, has-inputs, has-negations, found-there, negations-walk, inputs-length, negations-length, inputs-named, negations-named, inputs-stand, negations-stand}
 use Rattle.tstp_writer.proofs.AboutPrinted.OriginLemmas.{IsBelow, form-origin}
@@ -86,7 +86,7 @@ module _ (file : List ℕ) (problem : List Annotated) (lines : List Line) (numbe
 
   -- ---- all lines of the derivation
 
-  module _ (last : ℕ) (form : HasNumberedForm problem) (r : IsReadableRefutation problem lines last) (cone : IsCone lines last numbers) (counted : IsCounted layout) where
+  module _ (last : ℕ) (form : HasNumberedForm problem) (fits : LinesFit lines) (r : IsReadableRefutation problem lines last) (cone : IsCone lines last numbers) (counted : IsCounted layout) where
     all-above : (name : ℕ) (ms : List ℕ) → AllByRecursion (λ m. name < m) ms → IsAbove name ms
     all-above name [] h = tt
     all-above name (m ∷ ms) h = (h.0, all-above name ms h.1)
@@ -131,10 +131,13 @@ module _ (file : List ℕ) (problem : List Annotated) (lines : List Line) (numbe
     names-rise : IsRising names
     names-rise = rising-in numbers cone.rising (λ n has. has)
 
+    numbers-there : (n : ℕ) (line : Line) → slice_get lines n ≡ Some line → NumbersFit line.step (clause_of line.clause)
+    numbers-there n line at = all-there (λ (l : Line). NumbersFit l.step (clause_of l.clause)) lines n line fits at
+
     names-fit : AllByRecursion Fits names
     names-fit =
         each-name file problem lines numbers Fits numbers λ m name line has at step_is.
-        (subst (λ st. AllByRecursion Fits (step_numbers st)) step_is (readable-there problem lines last numbers r cone m line at has).numbers).0
+        (subst (λ st. AllByRecursion Fits (step_numbers st)) step_is (numbers-there m line at).numbers).0
 
     introduced-so-far :
         (ls : List NamedLine) (before : List ℕ) (n : ℕ) (after : List ℕ) (line : Line) (step : Step) → slice_get lines n ≡ Some line
@@ -161,7 +164,7 @@ module _ (file : List ℕ) (problem : List Annotated) (lines : List Line) (numbe
         (clause_tree script (derived_name layout n) (clause_of (c.line).clause) (step_source script layout (c.line).step))
         (clause_of (c.line).clause) (placed_line layout names (c.line).step (clause_of (c.line).clause))
     line-is-taken ls before n after c st whole place has =
-        line-taken problem file layout names known lines (named_state ls introduced) n c.line form readable c.is_clause (r.derived n c.line c.there)
+        line-taken problem file layout names known lines (named_state ls introduced) n c.line form readable (numbers-there n c.line c.there) c.is_clause (r.derived n c.line c.there)
         (introduced-so-far ls before n after c.line (c.line).step c.there refl whole)
         (ap (λ k. list_any (λ (l : NamedLine). bytes_eq (line_name k) l.name) ls) number
         ∙ name-new (length ls) 0 ls small (omega arith) st.named)

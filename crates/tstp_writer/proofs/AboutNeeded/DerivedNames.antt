@@ -41,7 +41,7 @@ use Rattle.clausal_form.specs.DerivationParts.{Setting, setting_of, line_kind, i
 use Rattle.clausal_form.specs.DerivationCauses.{text, order, unknown_parent, clausification, binding, rule, conclusion, new_symbol, fault, gives_clause, is_line_of, is_clausified, index_in, is_bound, are_bound, line_step, concluded, given_by_rule, given_by, is_formula_kind, is_written, has_new_symbol, is_old_name, LineVerdict, refused, taken, compared, line_verdict, opposite_from}
 use Rattle.tstp_writer.specs.ClauseTrees.{variable_name, clause_formula, introduced_name}
 use Rattle.tstp_writer.specs.LineTrees.{Script, script_of, Layout, derived_name, status_item, step_items, step_source, clause_tree, place_in, pivot_item}
-use Rattle.tstp_writer.specs.ReadableLines.{is_term_over, bound_by, line_variables, IsReadable, IsReadableLine, written_place, read_renaming, read_terms, placed_step, placed_line, Fits, step_names, read_name, read_clause}
+use Rattle.tstp_writer.specs.ReadableLines.{NumbersFit, is_term_over, bound_by, line_variables, IsReadable, IsReadableLine, written_place, read_renaming, read_terms, placed_step, placed_line, Fits, step_names, read_name, read_clause}
 use Rattle.tstp_writer.specs.DerivedLines.{HasNumberedForm, ParentIsTaken, OriginIsTaken, SourcesAreTaken, IsNewLine, DerivedLinesAreTaken, AreIntroduced, IsKnown, ComponentIsTaken}
 use Rattle.tstp_writer.proofs.AboutPrinted.VariableNames.{IsReadBy, AreReadBy, all-front, all-back, read-by-places}
 use Rattle.tstp_writer.proofs.AboutPrinted.WrittenNumbers.{decimal-back}
@@ -93,7 +93,7 @@ module _ (problem : List Annotated) (file : List ℕ) (layout : Layout) (names k
     -- ---- clauses of the form
 
     pub clausify-taken : (i : ℕ) → IsTaken n c (Clausify i)
-    clausify-taken i r a comes sources =
+    clausify-taken i r f a comes sources =
         verdict-taken problem file layout names known lines e form t (Clausify i) c (Clausify i) back known_names new (ap (λ o. is_some o && true) from.there) given refl
       where
         t : LineTree
@@ -110,7 +110,7 @@ module _ (problem : List Annotated) (file : List ℕ) (layout : Layout) (names k
         known_names = subst AllKnown (sym nameless) tt
 
         back : IsReadBack problem file layout names known lines e form t (Clausify i) c
-        back = read-back problem file layout names known lines e form n (Clausify i) c r a known_names (ap are_sorted nameless)
+        back = read-back problem file layout names known lines e form n (Clausify i) c r f a known_names (ap are_sorted nameless)
 
         with_names : List NameLit → TreeClause
         with_names ns = record { literals = c.literals; names = ns }
@@ -158,7 +158,7 @@ module _ (problem : List Annotated) (file : List ℕ) (layout : Layout) (names k
     one-known m one is_known = subst AllKnown (sym one) (is_known, tt)
 
     pub component-taken : (name : ℕ) → IsTaken n c (Component name)
-    component-taken name r a comes sources =
+    component-taken name r f a comes sources =
         verdict-taken problem file layout names known lines e form t step c placed back known_names new refl given no_old
       where
         step : Step
@@ -189,7 +189,7 @@ module _ (problem : List Annotated) (file : List ℕ) (layout : Layout) (names k
         known_names = one-known (negative_of name) comes.one_name is_known
 
         back : IsReadBack problem file layout names known lines e form t step c
-        back = read-back problem file layout names known lines e form n step c r a known_names (ap are_sorted comes.one_name)
+        back = read-back problem file layout names known lines e form n step c r f a known_names (ap are_sorted comes.one_name)
 
         -- the name's number is the next one
         number : position_or_len (bytes_eq (intro name)) e.introduced ≡ place_in name names
@@ -220,7 +220,7 @@ module _ (problem : List Annotated) (file : List ℕ) (layout : Layout) (names k
             (ap (list_any (bytes_eq (intro name))) a.introduced ∙ any-intro script.prefix name a.before fit so_far.before_fit ∙ is_new)
 
     pub opposite-taken : (name : ℕ) → IsTaken n c (Opposite name)
-    opposite-taken name r a comes sources =
+    opposite-taken name r f a comes sources =
         verdict-taken problem file layout names known lines e form t step c placed back known_names new refl given refl
       where
         step : Step
@@ -242,7 +242,7 @@ module _ (problem : List Annotated) (file : List ℕ) (layout : Layout) (names k
         known_names = one-known (positive_of name) comes.one_name sources.name_known
 
         back : IsReadBack problem file layout names known lines e form t step c
-        back = read-back problem file layout names known lines e form n step c r a known_names (ap are_sorted comes.one_name)
+        back = read-back problem file layout names known lines e form n step c r f a known_names (ap are_sorted comes.one_name)
 
         before_is : a.before ≡ known
         before_is = sym (a.known_are ∙ append-nil a.before)
@@ -306,16 +306,17 @@ module _ (problem : List Annotated) (file : List ℕ) (layout : Layout) (names k
 -- and its names are known then
 pub line-taken :
     (problem : List Annotated) (file : List ℕ) (layout : Layout) (names known : List ℕ) (lines : List Line) (e : Taken) (n : ℕ) (line : Line)
-    (form : HasNumberedForm problem) → IsReadableLine (clausal_form problem).symbols line → is_clause_step line.step ≡ true
+    (form : HasNumberedForm problem) → IsReadableLine (clausal_form problem).symbols line → NumbersFit line.step (clause_of line.clause)
+    → is_clause_step line.step ≡ true
     → ComesBy line.step (clausal_form problem).clauses (take n lines) (clause_of line.clause)
     → AreIntroduced (script_of file problem).prefix names known e line.step → IsNewLine layout e n
     → SourcesAreTaken problem (script_of file problem) layout names known lines e n line.step
     → IsTakenLine problem file layout names known lines e form
     (clause_tree (script_of file problem) (derived_name layout n) (clause_of line.clause) (step_source (script_of file problem) layout line.step))
     (clause_of line.clause) (placed_line layout names line.step (clause_of line.clause))
-line-taken problem file layout names known lines e n line form readable clause comes introduced new sources =
-    step-taken problem file layout names known lines e form n (clause_of line.clause) new line.step clause readable introduced comes sources
+line-taken problem file layout names known lines e n line form readable fits clause comes introduced new sources =
+    step-taken problem file layout names known lines e form n (clause_of line.clause) new line.step clause readable fits introduced comes sources
 
 pub derived-taken : DerivedLinesAreTaken
-derived-taken problem file layout names known lines e n line form readable clause comes introduced new sources =
-    (line-taken problem file layout names known lines e n line form readable clause comes introduced new sources).verdict_is
+derived-taken problem file layout names known lines e n line form readable fits clause comes introduced new sources =
+    (line-taken problem file layout names known lines e n line form readable fits clause comes introduced new sources).verdict_is

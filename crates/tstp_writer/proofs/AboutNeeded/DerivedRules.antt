@@ -41,7 +41,7 @@ use Rattle.clausal_form.specs.DerivationParts.{Setting, setting_of, line_kind, i
 use Rattle.clausal_form.specs.DerivationCauses.{text, order, unknown_parent, clausification, binding, rule, conclusion, new_symbol, fault, gives_clause, is_line_of, is_clausified, index_in, is_bound, are_bound, line_step, concluded, given_by_rule, given_by, is_formula_kind, is_written, has_new_symbol, is_old_name, LineVerdict, refused, taken, compared, line_verdict, opposite_from}
 use Rattle.tstp_writer.specs.ClauseTrees.{variable_name, clause_formula, introduced_name}
 use Rattle.tstp_writer.specs.LineTrees.{Script, script_of, Layout, derived_name, status_item, step_items, step_source, clause_tree, place_in, pivot_item}
-use Rattle.tstp_writer.specs.ReadableLines.{is_term_over, bound_by, line_variables, IsReadable, written_place, read_renaming, read_terms, placed_step, placed_line, Fits, step_names, read_name, read_clause}
+use Rattle.tstp_writer.specs.ReadableLines.{NumbersFit, is_term_over, bound_by, line_variables, IsReadable, written_place, read_renaming, read_terms, placed_step, placed_line, Fits, step_names, read_name, read_clause}
 use Rattle.tstp_writer.specs.DerivedLines.{HasNumberedForm, ParentIsTaken, OriginIsTaken, SourcesAreTaken, IsNewLine, DerivedLinesAreTaken, AreIntroduced, IsKnown, ComponentIsTaken}
 use Rattle.tstp_writer.proofs.AboutPrinted.VariableNames.{IsReadBy, AreReadBy, all-front, all-back, read-by-places}
 use Rattle.tstp_writer.proofs.AboutPrinted.WrittenNumbers.{decimal-back}
@@ -98,7 +98,7 @@ module _ (problem : List Annotated) (file : List ℕ) (layout : Layout) (names k
 
     -- a line whose clause has known names is taken where its rule concludes it
     rule-taken :
-        (step : Step) → IsReadable symbols step c → Introduced step
+        (step : Step) → IsReadable symbols step c → NumbersFit step c → Introduced step
         → IsRead (λ d. verdict (placed_step layout names (read_renaming step c) step) (parent_lines e) ≡ concludes d)
         → list_all is_some (parent_places e (tree n c step)) ≡ true
         → given_by s e (tree n c step) (line_kind (tree n c step)) ≡ given_by_rule s e (tree n c step)
@@ -107,11 +107,11 @@ module _ (problem : List Annotated) (file : List ℕ) (layout : Layout) (names k
         → (IsReadBack problem file layout names known lines e form (tree n c step) step c
         → line_step s e (tree n c step) ≡ Some (placed_step layout names (read_renaming step c) step))
         → IsTakenLine problem file layout names known lines e form (tree n c step) c (placed_line layout names step c)
-    rule-taken step r a v places given no_old bound step_is =
+    rule-taken step r f a v places given no_old bound step_is =
         let t : LineTree = tree n c step in
         let placed : Step = placed_step layout names (read_renaming step c) step in
         let back : IsReadBack problem file layout names known lines e form t step c =
-        read-back problem file layout names known lines e form n step c r a v.known v.sorted in
+        read-back problem file layout names known lines e form n step c r f a v.known v.sorted in
         verdict-taken problem file layout names known lines e form t step c placed back v.known new places
         (given ∙ rule-given problem file layout names known lines e form t c placed (bound back) (step_is back) v.concluded) no_old
 
@@ -123,8 +123,8 @@ module _ (problem : List Annotated) (file : List ℕ) (layout : Layout) (names k
     pub para-taken :
         (first second from into : ℕ) (from_side into_side : Side) (place : List ℕ) (x y : List Tree)
         → IsTaken n c (Para first second from from_side into into_side place x y)
-    para-taken first second from into from_side into_side place x y r a comes sources =
-        rule-taken step r a read places refl refl bound step_is
+    para-taken first second from into from_side into_side place x y r f a comes sources =
+        rule-taken step r f a read places refl refl bound step_is
       where
         step : Step
         step = Para first second from from_side into into_side place x y
@@ -205,7 +205,7 @@ module _ (problem : List Annotated) (file : List ℕ) (layout : Layout) (names k
     -- a rule of one parent, whose items are read back as they give it
     one-taken :
         (parent : ℕ) (step : Step) (bind : List Tree) (rule_of : List TreeLiteral → Option (List TreeLiteral))
-        → IsReadable symbols step c → Introduced step → by_one (parents parent) bind rule_of ≡ concludes c
+        → IsReadable symbols step c → NumbersFit step c → Introduced step → by_one (parents parent) bind rule_of ≡ concludes c
         → ((σ : Substitution) → PutsNoTruth σ → (ls made : List TreeLiteral) → rule_of ls ≡ Some made
         → rule_of (literals_instance σ ls) ≡ Some (literals_instance σ made))
         → ParentIsTaken layout names known lines e parent → bindings_of step ≡ bind ∷ [] → bindings_count (line_kind (tree n c step)) ≡ 1
@@ -219,8 +219,8 @@ module _ (problem : List Annotated) (file : List ℕ) (layout : Layout) (names k
         → given_by s e (tree n c step) (line_kind (tree n c step)) ≡ given_by_rule s e (tree n c step)
         → is_old_name s e (line_kind (tree n c step)) ≡ false
         → IsTakenLine problem file layout names known lines e form (tree n c step) c (placed_line layout names step c)
-    one-taken parent step bind rule_of r a comes keeps taken_before binds_are count places step_back verdict_is given no_old =
-        rule-taken step r a read (ap (list_all is_some) places ∙ ap (λ o. is_some o && true) taken_before.place) given no_old bound step_is
+    one-taken parent step bind rule_of r f a comes keeps taken_before binds_are count places step_back verdict_is given no_old =
+        rule-taken step r f a read (ap (list_all is_some) places ∙ ap (λ o. is_some o && true) taken_before.place) given no_old bound step_is
       where
         variables : List ℕ
         variables = distinct (line_variables step c)
@@ -278,8 +278,8 @@ module _ (problem : List Annotated) (file : List ℕ) (layout : Layout) (names k
             ∙ step_back parts.source parts.literals parts.bound parts.made
 
     pub refl-taken : (parent literal : ℕ) (bind : List Tree) → IsTaken n c (Refl parent literal bind)
-    refl-taken parent literal bind r a comes sources =
-        one-taken parent (Refl parent literal bind) bind (λ ls. resolved ls literal) r a comes
+    refl-taken parent literal bind r f a comes sources =
+        one-taken parent (Refl parent literal bind) bind (λ ls. resolved ls literal) r f a comes
         (λ σ no_truth ls made. resolutions_in_instances σ ls made literal) sources.0 refl refl refl
         (λ p made bound made_is.
         refl-back e.introduced script parent literal (written_place layout parent) bind _ (refl-fits p.clause bind literal made bound made_is))
@@ -288,9 +288,9 @@ module _ (problem : List Annotated) (file : List ℕ) (layout : Layout) (names k
     pub factor-taken :
         (parent becomes other : ℕ) (becomes_side other_side : Side) (bind : List Tree)
         → IsTaken n c (Factor parent becomes becomes_side other other_side bind)
-    factor-taken parent becomes other becomes_side other_side bind r a comes sources =
+    factor-taken parent becomes other becomes_side other_side bind r f a comes sources =
         one-taken parent (Factor parent becomes becomes_side other other_side bind) bind
-        (λ ls. factored ls becomes becomes_side other other_side) r a comes
+        (λ ls. factored ls becomes becomes_side other other_side) r f a comes
         (λ σ no_truth ls made. factorings_in_instances σ ls made becomes other becomes_side other_side no_truth) sources.0 refl refl refl
         (λ p made bound made_is.
         let fits = factor-fits p.clause bind becomes becomes_side other other_side made bound made_is in
@@ -298,8 +298,8 @@ module _ (problem : List Annotated) (file : List ℕ) (layout : Layout) (names k
         refl refl refl
 
     pub merge-taken : (parent stays goes : ℕ) (bind : List Tree) → IsTaken n c (Merge parent stays goes bind)
-    merge-taken parent stays goes bind r a comes sources =
-        one-taken parent (Merge parent stays goes bind) bind (λ ls. merged ls stays goes) r a comes
+    merge-taken parent stays goes bind r f a comes sources =
+        one-taken parent (Merge parent stays goes bind) bind (λ ls. merged ls stays goes) r f a comes
         (λ σ no_truth ls made. merges_in_instances σ ls made stays goes) sources.0 refl refl refl
         (λ p made bound made_is.
         let fits = merge-fits p.clause bind stays goes made bound made_is in
@@ -329,8 +329,8 @@ module _ (problem : List Annotated) (file : List ℕ) (layout : Layout) (names k
     all-back-there (m ∷ ms) h = (λ p there. parent-back layout names known lines e n m h.0 p there, all-back-there ms h.1)
 
     pub split-taken : (parent : ℕ) (definitions : List ℕ) (shares : List (List ℕ)) → IsTaken n c (Split parent definitions shares)
-    split-taken parent definitions shares r a comes sources =
-        rule-taken step r a read found.0 refl refl (λ back. ap₂ (are_bound_to 0) back.bindings found.1) step_is
+    split-taken parent definitions shares r f a comes sources =
+        rule-taken step r f a read found.0 refl refl (λ back. ap₂ (are_bound_to 0) back.bindings found.1) step_is
       where
         step : Step
         step = Split parent definitions shares
@@ -374,11 +374,11 @@ module _ (problem : List Annotated) (file : List ℕ) (layout : Layout) (names k
         step_is back =
             ap (λ bs. rule_step kind.split_kind e.introduced (items_of t.source) (places_of_parents e t) (map (λ o. unwrap_or o []) bs)) back.bindings
             ∙ ap (λ ps. rule_step kind.split_kind e.introduced (status_item (codes "esa") ∷ step_items script step) ps []) found.1
-            ∙ split-back e.introduced script parent (written_place layout parent) definitions (map (written_place layout) definitions) shares r.numbers
+            ∙ split-back e.introduced script parent (written_place layout parent) definitions (map (written_place layout) definitions) shares f.numbers
 
     pub chain-taken : (chained_lines : List ℕ) (pivots : List NameLit) → IsTaken n c (Chain chained_lines pivots)
-    chain-taken chained_lines pivots r a comes sources =
-        rule-taken step r a read found.0 refl refl (λ back. ap₂ (are_bound_to 0) back.bindings found.1) step_is
+    chain-taken chained_lines pivots r f a comes sources =
+        rule-taken step r f a read found.0 refl refl (λ back. ap₂ (are_bound_to 0) back.bindings found.1) step_is
       where
         step : Step
         step = Chain chained_lines pivots

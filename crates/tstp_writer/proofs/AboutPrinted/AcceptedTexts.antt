@@ -34,7 +34,7 @@ all-at P lines (n ∷ numbers) each =
     by (Some line) at more = (each n line at (or_left (n == n) (has_number numbers n) (eq-eqb n n refl)), more)
 
 pub text-accepted : WrittenTextsAreAccepted
-text-accepted file problem lines last text form w read shown r =
+text-accepted file problem lines last text form fits w read shown r =
     let trees : List LineTree = derivation_trees (script_of file problem) lines w.numbers in (
       length trees,
       subst (λ t. IsAcceptedDerivation problem t (length trees)) (sym w.printed) (
@@ -46,6 +46,6 @@ text-accepted file problem lines last text form w read shown r =
               ap (λ (l : Line). is_clause_step l.step) (same_Some line c.line (sym at ∙ c.there)) ∙ c.is_clause,
               r.readable n line at ((w.cone.exact n).0 has),
             )),
-        written-accepted file problem lines last w.numbers form r w.cone w.counted,
+        written-accepted file problem lines last w.numbers form fits r w.cone w.counted,
       ),
     )

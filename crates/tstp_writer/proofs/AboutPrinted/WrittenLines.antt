@@ -18,7 +18,7 @@ use Rattle.clausal_form.specs.DerivationLines.{is_empty_clause_line, ends_empty,
 use Rattle.clausal_form.proofs.AboutNaming.TakenLemmas.{kernel_line-clause}
 use Rattle.tstp_writer.specs.Cone.{IsCone}
 use Rattle.tstp_writer.specs.LineTrees.{Script, script_of, Layout, layout_of, cited_name, negated_name, input_at, negate_at, derived_tree, derivation_trees, lines_at}
-use Rattle.tstp_writer.specs.ReadableLines.{read_renaming, placed_step, derived_taken, all_written, names_of_lines, read_clause}
+use Rattle.tstp_writer.specs.ReadableLines.{LinesFit, read_renaming, placed_step, derived_taken, all_written, names_of_lines, read_clause}
 use Rattle.tstp_writer.specs.DerivedLines.{HasNumberedForm}
 use Rattle.tstp_writer.specs.Places.{IsCounted}
 use Rattle.tstp_writer.specs.WrittenLaws.{IsReadableRefutation, WrittenLinesAreAccepted}
@@ -39,7 +39,7 @@ ends-end (k ∷ m ∷ ms) l = ends-end (m ∷ ms) l
 
 module _
     (file : List ℕ) (problem : List Annotated) (lines : List Line) (last : ℕ) (numbers : List ℕ)
-    (form : HasNumberedForm problem) (r : IsReadableRefutation problem lines last) (cone : IsCone lines last numbers)
+    (form : HasNumberedForm problem) (fits : LinesFit lines) (r : IsReadableRefutation problem lines last) (cone : IsCone lines last numbers)
     (counted : IsCounted (layout_of (script_of file problem) lines numbers)) where
   abbrev s : Setting
   s = setting_of problem
@@ -82,14 +82,14 @@ module _
       (map (introduced_name script.prefix) names)
       (walk-both s [] cited negated (inputs file problem lines numbers) (negations file problem lines numbers)
       (inputs-walked file problem lines numbers counted) (negations-walked file problem lines numbers counted))
-      (derived-walked file problem lines numbers last form r cone counted)
+      (derived-walked file problem lines numbers last form fits r cone counted)
 
 pub written-accepted : WrittenLinesAreAccepted
-written-accepted file problem lines last numbers form r cone counted =
+written-accepted file problem lines last numbers form fits r cone counted =
     let all : List NamedLine =
     all_written problem (layout_of (script_of file problem) lines numbers) (names_of_lines (lines_at lines numbers)) lines numbers in
-    let walk = all-walked file problem lines last numbers form r cone counted in
+    let walk = all-walked file problem lines last numbers form fits r cone counted in
     ap ended walk.verdict
     ∙ ap (λ b. if b then accepted (length all) else refused_line (length all) no_empty_clause)
-    (all-end file problem lines last numbers form r cone counted)
+    (all-end file problem lines last numbers form fits r cone counted)
     ∙ ap accepted (sym walk.lengths)

@@ -12,7 +12,6 @@ returns c = record {
     binds = refl;
     small = refl;
     canonical = refl;
-    variables = (omega arith, (omega arith, (omega arith, tt)));
-    numbers = tt;
   };
+  numbers = record { variables = (omega arith, (omega arith, (omega arith, tt))); numbers = tt };
 }
