@@ -34,6 +34,65 @@ pub enum Formula {
     Ex(Texts, FormulaBox),
 }
 
+impl Formula {
+    /// An equal formula.
+    #[cycle(copy_formulas)]
+    pub fn copy(&self, alloc: Global) -> Mem<Formula>
+        ensures { IfOk result (λ formula. formula_of formula ≡ formula_of self.now) }
+    {
+        match self {
+            Formula::True => Ok(Formula::True),
+            Formula::False => Ok(Formula::False),
+            Formula::Pred(name, arguments) => Ok(Formula::Pred(
+                name.copy(alloc)?,
+                arguments.copy(alloc)?,
+            )),
+            Formula::Equal(left, right) => Ok(Formula::Equal(
+                left.copy(alloc)?,
+                right.copy(alloc)?,
+            )),
+            Formula::NotEqual(left, right) => Ok(Formula::NotEqual(
+                left.copy(alloc)?,
+                right.copy(alloc)?,
+            )),
+            Formula::Not(inner) => Ok(Formula::Not(inner.copy(alloc)?)),
+            Formula::And(formulas) => Ok(Formula::And(formulas.copy(alloc)?)),
+            Formula::Or(formulas) => Ok(Formula::Or(formulas.copy(alloc)?)),
+            Formula::Implies(left, right) => Ok(Formula::Implies(
+                left.copy(alloc)?,
+                right.copy(alloc)?,
+            )),
+            Formula::Implied(left, right) => Ok(Formula::Implied(
+                left.copy(alloc)?,
+                right.copy(alloc)?,
+            )),
+            Formula::Iff(left, right) => Ok(Formula::Iff(left.copy(alloc)?, right.copy(alloc)?)),
+            Formula::Xor(left, right) => Ok(Formula::Xor(left.copy(alloc)?, right.copy(alloc)?)),
+            Formula::Nor(left, right) => Ok(Formula::Nor(left.copy(alloc)?, right.copy(alloc)?)),
+            Formula::Nand(left, right) => Ok(Formula::Nand(left.copy(alloc)?, right.copy(alloc)?)),
+            Formula::All(names, body) => Ok(Formula::All(
+                copied_names(alloc, names)?,
+                body.copy(alloc)?,
+            )),
+            Formula::Ex(names, body) => Ok(Formula::Ex(
+                copied_names(alloc, names)?,
+                body.copy(alloc)?,
+            )),
+        }
+    }
+}
+
+/// An equal list of names.
+fn copied_names(alloc: Global, names: &Texts) -> Mem<Texts>
+    ensures { IfOk result (λ copied. copied ≡ names.now) }
+{
+    let mut copied = Texts::new(alloc);
+    for name in names.as_slice() {
+        copied.push(name.copy(alloc)?)?;
+    }
+    Ok(copied)
+}
+
 /// A formula of its own, in a box, which contracts see as its tree.
 #[derive(Drop)]
 #[cycle(formulas)]
@@ -83,6 +142,14 @@ impl FormulaBox {
         ensures { formula_of result ≡ self }
     {
         Box::into_inner(self.formula)
+    }
+
+    /// An equal formula, in a box of its own.
+    #[cycle(copy_formulas)]
+    pub fn copy(&self, alloc: Global) -> Mem<FormulaBox>
+        ensures { IfOk result (λ boxed. boxed ≡ self.now) }
+    {
+        FormulaBox::new(alloc, self.formula.copy(alloc)?)
     }
 }
 
@@ -178,5 +245,16 @@ impl Formulas {
     {
         self.items.push(formula)?;
         Ok(())
+    }
+    /// An equal list.
+    #[cycle(copy_formulas)]
+    pub fn copy(&self, alloc: Global) -> Mem<Formulas>
+        ensures { IfOk result (λ formulas. formulas ≡ self.now) }
+    {
+        let mut items = Vec::with_capacity(alloc, self.items.len())?;
+        for formula in &self.items {
+            items.push(formula.copy(alloc)?)?;
+        }
+        Ok(Formulas { items })
     }
 }

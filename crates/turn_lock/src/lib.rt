@@ -12,6 +12,3 @@ mod view;
 pub use historied::Historied;
 pub use lock::TurnLock;
 pub use pass::{Hold, Pass, Turn};
-
-#[cfg(test)]
-mod tests;
