@@ -3,7 +3,9 @@
 ghost use Rattle.std.specs.Prelude.{◌≡◌, ◌<◌, ◌^◌, ◌↔◌, ◌++◌, [], ◌∷◌, length, map, IfOk, OnErr, IsTrue};
 ghost use Rattle.std.specs.Slice.Iter.{iter_rest};
 ghost use Rattle.std.specs.Iterator.Adapters.{IterYieldsInOrder, IterYieldsInReverse};
-ghost use Rattle.tptp_tree.specs.Shape.{formula_of};
+ghost use Rattle.tptp_tree.specs.Term.{terms_of};
+ghost use Rattle.tptp_tree.specs.Formula.{predicate, equation};
+ghost use Rattle.tptp_tree.specs.Shape.{term_of, formula_of};
 
 use crate::term::{TreeTerm, TreeTerms};
 use plain_types::{Mem, Text, Texts};
@@ -43,18 +45,9 @@ impl Formula {
         match self {
             Formula::True => Ok(Formula::True),
             Formula::False => Ok(Formula::False),
-            Formula::Pred(name, arguments) => Ok(Formula::Pred(
-                name.copy(alloc)?,
-                arguments.copy(alloc)?,
-            )),
-            Formula::Equal(left, right) => Ok(Formula::Equal(
-                left.copy(alloc)?,
-                right.copy(alloc)?,
-            )),
-            Formula::NotEqual(left, right) => Ok(Formula::NotEqual(
-                left.copy(alloc)?,
-                right.copy(alloc)?,
-            )),
+            Formula::Pred(name, arguments) => copied_predicate(alloc, name, arguments),
+            Formula::Equal(left, right) => copied_equation(alloc, true, left, right),
+            Formula::NotEqual(left, right) => copied_equation(alloc, false, left, right),
             Formula::Not(inner) => Ok(Formula::Not(inner.copy(alloc)?)),
             Formula::And(formulas) => Ok(Formula::And(formulas.copy(alloc)?)),
             Formula::Or(formulas) => Ok(Formula::Or(formulas.copy(alloc)?)),
@@ -82,7 +75,30 @@ impl Formula {
     }
 }
 
+/// An equal predicate with its arguments. Not inlined, so that a recursion down a formula has small frames.
+#[inline(never)]
+fn copied_predicate(alloc: Global, name: &Text, arguments: &TreeTerms) -> Mem<Formula>
+    ensures { IfOk result (λ formula. formula_of formula ≡ predicate name.now (terms_of arguments.now)) }
+{
+    Ok(Formula::Pred(name.copy(alloc)?, arguments.copy(alloc)?))
+}
+
+/// An equal equation, by its sign and its sides. Not inlined, as above.
+#[inline(never)]
+fn copied_equation(alloc: Global, positive: bool, left: &TreeTerm, right: &TreeTerm) -> Mem<Formula>
+    ensures { IfOk result (λ formula. formula_of formula ≡ equation positive (term_of left.now) (term_of right.now)) }
+{
+    let left = left.copy(alloc)?;
+    let right = right.copy(alloc)?;
+    if positive {
+        Ok(Formula::Equal(left, right))
+    } else {
+        Ok(Formula::NotEqual(left, right))
+    }
+}
+
 /// An equal list of names.
+#[inline(never)]
 fn copied_names(alloc: Global, names: &Texts) -> Mem<Texts>
     ensures { IfOk result (λ copied. copied ≡ names.now) }
 {
