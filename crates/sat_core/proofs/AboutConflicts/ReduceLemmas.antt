@@ -11,7 +11,6 @@ use Rattle.sat_core.specs.declared.answer.Link.{Link}
 use Rattle.sat_core.specs.declared.trail.Assigned.{Assigned}
 use Rattle.sat_core.specs.declared.trail.Slot.{Slot}
 use Rattle.sat_core.specs.declared.analysis.Turn.{Turn}
-use Rattle.sat_core.specs.declared.analysis.Analysis.{Analysis}
 use Rattle.sat_core.specs.Clause.{PropClause}
 use Rattle.sat_core.specs.Resolution.{links_clause}
 use Rattle.sat_core.specs.Trail.{IsTrail, entry_at, slot_at, place_of, is_false}
@@ -282,17 +281,14 @@ turned clauses entries slots start bound links marked literals clause turn t som
         omega (arith, p, q, some)
 
 pub analysis_of_turn :
-    (clauses : List PropClause) (entries : List Assigned) (slots : List Slot) (start bound : ℕ) (links : List Link) (marked : List Bool) (literals clause : PropClause) (turn : Turn) (analysis : Analysis)
+    (clauses : List PropClause) (entries : List Assigned) (slots : List Slot) (start bound : ℕ) (links : List Link) (marked : List Bool) (literals clause : PropClause) (turn : Turn)
     → IsTrail entries slots → 0 < bound → bound ≤ length entries
     → IsReduced clauses entries slots start links marked literals bound → IsTurnOf entries slots literals bound turn
     → ((l : NameLit) → has_name l clause ≡ (has_name l literals && is_left slots marked bound l))
-    → analysis.chain.start ≡ start → analysis.chain.links ≡ links → analysis.clause ≡ clause → analysis.turn ≡ Some turn
-    → IsAnalysis clauses entries slots start analysis
-analysis_of_turn clauses entries slots start bound links marked literals clause turn analysis t some within r of kept starts chain same turns = record {
+    → IsAnalysis clauses entries slots start links clause (Some turn)
+analysis_of_turn clauses entries slots start bound links marked literals clause turn t some within r of kept = record {
   made = r.clause;
-  starts = starts;
-  lawful = ap (links_clause clauses (clause_at clauses start)) chain ∙ r.lawful;
-  same = λ l. ap (has_name l) same ∙ kept l ∙ sym (r.left l);
-  turn = subst (λ (o : Option Turn). MatchOption o (analysis.clause ≡ []) (IsTurn entries slots analysis.clause)) (sym turns)
-      (subst (λ (c : PropClause). IsTurn entries slots c turn) (sym same) (turned clauses entries slots start bound links marked literals clause turn t some within r of kept));
+  lawful = r.lawful;
+  same = λ l. kept l ∙ sym (r.left l);
+  turns = turned clauses entries slots start bound links marked literals clause turn t some within r of kept;
 }
