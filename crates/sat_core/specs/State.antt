@@ -1,5 +1,5 @@
 -- What the solver keeps: clauses that are derived, a trail whose entries are decisions or implied, and marks.
-use Rattle.std.specs.Prelude.{◌≡◌, ℕ, ◌<◌, ◌≤◌, Bool, false, ◌==◌, List, [], ◌++◌, length, take, Some, slice_index_or, IsTrue, IsFalse}
+use Rattle.std.specs.Prelude.{◌≡◌, ℕ, ◌<◌, Bool, false, ◌==◌, List, [], length, Some, slice_index_or, IsTrue, IsFalse}
 use Rattle.std.specs.List.{list_any}
 use Rattle.plain_types.specs.declared.sequence.NameLit.{NameLit}
 use Rattle.plain_types.specs.Names.{same_name, has_name}

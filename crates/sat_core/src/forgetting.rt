@@ -77,7 +77,9 @@ impl Forgetting {
         let since = self.middle_use(alloc)?;
         let mut kept = Vec::with_capacity(alloc, self.uses.len())?;
         for (number, used) in self.uses.iter().enumerate() {
-            kept.push(number < clauses.inputs.len() || *used >= since || is_short(clauses, number))?;
+            kept.push(
+                number < clauses.inputs.len() || *used >= since || is_short(clauses, number),
+            )?;
         }
         Ok(kept)
     }

@@ -43,7 +43,12 @@ pub fn list_marked(list: &mut Vec<NameLit>, trail: &Trail, marks: &Marks, bound:
 }
 
 /// Lists the trail's indices of the literals whose places are below a bound, the latest last.
-fn list_below(indices: &mut Vec<usize>, trail: &Trail, literals: &[NameLit], bound: usize) -> Mem<()>
+fn list_below(
+    indices: &mut Vec<usize>,
+    trail: &Trail,
+    literals: &[NameLit],
+    bound: usize,
+) -> Mem<()>
     requires { AreWithin (length trail.now.slots.items) literals.now }
 {
     indices.clear();

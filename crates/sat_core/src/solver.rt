@@ -49,12 +49,7 @@ pub struct Solver<'a> {
 
 impl<'a> Solver<'a> {
     /// Nothing is decided yet.
-    fn new(
-        alloc: Global,
-        inputs: &'a [Names],
-        names: u32,
-        first: &[bool],
-    ) -> Mem<Solver<'a>>
+    fn new(alloc: Global, inputs: &'a [Names], names: u32, first: &[bool]) -> Mem<Solver<'a>>
         requires { IsTrue (names_below names inputs.now) }
         ensures { IfOk result (IsBegun names inputs.now) }
     {
@@ -90,9 +85,13 @@ impl<'a> Solver<'a> {
         self.trail.cut(turn.cut);
         self.watches.cut(turn.cut);
         let reason = Some(self.clauses.len());
-        let (links, clause) = (self.conflict.links.as_slice(), self.conflict.clause.as_slice());
+        let (links, clause) = (
+            self.conflict.links.as_slice(),
+            self.conflict.clause.as_slice(),
+        );
         self.watches.add_learned(&self.trail, clause, turn.literal)?;
-        self.forgetting.note(alloc, &self.clauses, &mut self.watches, number, links)?;
+        self.forgetting
+            .note(alloc, &self.clauses, &mut self.watches, number, links)?;
         self.clauses.learn(number, links, clause)?;
         let literal = turn.literal;
         self.trail.push(Assigned { literal, reason })?;
@@ -251,12 +250,7 @@ pub fn solve(alloc: Global, clauses: &PropClauses, names: u32) -> Mem<Answer>
 
 /// As `solve`, with the value that each name is to be tried with first, as those of an earlier model: what isn't given
 /// is false. This is a hint, on which only the time and the choice among right answers rest.
-pub fn solve_from(
-    alloc: Global,
-    clauses: &PropClauses,
-    names: u32,
-    first: &[bool],
-) -> Mem<Answer>
+pub fn solve_from(alloc: Global, clauses: &PropClauses, names: u32, first: &[bool]) -> Mem<Answer>
     requires { IsTrue (names_below names clauses.now) }
     ensures { IfOk result (IsRightAnswer names clauses.now) }
 {

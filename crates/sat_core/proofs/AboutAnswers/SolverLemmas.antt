@@ -13,14 +13,13 @@ use Rattle.sat_core.specs.declared.trail.Assigned.{Assigned}
 use Rattle.sat_core.specs.declared.trail.Slot.{Slot}
 use Rattle.sat_core.specs.declared.analysis.Turn.{Turn}
 use Rattle.sat_core.specs.declared.answer.Link.{Link}
-use Rattle.sat_core.specs.declared.answer.Chain.{Chain}
 use Rattle.sat_core.specs.declared.solver.Solver.{Solver}
 use Rattle.sat_core.specs.declared.solver.Step.{Step}
 use Rattle.sat_core.specs.declared.solver.Step.TheVariants.{Going, Satisfied, Refuted}
 use Rattle.sat_core.specs.Clause.{PropClause, literal_true, clause_true, clauses_true, valuation_of, names_below}
 use Rattle.sat_core.specs.Resolution.{links_clause, log_clauses}
 use Rattle.sat_core.specs.Trail.{IsTrail, IsNewTrail, Cuts, slot_at, slot_of, place_of, has_place, is_true}
-use Rattle.sat_core.specs.State.{IsSound, IsImplied, SameLiterals, SameClauses, clause_at, Derives, AreDerived, AreNamed, AreFalse}
+use Rattle.sat_core.specs.State.{IsSound, IsImplied, SameLiterals, SameClauses, clause_at, Derives, AreNamed, AreFalse}
 use Rattle.sat_core.specs.declared.clauses.Clauses.{Clauses}
 use Rattle.sat_core.specs.Known.{known, chains_of, IsKnown}
 use Rattle.sat_core.specs.Conflict.{IsTurn, IsAnalysis, AreWithin}

@@ -1,6 +1,6 @@
 -- A learned clause made smaller.
-use Rattle.std.proofs.Common.{◌≡◌, ℕ, ◌+◌, ◌-◌, ◌<◌, ◌≤◌, Bool, true, false, not, ◌&&◌, ◌||◌, List, [], ◌∷◌, ◌++◌, length, get_or, set, Option, Some, refl, ap, sym, ◌∙◌, subst, arith, ◌⊎◌, inl, inr, ⊎_elim}
-use Rattle.std.specs.Prelude.{IsTrue, nat_le, MatchOption}
+use Rattle.std.proofs.Common.{◌≡◌, ℕ, ◌+◌, ◌-◌, ◌<◌, ◌≤◌, Bool, true, false, not, ◌&&◌, ◌||◌, List, [], ◌∷◌, ◌++◌, length, get_or, set, Some, refl, ap, sym, ◌∙◌, subst, arith, ◌⊎◌, inl, inr, ⊎_elim}
+use Rattle.std.specs.Prelude.{IsTrue, nat_le}
 use Rattle.std.specs.List.{list_all}
 use Rattle.std.proofs.lemmas.Bool.{cases_Bool, cases_eq, cases_lt, or_cases, and_parts, and_from, le-leb, leb-true, both_ways, not-true}
 use Rattle.std.proofs.lemmas.List.{get_or-set_same, get_or-set_other, length-set}
@@ -12,7 +12,6 @@ use Rattle.sat_core.specs.declared.trail.Assigned.{Assigned}
 use Rattle.sat_core.specs.declared.trail.Slot.{Slot}
 use Rattle.sat_core.specs.declared.analysis.Turn.{Turn}
 use Rattle.sat_core.specs.Clause.{PropClause}
-use Rattle.sat_core.specs.Resolution.{links_clause}
 use Rattle.sat_core.specs.Trail.{IsTrail, entry_at, slot_at, place_of, is_false}
 use Rattle.sat_core.specs.State.{IsSound, IsImplied, AreFalse, AreMarks, AreCovered, clause_at, mentions}
 use Rattle.sat_core.specs.Conflict.{IsResolving, IsReduced, IsTurnOf, IsTurn, IsAnalysis, is_covered, is_left}

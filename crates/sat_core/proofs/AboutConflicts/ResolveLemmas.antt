@@ -1,7 +1,7 @@
 -- One step back along the trail.
 use Rattle.std.proofs.Common.{◌≡◌, ℕ, zero, suc, ◌+◌, ◌-◌, ◌<◌, ◌≤◌, Bool, true, false, not, ◌&&◌, ◌||◌, List, [], ◌∷◌, ◌++◌, length, get_or, Option, Some, None, refl, ap, sym, ◌∙◌, subst, arith, ⊎_elim}
 use mathlib.Core.Bool.{beq}
-use Rattle.std.specs.Prelude.{IsTrue, nat_le, nat_lt, option_and_then, MatchOption}
+use Rattle.std.specs.Prelude.{IsTrue, nat_le, nat_lt, option_and_then}
 use Rattle.std.proofs.lemmas.Bool.{cases_Bool, cases_eq, cases_lt, or_cases, and_parts, and_from, le-leb, lt-leb, leb-true, ltb-true, both_ways, not-true}
 use Rattle.std.proofs.lemmas.List.{get_or_read}
 use Rattle.std.proofs.lemmas.Option.{slice_get-get_or, option_and_then_some, same_Some}
@@ -16,7 +16,7 @@ use Rattle.sat_core.specs.Clause.{PropClause}
 use Rattle.sat_core.specs.Resolution.{link_clause, links_clause}
 use Rattle.sat_core.specs.Trail.{IsTrail, entry_at, slot_at, place_of, has_place, is_false}
 use Rattle.sat_core.specs.State.{IsSound, IsImplied, AreFalse, AreMarks, SameLiterals, clause_at, mentions}
-use Rattle.sat_core.specs.Conflict.{is_other, OthersAreFalse, AddsOthers, IsResolving, TurnsAt, IsTurnOf, IsTurn, IsAnalysis}
+use Rattle.sat_core.specs.Conflict.{is_other, OthersAreFalse, AddsOthers, IsResolving, TurnsAt, IsTurnOf, IsAnalysis}
 use Rattle.sat_core.proofs.AboutTrails.LiteralLemmas.{same_name-refl, same_name-true, opposite-opposite, has_name-resolvent}
 use Rattle.sat_core.proofs.AboutConflicts.MarkLemmas.{same_tests, mentions_of, literal_of_name}
 use Rattle.sat_core.proofs.AboutTrails.TrailLemmas.{slot_within}

@@ -1,4 +1,4 @@
-use Rattle.std.proofs.Common.{subst, sym, ◌∙◌, arith}
+use Rattle.std.proofs.Common.{subst, sym, arith}
 use Rattle.sat_core.specs.Clause.{PropClause}
 use Rattle.sat_core.specs.Conflict.{IsTurnOf}
 use Rattle.sat_core.proofs.AboutConflicts.ResolveLemmas.{analysis_of_none}

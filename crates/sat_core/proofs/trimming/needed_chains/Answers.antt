@@ -1,6 +1,5 @@
-use Rattle.std.proofs.Common.{arith, ◌-◌, length, false, sym, ◌∙◌}
-use Rattle.std.proofs.lemmas.List.{get_or_read}
-use Rattle.sat_core.proofs.AboutAnswers.TrimLemmas.{chains_length, needed_begun, needed_none, needed_passed, needed_marked, needed_all}
+use Rattle.std.proofs.Common.{arith}
+use Rattle.sat_core.proofs.AboutAnswers.TrimLemmas.{chains_length, needed_begun, needed_none, needed_all}
 use Rattle.sat_core.proofs.trimming.needed_chains.Goals as goal
 use Rattle.sat_core.proofs.trimming.needed_chains.Goals.{then-count-gt0, else-count-gt0}
 

@@ -1,4 +1,4 @@
-use Rattle.std.proofs.Common.{◌≡◌, ◌≤◌, length}
+use Rattle.std.proofs.Common.{◌≤◌, length}
 use Rattle.sat_core.specs.Known.{log_of}
 use Rattle.sat_core.proofs.AboutAnswers.TrimLemmas.{AreNeededFrom}
 use Rattle.sat_core.proofs.trimming.needed_chains.Given as goal

@@ -1,4 +1,4 @@
-use Rattle.std.proofs.Common.{arith, ◌+◌, length, false, sym, ◌∙◌}
+use Rattle.std.proofs.Common.{arith, false, sym, ◌∙◌}
 use Rattle.std.proofs.lemmas.List.{get_or_read}
 use Rattle.sat_core.proofs.AboutAnswers.TrimLemmas.{chains_length, trimmed_at, trimmed_passed, trimmed_all}
 use Rattle.sat_core.proofs.trimming.trimmed.Goals as goal

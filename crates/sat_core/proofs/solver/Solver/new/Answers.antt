@@ -1,7 +1,6 @@
-use Rattle.std.proofs.Common.{List, length, ap, sym, ◌∙◌, subst, arith, refl}
+use Rattle.std.proofs.Common.{length, sym, ◌∙◌, subst, arith}
 use Rattle.std.proofs.lemmas.List.{get_or_read}
 use Rattle.sat_core.specs.Clause.{PropClause}
-use Rattle.sat_core.specs.State.{clause_at}
 use Rattle.sat_core.specs.Search.{HaveLists}
 use Rattle.sat_core.proofs.AboutConflicts.MarkLemmas.{left_of_marks}
 use Rattle.sat_core.proofs.AboutAnswers.SolverLemmas.{lists_of, begun_known, begun_sound}

@@ -3,7 +3,7 @@ use Rattle.std.proofs.lemmas.List.{length-set}
 use Rattle.sat_core.specs.Clause.{PropClause}
 use Rattle.sat_core.specs.Known.{known}
 use Rattle.sat_core.proofs.AboutAnswers.SoundLemmas.{turn_remaining}
-use Rattle.sat_core.proofs.AboutAnswers.SolverLemmas.{derives_of, refutes_of, turn_of, learned_within, learned_lists, turn_sound, known_grown}
+use Rattle.sat_core.proofs.AboutAnswers.SolverLemmas.{derives_of, turn_of, learned_within, learned_lists, turn_sound, known_grown}
 use Rattle.sat_core.proofs.solver.Solver.turn.Goals as goal
 
 pub add_learned-requires-clause-within : goal.add_learned-requires-clause-within

@@ -1,10 +1,8 @@
-use Rattle.std.proofs.Common.{List, length, sym, ap, ◌∙◌, arith, subst, refl}
-use Rattle.std.specs.Prelude.{IsTrue}
+use Rattle.std.proofs.Common.{sym, ap, ◌∙◌, arith}
 use Rattle.std.specs.List.{list_any}
-use Rattle.std.proofs.lemmas.List.{length-append, take_at}
-use Rattle.sat_core.specs.Clause.{PropClause, clauses_true, valuation_of}
+use Rattle.std.proofs.lemmas.List.{length-append}
+use Rattle.sat_core.specs.Clause.{PropClause}
 use Rattle.sat_core.specs.Known.{known}
-use Rattle.sat_core.specs.Search.{values_of}
 use Rattle.sat_core.specs.Trail.{is_true}
 use Rattle.sat_core.proofs.AboutAnswers.SolverLemmas.{no_true_literal, clauses_true_more}
 use Rattle.sat_core.proofs.solver.Solver.unsatisfied.Goals as goal
