@@ -1,5 +1,5 @@
 -- The state of the solver, and its steps.
-use Rattle.std.specs.Prelude.{◌≡◌, ℕ, ◌*◌, ◌<◌, ◌≤◌, List, [], length, IsTrue}
+use Rattle.std.specs.Prelude.{◌≡◌, ℕ, ◌+◌, ◌*◌, ◌^◌, ◌<◌, ◌≤◌, List, [], length, IsTrue}
 use Rattle.sat_core.specs.declared.solver.Solver.{Solver}
 use Rattle.sat_core.specs.declared.solver.Step.{Step}
 use Rattle.sat_core.specs.declared.solver.Step.TheVariants.{Going, Satisfied, Refuted}
@@ -24,19 +24,23 @@ pub record IsBegun (names : ℕ) (inputs : List PropClause) (s : Solver) : Type 
   pub inputs_are : inputs_of s ≡ inputs
   pub names_are : length s.trail.slots.items ≡ names
 
+-- What is left to try over so many names. A restart that is left counts more than any trail.
+abbrev pub left_to_try : ℕ → Solver → ℕ
+left_to_try names s = s.restarts.left * 3 ^ names + remaining names s.trail.entries.items
+
 -- another state over the same inputs and names, with less left to try
 pub record Advances (old new : Solver) : Type 0 where
   pub state : IsState new
   pub inputs : inputs_of new ≡ inputs_of old
   pub names : length new.trail.slots.items ≡ length old.trail.slots.items
-  pub fewer : remaining (length old.trail.slots.items) new.trail.entries.items < remaining (length old.trail.slots.items) old.trail.entries.items
+  pub fewer : left_to_try (length old.trail.slots.items) new < left_to_try (length old.trail.slots.items) old
 
 -- the same, but for what is left to try
 pub record Keeps (old new : Solver) : Type 0 where
   pub state : IsState new
   pub inputs : inputs_of new ≡ inputs_of old
   pub names : length new.trail.slots.items ≡ length old.trail.slots.items
-  pub no_more : remaining (length old.trail.slots.items) new.trail.entries.items ≤ remaining (length old.trail.slots.items) old.trail.entries.items
+  pub no_more : left_to_try (length old.trail.slots.items) new ≤ left_to_try (length old.trail.slots.items) old
 
 -- the conflict's chain derives the empty clause
 pub record IsRefuted (s : Solver) : Type 0 where

@@ -10,9 +10,9 @@ use plain_types::Mem;
 use std::alloc::Global;
 
 /// So many learned clauses are watched before half of them are forgotten.
-const FIRST_LIMIT: usize = 2000;
+const FIRST_LIMIT: usize = 500;
 /// What the limit grows by each time.
-const LIMIT_STEP: usize = 300;
+const LIMIT_STEP: usize = 100;
 /// Clauses of so many literals are never forgotten.
 const SHORT: usize = 2;
 

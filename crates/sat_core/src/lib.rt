@@ -10,6 +10,7 @@ mod literals;
 mod marks;
 mod minimise;
 mod order;
+mod restarts;
 mod solver;
 mod trail;
 mod trimming;

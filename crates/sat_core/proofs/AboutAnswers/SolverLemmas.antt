@@ -1,7 +1,8 @@
 -- Steps of the solver.
 use Rattle.std.proofs.Common.{◌≡◌, ℕ, zero, suc, ◌+◌, ◌*◌, ◌<◌, ◌≤◌, Bool, true, false, not, ◌&&◌, List, [], ◌∷◌, ◌++◌, length, get_or, set, take, Option, Some, None, refl, ap, sym, ◌∙◌, subst, arith, ⊎_elim}
 use mathlib.Core.Bool.{beq}
-use Rattle.std.specs.Prelude.{IsTrue, slice_get, option_and_then, MatchOption, nat_lt}
+use Rattle.std.specs.Prelude.{IsTrue, slice_get, option_and_then, MatchOption, IfSome, nat_lt}
+use Rattle.std.specs.Option.{unwrap_or}
 use Rattle.std.specs.List.{list_any, list_all}
 use Rattle.std.proofs.lemmas.Bool.{cases_lt, or_cases, or_left, or_right, or_parts, and_parts, and_from, lt-ltb, ltb-true}
 use Rattle.std.proofs.lemmas.List.{get_or_push, get_or_past, get_or-map, length_push, length-map, append-nil, append_assoc}
@@ -23,8 +24,8 @@ use Rattle.sat_core.specs.State.{IsSound, IsImplied, SameLiterals, SameClauses, 
 use Rattle.sat_core.specs.declared.clauses.Clauses.{Clauses}
 use Rattle.sat_core.specs.Known.{known, chains_of, IsKnown}
 use Rattle.sat_core.specs.Conflict.{IsTurn, IsAnalysis, AreWithin}
-use Rattle.sat_core.specs.Search.{HaveLists, HasNoTrue, AreAssigned, remaining, value_of, values_of}
-use Rattle.sat_core.specs.Solver.{IsState, Keeps, Advances, Steps}
+use Rattle.sat_core.specs.Search.{HaveLists, HasNoTrue, AreAssigned, value_of, values_of}
+use Rattle.sat_core.specs.Solver.{IsState, Keeps, Advances, Steps, left_to_try}
 use Rattle.sat_core.proofs.AboutTrails.LiteralLemmas.{same_name-true}
 use Rattle.sat_core.proofs.AboutConflicts.AnalysisLemmas.{has_name_more}
 use Rattle.sat_core.proofs.AboutAnswers.SoundLemmas.{grown, pushed_sound, cut_sound, turn_named, turn_free, turn_implied}
@@ -159,20 +160,31 @@ assigned_more slots xs i x h e before at k there =
 
 -- ---- one step after another
 
+-- the same restarts are left
+pub behind : (a b c : ℕ) → b < c → a + b < a + c
+behind a b c h = omega (arith, h)
+
+pub behind_le : (a b c : ℕ) → b ≤ c → a + b ≤ a + c
+behind_le a b c h = omega (arith, h)
+
+below_then : (old mid mid' new new' : ℕ) → mid ≤ old → new' < mid' → new' ≡ new → mid' ≡ mid → new < old
+below_then old mid mid' new new' a b c d = omega (arith, a, b, c, d)
+
 pub advances_after : (old mid new : Solver) → Keeps old mid → Advances mid new → Advances old new
 advances_after old mid new first second = record {
   state = second.state;
   inputs = second.inputs ∙ first.inputs;
   names = second.names ∙ first.names;
   fewer =
-      let a = first.no_more in
-      let b = second.fewer in
-      let c : remaining (length mid.trail.slots.items) new.trail.entries.items ≡ remaining (length old.trail.slots.items) new.trail.entries.items =
-      ap (λ (n : ℕ). remaining n new.trail.entries.items) first.names in
-      let d : remaining (length mid.trail.slots.items) mid.trail.entries.items ≡ remaining (length old.trail.slots.items) mid.trail.entries.items =
-      ap (λ (n : ℕ). remaining n mid.trail.entries.items) first.names in
-      omega (arith, a, b, c, d);
+      below_then (left_to_try (length old.trail.slots.items) old) (left_to_try (length old.trail.slots.items) mid) (left_to_try (length mid.trail.slots.items) mid)
+      (left_to_try (length old.trail.slots.items) new) (left_to_try (length mid.trail.slots.items) new)
+      first.no_more second.fewer (ap (λ (n : ℕ). left_to_try n new) first.names) (ap (λ (n : ℕ). left_to_try n mid) first.names);
 }
+
+-- where a restart cuts the trail
+pub cut_within : (o : Option ℕ) (n : ℕ) (P : ℕ → Type 0) → IfSome o P → ((i : ℕ) → P i → i < n) → unwrap_or o n ≤ n
+cut_within None n P h f = omega arith
+cut_within (Some i) n P h f = let w = f i h in omega (arith, w)
 
 pub steps_after : (old mid new : Solver) (step : Step) → Keeps old mid → Steps mid new step → Steps old new step
 steps_after old mid new Going first second = advances_after old mid new first second
