@@ -17,7 +17,7 @@ use Rattle.split_parts.proofs.AboutParts.ComponentLemmas.{has-in_parts}
 
 -- ---- numbers that rise
 
-above : (k : ℕ) (ks : List ℕ) (i : ℕ) → rises_from k ks ≡ true → has_number i ks ≡ true → k < i
+pub above : (k : ℕ) (ks : List ℕ) (i : ℕ) → rises_from k ks ≡ true → has_number i ks ≡ true → k < i
 above k [] i rises h = absurd (true≢false (sym h))
 above k (j ∷ ks) i rises h =
     let parts = and_parts (nat_lt k j) (rises_from j ks) rises in
@@ -27,7 +27,7 @@ above k (j ∷ ks) i rises h =
     (λ later. omega (arith, first, above j ks i parts.1 later))
     (or_cases (i == j) (has_number i ks) h)
 
-rise-tail : (k : ℕ) (ks : List ℕ) → rises_from k ks ≡ true → rise ks ≡ true
+pub rise-tail : (k : ℕ) (ks : List ℕ) → rises_from k ks ≡ true → rise ks ≡ true
 rise-tail k [] h = refl
 rise-tail k (j ∷ ks) h = (and_parts (nat_lt k j) (rises_from j ks) h).1
 
@@ -61,7 +61,7 @@ rise-equal (k ∷ ks) (j ∷ js) one other same =
     ∙ ap (λ b. b || has_number i js) (ne_eqb i j (λ e. differ (e ∙ sym first))))
     (cases_eq i k)))
 
-part-rises : (part : List ℕ) → is_part part ≡ true → rise part ≡ true
+pub part-rises : (part : List ℕ) → is_part part ≡ true → rise part ≡ true
 part-rises [] h = absurd (true≢false (sym h))
 part-rises (k ∷ ks) h = h
 
@@ -172,7 +172,7 @@ mapped-has f (k ∷ ks) i h =
     (or_cases (i == k) (has_number i ks) h)
 
 -- as many numbers as there are below a bound, with each of these among them: there are no others
-none-past :
+pub none-past :
     (n : ℕ) (ks : List ℕ) (j : ℕ) → length ks ≡ n → has_all_below n ks ≡ true → has_number j ks ≡ true → j < n
 none-past n ks j count all h = ⊎_elim (λ below. below) past (cases_lt j n)
   where
@@ -213,7 +213,7 @@ same-from true false e = absurd (true≢false (sym e))
 same-from false true e = absurd (true≢false (sym e))
 same-from false false e = refl
 
-constant-first : (f : ℕ → Bool) (part : List ℕ) (j : ℕ) → is_constant_on f part ≡ true → has_number j part ≡ true → f j ≡ f (slice_index part 0)
+pub constant-first : (f : ℕ → Bool) (part : List ℕ) (j : ℕ) → is_constant_on f part ≡ true → has_number j part ≡ true → f j ≡ f (slice_index part 0)
 constant-first f [] j constant h = absurd (true≢false (sym h))
 constant-first f (k ∷ ks) j constant h =
     ⊎_elim
@@ -238,7 +238,7 @@ iff-same false false f g = refl
 -- ---- components
 
 module _ (ls : List TreeLiteral) (parts : List (List ℕ)) (is : IsComponents ls parts) where
-  shared : (length (flat_map (λ ks. ks) parts) ≡ length ls) × (has_all_below (length ls) (flat_map (λ ks. ks) parts) ≡ true)
+  pub shared : (length (flat_map (λ ks. ks) parts) ≡ length ls) × (has_all_below (length ls) (flat_map (λ ks. ks) parts) ≡ true)
   shared =
       let pair = and_parts (length (flat_map (λ ks. ks) parts) == length ls) (has_all_below (length ls) (flat_map (λ ks. ks) parts)) is.shared_out in
       (eqb-true (length (flat_map (λ ks. ks) parts)) (length ls) pair.0, pair.1)
@@ -275,7 +275,7 @@ module _ (ls : List TreeLiteral) (parts : List (List ℕ)) (is : IsComponents ls
       (cases_order a b)
 
   -- to be in a part follows variables
-  part-follows : (a : ℕ) → a < length parts → FollowsVariables ls (λ j. has_number j (slice_index_or parts a []))
+  pub part-follows : (a : ℕ) → a < length parts → FollowsVariables ls (λ j. has_number j (slice_index_or parts a []))
   part-follows a within i j share =
       let found = passing (λ v. has_number v (variables_at ls j)) (variables_at ls i) share in
       iff-same (has_number i (slice_index_or parts a [])) (has_number j (slice_index_or parts a []))
