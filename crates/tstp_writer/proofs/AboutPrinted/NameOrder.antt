@@ -67,8 +67,7 @@ pub places-ordered :
     → (nat_lt (place_in n ns) (place_in m ns) ≡ nat_lt n m) × ((place_in n ns == place_in m ns) ≡ (n == m))
 places-ordered ns h n m has_n has_m =
     ⊎_elim
-    (λ (same : n ≡ m).
-    (
+    (λ (same : n ≡ m). (
       not-less (place_in n ns) (place_in m ns) (let e : place_in n ns ≡ place_in m ns = ap (λ k. place_in k ns) same in omega (arith, e))
           ∙ sym (not-less n m (omega (arith, same))),
       eq-eqb (place_in n ns) (place_in m ns) (ap (λ k. place_in k ns) same) ∙ sym (eq-eqb n m same),
