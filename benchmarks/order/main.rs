@@ -1,10 +1,10 @@
-// Times the comparison of two terms, and of two literals of a predicate.
+// Times the comparison of two terms, of two literals of a predicate, and of two clauses, as they stand and under substitutions.
 #![tactic(auto)]
 
-use fol_base::{LiteralRef, Term, Terms};
-use kbo_order::{COMPARED_SIZE_LIMIT, Cmp, compare, compare_literals};
+use fol_base::{Clause, LiteralRef, Term, Terms};
+use kbo_order::{COMPARED_SIZE_LIMIT, Cmp, compare, compare_clauses, compare_clauses_under, compare_literals};
 use plain_types::Mem;
-use sample_terms::{binary, constant, unary};
+use sample_terms::{binary, clause, constant, unary};
 use std::alloc::Global;
 use std::io;
 use std::time::Instant;
@@ -119,6 +119,49 @@ fn literal_row(rt: &HostRuntime, name: &str, pair: Mem<(Term, Term)>, rounds: u6
     Ok(())
 }
 
+/// How often the first clause is greater as it stands, or under the terms, of so many comparisons.
+fn greater_clauses(left: &Clause, right: &Clause, terms: Option<&Terms>, rounds: u64) -> u64 {
+    let mut found: u64 = 0;
+    for _ in 0..rounds {
+        let answer = match terms {
+            Some(terms) => compare_clauses_under(&left.literals, terms, &right.literals, terms),
+            None => compare_clauses(&left.literals, &right.literals),
+        };
+        found = found.saturating_add(u64::from(answer == Cmp::Greater));
+    }
+    found
+}
+
+fn clause_row(rt: &HostRuntime, name: &str, texts: (&str, &str), terms: Option<&Terms>) -> io::Result<()> {
+    let (Ok(left), Ok(right)) = (clause(rt.alloc(), texts.0), clause(rt.alloc(), texts.1)) else {
+        println!(rt; "no memory")?;
+        return Ok(());
+    };
+    let mut best = u128::MAX;
+    for _ in 0..1_000 {
+        let start = Instant::now(rt)?;
+        greater_clauses(&left, &right, terms, 500);
+        let time = start.elapsed(rt)?.as_nanos();
+        if time < best {
+            best = time;
+        }
+    }
+    let each = best.checked_div(500).unwrap_or(0);
+    println!(rt; "clauses {name}: {each} ns")?;
+    Ok(())
+}
+
+fn clause_rows(rt: &HostRuntime, terms: &Terms) -> io::Result<()> {
+    let whole = "p(f(X0,g(X1))) | q(f(g(X0),X2)) | p(f(a,b)) | f(X0,X1) = f(g(a),b)";
+    let turned = "f(g(a),b) = f(X0,X1) | p(f(a,b)) | q(f(g(X0),X2)) | p(f(X0,g(X1)))";
+    let smaller = "p(f(X0,g(X1))) | q(f(g(X0),X2)) | p(f(a,b)) | f(X0,X1) = f(a,b)";
+    clause_row(rt, "equal", (whole, turned), None)?;
+    clause_row(rt, "greater", (whole, smaller), None)?;
+    clause_row(rt, "equal, under terms", (whole, turned), Some(terms))?;
+    clause_row(rt, "greater, under terms", (whole, smaller), Some(terms))?;
+    Ok(())
+}
+
 fn towers(alloc: Global, size: u32) -> Mem<(Term, Term)> {
     let first = tower(alloc, size, 2)?;
     let second = tower(alloc, size, 1)?;
@@ -157,5 +200,15 @@ fn main(rt: HostRuntime) -> io::Result<()> {
     row(&rt, "999 variables 1000", rows_of_variables(alloc, 999, 999), 2000)?;
     literal_row(&rt, "towers 20", towers(alloc, 19), 1000000)?;
     literal_row(&rt, "4 variables 20", rows_of_variables(alloc, 19, 4), 1000000)?;
+    let mut terms = Terms::new(alloc);
+    for _ in 0..3 {
+        let Ok(bound) = tower(alloc, 3, 1) else {
+            return Ok(());
+        };
+        if terms.push(bound).is_err() {
+            return Ok(());
+        }
+    }
+    clause_rows(&rt, &terms)?;
     Ok(())
 }

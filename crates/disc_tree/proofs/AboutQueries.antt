@@ -2,6 +2,8 @@
 pub mod FoundLemmas
 pub mod FrontLemmas
 pub mod FirstLemmas
+pub mod MatcherLemmas
+pub mod ReadLemmas
 pub mod TailLemmas
 pub mod UnifierLemmas
 pub mod VisitLemmas

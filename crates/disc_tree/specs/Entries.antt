@@ -1,5 +1,5 @@
 -- What a tree holds: a list of entries, each a term and a number.
-use Rattle.std.specs.Prelude.{◌≡◌, ◌⊎◌, ◌==◌, ℕ, Bool, List, [], ◌∷◌, ◌++◌, if◌then◌else◌, Option, None, Some}
+use Rattle.std.specs.Prelude.{◌≡◌, ◌⊎◌, ◌==◌, ℕ, Bool, List, [], ◌∷◌, ◌++◌, if◌then◌else◌, Option, None, Some, length, take}
 use Rattle.fol_base.specs.Tree.{Tree}
 
 -- the numbers of the entries whose term passes the test, in the list's order
@@ -23,3 +23,7 @@ abbrev pub without_front : List ℕ → List ℕ → Option (List ℕ)
 without_front [] ys = Some ys
 without_front (x ∷ xs) [] = None
 without_front (x ∷ xs) (y ∷ ys) = if x == y then without_front xs ys else None
+
+-- a list begins with what it had
+abbrev pub IsBeginning : List ℕ → List ℕ → Type 0
+IsBeginning old new = take (length old) new ≡ old

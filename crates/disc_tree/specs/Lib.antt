@@ -7,5 +7,7 @@ pub mod Work
 pub mod Rows
 pub mod Children
 pub mod Falls
+pub mod Generalisations
+pub mod Reading
 pub mod Examples
 pub mod Laws

@@ -57,6 +57,13 @@ impl Entry {
         self.number
     }
 
+    /// The variables of its term, from left to right.
+    pub(crate) fn variables(&self) -> &[u32]
+        ensures { result.now ≡ tree_variables self.now.0 }
+    {
+        self.variables.as_slice()
+    }
+
     /// Whether the entry has this number and the term's variables. So it is the term's, if its path is the term's too.
     pub(crate) fn is_for(&self, term: &Term, number: u64) -> bool
         ensures { IsTrue result ↔ IsNamed (tree_variables (tree_of term.now)) number self.now }

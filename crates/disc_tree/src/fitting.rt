@@ -2,12 +2,14 @@
 
 ghost use Rattle.std.specs.Prelude.{◌≡◌, ◌≤◌, ◌+◌, [], ◌∷◌, true};
 ghost use Rattle.fol_base.specs.Tree.{variable};
+ghost use Rattle.disc_tree.specs.Children.{labels_left};
 ghost use Rattle.disc_tree.specs.Path.{fits};
 ghost use Rattle.disc_tree.specs.Work.{trees_left, terms_left};
 ghost use Rattle.disc_tree.specs.Prefixes.{AreGround, reads};
 
 use crate::label::Label;
 use crate::steps::Steps;
+use crate::tail::Labels;
 use crate::work::{Rest, Skipped};
 use fol_base::Term;
 use std::sync::ledger::Ledger;
@@ -42,21 +44,20 @@ impl Varying {
 /// Whether labels fit what is left, with a step for each that is read and one for their end.
 #[cycle(fits)]
 pub(crate) fn fits<L: Ledger>(
-    labels: &[Label],
+    labels: Labels<'_>,
     skipped: &Skipped<'_>,
     rest: &Rest<'_>,
     varying: Varying,
     steps: &mut Steps<L>,
 ) -> bool
-    ensures fits { result ≡ fits varying.entry varying.query (terms_left skipped.now) (trees_left rest.now) labels.now }
+    ensures fits { result ≡ fits varying.entry varying.query (terms_left skipped.now) (trees_left rest.now) (labels_left labels.entry) }
     ensures steps { terms_left skipped.now ≡ 0 → AreGround (trees_left rest.now)
-        → steps.new ≤ steps.old + reads (trees_left rest.now) labels.now }
+        → steps.new ≤ steps.old + reads (trees_left rest.now) (labels_left labels.entry) }
     ensures visits { varying.entry ≡ true → terms_left skipped.now ≡ 0 → AreGround (trees_left rest.now)
-        → steps.old + reads (trees_left rest.now) labels.now ≤ steps.new }
+        → steps.old + reads (trees_left rest.now) (labels_left labels.entry) ≤ steps.new }
     ensures counter { steps.old ≤ steps.new }
 {
-    steps.tick();
-    let Some((label, others)) = labels.split_first() else {
+    let Some((label, others)) = labels.split_first(steps) else {
         return is_done(skipped, rest);
     };
     if let Skipped::More(count, below) = skipped {
@@ -69,7 +70,7 @@ pub(crate) fn fits<L: Ledger>(
     };
     let after = Rest::of(more, below);
     match first {
-        Term::Var(_) => fits_variable(*label, others, &after, varying, steps),
+        Term::Var(_) => fits_variable(label, others, &after, varying, steps),
         Term::App(_, arguments) => match label {
             Label::Star => varying.entry && fits(others, &Skipped::Closed, &after, varying, steps),
             Label::Symbol(_, _) => {
@@ -85,12 +86,12 @@ pub(crate) fn fits<L: Ledger>(
 #[cycle(fits)]
 fn fits_variable<L: Ledger>(
     label: Label,
-    others: &[Label],
+    others: Labels<'_>,
     rest: &Rest<'_>,
     varying: Varying,
     steps: &mut Steps<L>,
 ) -> bool
-    ensures fits { result ≡ fits varying.entry varying.query 0 (variable 0 ∷ trees_left rest.now) (label ∷ others.now) }
+    ensures fits { result ≡ fits varying.entry varying.query 0 (variable 0 ∷ trees_left rest.now) (label ∷ labels_left others.entry) }
     ensures counter { steps.old ≤ steps.new }
 {
     match label {

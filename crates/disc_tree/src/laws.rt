@@ -7,6 +7,7 @@ ghost use Rattle.fol_base.specs.Compatible.{compatible, compatible_generalisatio
 ghost use Rattle.disc_tree.specs.Entries.{IsIn, numbers_where};
 ghost use Rattle.disc_tree.specs.Examples.{accepts_two, three};
 ghost use Rattle.disc_tree.specs.Firsts.{IsFirst};
+ghost use Rattle.disc_tree.specs.Generalisations.{MatchersAreReadOff, generalisations, stood_for};
 ghost use Rattle.disc_tree.specs.declared.label.Label.TheVariants.{Star, Symbol};
 ghost use Rattle.disc_tree.specs.Path.{path};
 ghost use Rattle.disc_tree.specs.Prefixes.{can_read, prefixes, compatible_prefixes};
@@ -18,6 +19,12 @@ pub fn retrieval_misses_none()
     ensures unifiers { UnifiableAreCompatible }
     ensures generalisations { GeneralisationsAreCompatible }
     ensures instances { InstancesAreCompatible }
+{}
+
+/// A substitution turns an entry's term into the query exactly where it turns the term's variables, one by one, into the subterms that a
+/// generalisation hands out. So one that stands twice has to stand for the same twice.
+pub fn matchers_are_read_off()
+    ensures { MatchersAreReadOff }
 {}
 
 /// What is found among the entries 1 at `f(X0,a)`, 2 at `f(b,X0)` and 3 at `g(a)`, and which terms are compatible: a variable
@@ -34,8 +41,12 @@ pub fn examples()
     ensures variables { compatible_generalisation (x 0) (x 1) ≡ true }
     ensures variables_too { compatible_instance (x 0) (x 1) ≡ true }
     ensures there { IsIn (f₂ b (x 0), 2) three }
+    ensures stood_for { stood_for (f₂ (x 0) (g (x 1))) (f₂ (f a) (g b)) ≡ f a ∷ b ∷ [] }
+    ensures handed_out { generalisations (f₂ b a) three ≡ ((f₂ (x 0) a, 1), b ∷ []) ∷ ((f₂ b (x 0), 2), a ∷ []) ∷ [] }
     ensures first_accepted { IsFirst accepts_two (1 ∷ 2 ∷ 3 ∷ []) (Some 7) }
     ensures none_accepted { IsFirst accepts_two (1 ∷ 3 ∷ []) None }
+    ensures none_is_wrong { ¬ IsFirst accepts_two (2 ∷ []) None }
+    ensures other_is_wrong { ¬ IsFirst accepts_two (2 ∷ 3 ∷ []) (Some 8) }
     ensures not_there { ¬ IsIn (f₂ b (x 1), 2) three }
 {}
 

@@ -10,11 +10,13 @@ mod node;
 mod query;
 mod scan;
 mod sorted;
+mod stars;
 mod steps;
 mod tail;
 mod tree;
 mod work;
 
 pub use scan::is_compatible;
+pub use stars::{Generalisation, Stars};
 pub use steps::Steps;
 pub use tree::DiscTree;

@@ -171,13 +171,12 @@ impl Node {
         ensures err { OnErr result (tail.new ≡ tail.old) }
     {
         let mut branches = Vec::with_capacity(alloc, 1)?;
-        let mut labels = mem::replace(&mut tail.labels, Vec::new(alloc));
-        let entries = mem::replace(&mut tail.entries, SortedEntries::new(alloc));
+        let (mut labels, entries) = tail.take_parts(alloc);
         if labels.is_empty() {
             return Ok(Node { entries, branches });
         }
         let label = labels.remove(0);
-        let below = Below::Single(Tail { labels, entries });
+        let below = Below::Single(Tail::of_parts(labels, entries));
         branches.push(Branch { label, below })?;
         Ok(Node {
             entries: SortedEntries::new(alloc),

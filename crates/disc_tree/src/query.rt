@@ -1,6 +1,7 @@
 // What a query finds.
 
 ghost use Rattle.std.specs.Prelude.{◌≡◌, ◌≤◌, ◌++◌, [], suc, true, IfOk, if◌then◌else◌, length};
+ghost use Rattle.disc_tree.specs.Entries.{IsBeginning};
 ghost use Rattle.disc_tree.specs.Work.{trees_left, terms_left};
 ghost use Rattle.disc_tree.specs.Rows.{rows, rows_at, found_in, numbers_of, Rise};
 ghost use Rattle.disc_tree.specs.Children.{rows_below};
@@ -33,6 +34,7 @@ pub(crate) fn collect<L: Ledger>(
         → StaysWithin (trees_left rest.now) (rows node.now) steps.old steps.new }
     ensures visits { IfOk result (λ _. varying.entry ≡ true → terms_left skipped.now ≡ 0 → AreGround (trees_left rest.now)
         → VisitsEach (trees_left rest.now) (rows node.now) steps.old steps.new) }
+    ensures kept { IsBeginning found.old.items found.new.items }
     ensures counter { steps.old ≤ steps.new }
 {
     if let Skipped::More(count, below) = skipped {
@@ -77,6 +79,7 @@ fn collect_star<L: Ledger>(
         → FollowsWithin (trees_left rest.now) (rows_at Star node.now.1) steps.old steps.new }
     ensures visits { IfOk result (λ _. varying.entry ≡ true → AreGround (trees_left rest.now)
         → FollowsEach (trees_left rest.now) (rows_at Star node.now.1) steps.old steps.new) }
+    ensures kept { IsBeginning found.old.items found.new.items }
     ensures counter { steps.old ≤ steps.new }
 {
     if varying.entry {
@@ -103,6 +106,7 @@ fn collect_child<L: Ledger>(
         → FollowsWithin (trees_left rest.now) (rows_at label node.now.1) steps.old steps.new }
     ensures visits { IfOk result (λ _. varying.entry ≡ true → AreGround (trees_left rest.now)
         → FollowsEach (trees_left rest.now) (rows_at label node.now.1) steps.old steps.new) }
+    ensures kept { IsBeginning found.old.items found.new.items }
     ensures counter { steps.old ≤ steps.new }
 {
     match node.child(label, steps) {
@@ -123,6 +127,7 @@ fn collect_children<L: Ledger>(
 ) -> Mem<()>
     ensures found { IfOk result (λ _. found.new.items
         ≡ found.old.items ++ found_in varying.entry varying.query (suc (terms_left skipped.now)) (trees_left rest.now) (rows node.now)) }
+    ensures kept { IsBeginning found.old.items found.new.items }
     ensures counter { steps.old ≤ steps.new }
 {
     for index in 0..node.width(&mut *steps) {
@@ -150,13 +155,14 @@ fn collect_below<L: Ledger>(
         → StaysWithin (trees_left rest.now) (rows_below below.now) steps.old steps.new }
     ensures visits { IfOk result (λ _. varying.entry ≡ true → terms_left skipped.now ≡ 0 → AreGround (trees_left rest.now)
         → VisitsEach (trees_left rest.now) (rows_below below.now) steps.old steps.new) }
+    ensures kept { IsBeginning found.old.items found.new.items }
     ensures counter { steps.old ≤ steps.new }
 {
     match below {
         Below::Branching(node) => collect(node, skipped, rest, varying, found, steps),
         Below::Single(tail) => {
-            if fits(&tail.labels, skipped, rest, varying, steps) {
-                push_numbers(tail.entries.as_slice(), found)?;
+            if fits(tail.labels(), skipped, rest, varying, steps) {
+                push_numbers(tail.entries(steps), found)?;
             }
             Ok(())
         }
@@ -165,7 +171,8 @@ fn collect_below<L: Ledger>(
 
 /// Adds the numbers of entries.
 fn push_numbers(entries: &[Entry], found: &mut Vec<u64>) -> Mem<()>
-    ensures { IfOk result (λ _. found.new.items ≡ found.old.items ++ numbers_of entries.now) }
+    ensures found { IfOk result (λ _. found.new.items ≡ found.old.items ++ numbers_of entries.now) }
+    ensures kept { IsBeginning found.old.items found.new.items }
 {
     for entry in entries {
         found.push(entry.number())?;

@@ -4,8 +4,9 @@ ghost use Rattle.std.specs.Prelude.{◌≡◌, ◌↔◌, ◌≤◌, ◌<◌, �
 ghost use Rattle.fol_base.specs.Term.{tree_of};
 ghost use Rattle.fol_base.specs.Compatible.{compatible, compatible_generalisation, compatible_instance, compatible_by};
 ghost use Rattle.fol_base.specs.Ground.{is_ground};
-ghost use Rattle.disc_tree.specs.Entries.{IsIn, IsWith, numbers_where};
+ghost use Rattle.disc_tree.specs.Entries.{IsBeginning, IsIn, IsWith, numbers_where};
 ghost use Rattle.disc_tree.specs.Firsts.{IsFirst};
+ghost use Rattle.disc_tree.specs.Generalisations.{answers_of, generalisations};
 ghost use Rattle.disc_tree.specs.Prefixes.{compatible_prefixes};
 
 use crate::entry::Entry;
@@ -13,6 +14,7 @@ use crate::first::first_in;
 use crate::fitting::Varying;
 use crate::node::Node;
 use crate::query::collect;
+use crate::stars::{Generalisation, Stars};
 use crate::steps::Steps;
 use crate::work::{Rest, Skipped};
 use fol_base::Term;
@@ -110,38 +112,41 @@ impl DiscTree {
         Ok(Numbers::from_vec(found))
     }
 
-    /// Adds what `unifiable` answers to a list of the caller's. After want of memory only some of it may be there.
+    /// Adds what `unifiable` answers to a list of the caller's. After want of memory only some of it may be there, behind what the list had.
     pub fn push_unifiable(&self, query: &Term, found: &mut Vec<u64>) -> Mem<()>
-        ensures { IfOk result (λ _. found.new.items
+        ensures found { IfOk result (λ _. found.new.items
             ≡ found.old.items ++ numbers_where (λ term. compatible term (tree_of query.now)) self.now) }
+        ensures kept { IsBeginning found.old.items found.new.items }
     {
         self.push_uncounted(query, Varying::BOTH, found)
     }
 
-    /// Adds what `generalisations` answers to a list of the caller's. After want of memory only some of it may be there.
+    /// Adds what `generalisations` answers to a list of the caller's. After want of memory only some of it may be there, behind what the list had.
     pub fn push_generalisations(&self, query: &Term, found: &mut Vec<u64>) -> Mem<()>
-        ensures { IfOk result (λ _. found.new.items
+        ensures found { IfOk result (λ _. found.new.items
             ≡ found.old.items ++ numbers_where (λ term. compatible_generalisation term (tree_of query.now)) self.now) }
+        ensures kept { IsBeginning found.old.items found.new.items }
     {
         self.push_uncounted(query, Varying::ENTRIES, found)
     }
 
-    /// What a test makes of the numbers that `generalisations` answers, one after another, up to the first that it accepts by an answer other than
-    /// None: that answer, and None where it accepts none. No list is made, and what stands behind the accepted entry isn't read.
-    pub fn first_generalisation<T, F: Fn(u64) -> Mem<Option<T>>>(
+    /// What a test makes of the entries that `generalisations` answers, one after another, up to the first that it accepts by an answer other than
+    /// None: that answer, and None where it accepts none. The test is handed what each variable of an entry's term stands for, so that it has the
+    /// matchers without a walk over either term (`laws::matchers_are_read_off`). No list is made, and what stands behind the accepted entry isn't
+    /// read.
+    pub fn first_generalisation<T, F: Fn(Generalisation<'_>) -> Mem<Option<T>>>(
         &self,
         query: &Term,
         test: F,
     ) -> Mem<Option<T>>
         requires { F.IsAlwaysCallable test }
-        ensures { IfOk result (IsFirst (F.post test)
-            (numbers_where (λ term. compatible_generalisation term (tree_of query.now)) self.now)) }
+        ensures { IfOk result (IsFirst (answers_of (F.post test)) (generalisations (tree_of query.now) self.now)) }
     {
         self.first_from::<T, F, Brand>(query, &test, Blank::new(1))
     }
 
     /// The same on a new ledger, which nobody reads.
-    fn first_from<T, F: Fn(u64) -> Mem<Option<T>>, L: Ledger>(
+    fn first_from<T, F: Fn(Generalisation<'_>) -> Mem<Option<T>>, L: Ledger>(
         &self,
         query: &Term,
         test: &F,
@@ -151,18 +156,18 @@ impl DiscTree {
         requires name { blank.name ≡ L.name }
         requires parts { blank.parts ≡ L.parts }
         requires some { 0 < blank.parts }
-        ensures { IfOk result (IsFirst (F.post test.now)
-            (numbers_where (λ term. compatible_generalisation term (tree_of query.now)) self.now)) }
+        ensures { IfOk result (IsFirst (answers_of (F.post test.now)) (generalisations (tree_of query.now) self.now)) }
     {
         let mut steps = Steps::<L>::new(blank);
         let rest = Rest::Then(query, &[], &Rest::Nothing);
-        first_in(&self.root, &rest, test, &mut steps)
+        first_in(&self.root, &rest, &Stars::Nothing, test, &mut steps)
     }
 
-    /// Adds what `instances` answers to a list of the caller's. After want of memory only some of it may be there.
+    /// Adds what `instances` answers to a list of the caller's. After want of memory only some of it may be there, behind what the list had.
     pub fn push_instances(&self, query: &Term, found: &mut Vec<u64>) -> Mem<()>
-        ensures { IfOk result (λ _. found.new.items
+        ensures found { IfOk result (λ _. found.new.items
             ≡ found.old.items ++ numbers_where (λ term. compatible_instance term (tree_of query.now)) self.now) }
+        ensures kept { IsBeginning found.old.items found.new.items }
     {
         self.push_uncounted(query, Varying::QUERIES, found)
     }
@@ -227,6 +232,7 @@ impl DiscTree {
             → steps.new ≤ steps.old + 2 * compatible_prefixes (tree_of query.now) self.now }
         ensures visits { IfOk result (λ _. varying.entry ≡ true → is_ground (tree_of query.now) ≡ true
             → steps.old + compatible_prefixes (tree_of query.now) self.now ≤ steps.new) }
+        ensures kept { IsBeginning found.old.items found.new.items }
         ensures counter { steps.old ≤ steps.new }
     {
         let rest = Rest::Then(query, &[], &Rest::Nothing);
@@ -235,8 +241,9 @@ impl DiscTree {
 
     /// The same for a caller that counts nothing.
     fn push_uncounted(&self, query: &Term, varying: Varying, found: &mut Vec<u64>) -> Mem<()>
-        ensures { IfOk result (λ _. found.new.items ≡ found.old.items
+        ensures found { IfOk result (λ _. found.new.items ≡ found.old.items
             ++ numbers_where (λ term. compatible_by varying.entry varying.query term (tree_of query.now)) self.now) }
+        ensures kept { IsBeginning found.old.items found.new.items }
     {
         self.push_from::<Brand>(query, varying, found, Blank::new(1))
     }
@@ -252,8 +259,9 @@ impl DiscTree {
         requires name { blank.name ≡ L.name }
         requires parts { blank.parts ≡ L.parts }
         requires some { 0 < blank.parts }
-        ensures { IfOk result (λ _. found.new.items ≡ found.old.items
+        ensures found { IfOk result (λ _. found.new.items ≡ found.old.items
             ++ numbers_where (λ term. compatible_by varying.entry varying.query term (tree_of query.now)) self.now) }
+        ensures kept { IsBeginning found.old.items found.new.items }
     {
         let mut steps = Steps::<L>::new(blank);
         self.push_found(query, varying, found, &mut steps)

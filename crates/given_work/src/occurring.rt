@@ -131,24 +131,15 @@ pub(crate) fn push_with_instances(
     ensures { IfOk result (λ _. numbers.new.items ≡ numbers.old.items ++ numbers_with_instances terms.now (lent_of literal.entry)) }
 {
     if is_greater(literal.left, literal.right) {
-        push_instances(terms, literal.left, numbers)?;
+        terms.push_instances(literal.left, numbers)?;
         return Ok(());
     }
     if is_greater(literal.right, literal.left) {
-        push_instances(terms, literal.right, numbers)?;
+        terms.push_instances(literal.right, numbers)?;
         return Ok(());
     }
-    push_instances(terms, literal.left, numbers)?;
-    push_instances(terms, literal.right, numbers)?;
-    Ok(())
-}
-
-/// The same of one term.
-fn push_instances(terms: &DiscTree, term: &Term, numbers: &mut Vec<u64>) -> Mem<()>
-    ensures { IfOk result (λ _. numbers.new.items ≡ numbers.old.items ++ numbers_of_instances terms.now (tree_of term.now)) }
-{
-    let found = terms.instances(term)?;
-    numbers.extend_from_slice(found.as_slice())?;
+    terms.push_instances(literal.left, numbers)?;
+    terms.push_instances(literal.right, numbers)?;
     Ok(())
 }
 

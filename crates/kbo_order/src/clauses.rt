@@ -1,8 +1,9 @@
-// The comparison of two clauses.
+// The comparison of two clauses, and of their instances.
 
 ghost use Rattle.std.specs.Prelude.{◌≡◌, ◌<◌, ◌&&◌, ◌==◌, sum_by};
 ghost use Rattle.std.specs.List.{list_any, list_all};
-ghost use Rattle.fol_base.specs.Clause.{literal_size};
+ghost use Rattle.fol_base.specs.Clause.{literal_size, literal_instance};
+ghost use Rattle.fol_base.specs.Ground.{literals_instance};
 ghost use Rattle.fol_base.specs.Lent.{lent_of};
 ghost use Rattle.fol_base.specs.Multiset.{times, more_often, outdone};
 ghost use Rattle.fol_base.specs.Order.{
@@ -15,8 +16,9 @@ ghost use Rattle.kbo_order.specs.Cmp.{comparison_of};
 
 use crate::cmp::Cmp;
 use crate::limits::COMPARED_SIZE_LIMIT;
-use crate::literals::compare_literals;
-use fol_base::{LendsLiterals, LiteralRef, equivalent_literals};
+use crate::literals::compare_literals_under;
+use crate::reading::Unbound;
+use fol_base::{LendsLiterals, LendsTerms, LiteralRef, same_instance};
 
 /// What two clauses, as lists of their literals, are to each other: multisets of literals, compared by
 /// the multiset extension of the order on literals (Bachmair and Ganzinger 1994). Equal are two that have
@@ -26,137 +28,237 @@ pub fn compare_clauses<L: LendsLiterals, M: LendsLiterals>(left: &L, right: &M) 
     requires right_size { sum_by literal_size (M.meaning right.now) < COMPARED_SIZE_LIMIT }
     ensures { comparison_of result ≡ compare_clauses (L.meaning left.now) (M.meaning right.now) }
 {
-    if are_equivalent(left, right) {
+    let nothing = Unbound;
+    compare_clauses_under(left, &nothing, right, &nothing)
+}
+
+/// What the instances of two clauses are to each other, each under its own substitution. The instances aren't built, and no memory
+/// is taken. The condition is that of `compare_clauses`, on the instances.
+pub fn compare_clauses_under<L: LendsLiterals, S: LendsTerms, M: LendsLiterals, T: LendsTerms>(
+    left: &L,
+    left_bind: &S,
+    right: &M,
+    right_bind: &T,
+) -> Cmp
+    requires left_size { sum_by literal_size (literals_instance (S.meaning left_bind.now) (L.meaning left.now)) < COMPARED_SIZE_LIMIT }
+    requires right_size { sum_by literal_size (literals_instance (T.meaning right_bind.now) (M.meaning right.now)) < COMPARED_SIZE_LIMIT }
+    ensures { comparison_of result ≡ compare_clauses
+        (literals_instance (S.meaning left_bind.now) (L.meaning left.now))
+        (literals_instance (T.meaning right_bind.now) (M.meaning right.now)) }
+{
+    if are_equivalent(left, left_bind, right, right_bind) {
         return Cmp::Equal;
     }
-    if outdoes(left, right) {
+    if outdoes(left, left_bind, right, right_bind) {
         return Cmp::Greater;
     }
-    if outdoes(right, left) {
+    if outdoes(right, right_bind, left, left_bind) {
         return Cmp::Less;
     }
     Cmp::Unordered
 }
 
-/// Whether each literal stands in both equally often.
-fn are_equivalent<L: LendsLiterals, M: LendsLiterals>(left: &L, right: &M) -> bool
-    ensures { result ≡ equivalent_clauses (L.meaning left.now) (M.meaning right.now) }
+/// Whether each literal stands in both instances equally often.
+fn are_equivalent<L: LendsLiterals, S: LendsTerms, M: LendsLiterals, T: LendsTerms>(
+    left: &L,
+    left_bind: &S,
+    right: &M,
+    right_bind: &T,
+) -> bool
+    ensures { result ≡ equivalent_clauses
+        (literals_instance (S.meaning left_bind.now) (L.meaning left.now))
+        (literals_instance (T.meaning right_bind.now) (M.meaning right.now)) }
 {
-    are_counted_alike(left, left, right) && are_counted_alike(right, left, right)
+    are_counted_alike(left, left_bind, right, right_bind)
+        && are_counted_alike(right, right_bind, left, left_bind)
 }
 
-/// Whether each of some literals stands in two clauses equally often.
-fn are_counted_alike<K: LendsLiterals, L: LendsLiterals, M: LendsLiterals>(
-    literals: &K,
-    left: &L,
-    right: &M,
+/// Whether each literal of the first instance stands in the second one as often.
+fn are_counted_alike<L: LendsLiterals, S: LendsTerms, M: LendsLiterals, T: LendsTerms>(
+    first: &L,
+    first_bind: &S,
+    second: &M,
+    second_bind: &T,
 ) -> bool
     ensures { result ≡ list_all
-        (λ z. times equivalent_literals z (L.meaning left.now) == times equivalent_literals z (M.meaning right.now))
-        (K.meaning literals.now) }
+        (λ z. times equivalent_literals z (literals_instance (S.meaning first_bind.now) (L.meaning first.now))
+        == times equivalent_literals z (literals_instance (T.meaning second_bind.now) (M.meaning second.now)))
+        (literals_instance (S.meaning first_bind.now) (L.meaning first.now)) }
 {
-    for index in 0..literals.count() {
-        let literal = literals.literal(index);
-        if occurrences(literal, left) != occurrences(literal, right) {
+    for index in 0..first.count() {
+        let literal = first.literal(index);
+        let here = occurrences(literal, first_bind, first, first_bind);
+        let there = occurrences(literal, first_bind, second, second_bind);
+        if here != there {
             return false;
         }
     }
     true
 }
 
-/// How often a literal stands in a clause, sides in either order.
-fn occurrences<L: LendsLiterals>(literal: LiteralRef<'_>, literals: &L) -> usize
-    ensures { result ≡ times equivalent_literals (lent_of literal.entry) (L.meaning literals.now) }
+/// How often the instance of a literal stands in that of a clause, sides in either order.
+fn occurrences<S: LendsTerms, L: LendsLiterals, T: LendsTerms>(
+    literal: LiteralRef<'_>,
+    literal_bind: &S,
+    literals: &L,
+    bind: &T,
+) -> usize
+    ensures { result ≡ times equivalent_literals
+        (literal_instance (S.meaning literal_bind.now) (lent_of literal.entry))
+        (literals_instance (T.meaning bind.now) (L.meaning literals.now)) }
 {
     let mut count = 0;
     for index in 0..literals.count() {
-        count += usize::from(equivalent_literals(literal, literals.literal(index)));
+        count += usize::from(equivalent_literals_under(
+            literal,
+            literal_bind,
+            literals.literal(index),
+            bind,
+        ));
     }
     count
 }
 
-/// Whether each literal that the right clause has more often is below one that the left clause has more
-/// often.
-fn outdoes<L: LendsLiterals, M: LendsLiterals>(left: &L, right: &M) -> bool
-    requires left_size { sum_by literal_size (L.meaning left.now) < COMPARED_SIZE_LIMIT }
-    requires right_size { sum_by literal_size (M.meaning right.now) < COMPARED_SIZE_LIMIT }
+/// Whether the instances of two literals have the same sign and the same sides, in either order.
+fn equivalent_literals_under<S: LendsTerms, T: LendsTerms>(
+    left: LiteralRef<'_>,
+    left_bind: &S,
+    right: LiteralRef<'_>,
+    right_bind: &T,
+) -> bool
+    ensures { result ≡ equivalent_literals
+        (literal_instance (S.meaning left_bind.now) (lent_of left.entry))
+        (literal_instance (T.meaning right_bind.now) (lent_of right.entry)) }
+{
+    left.positive == right.positive
+        && ((same_instance(left.left, left_bind, right.left, right_bind)
+            && same_instance(left.right, left_bind, right.right, right_bind))
+            || (same_instance(left.left, left_bind, right.right, right_bind)
+                && same_instance(left.right, left_bind, right.left, right_bind)))
+}
+
+/// Whether each literal that the right instance has more often is below one that the left one has more often.
+fn outdoes<L: LendsLiterals, S: LendsTerms, M: LendsLiterals, T: LendsTerms>(
+    left: &L,
+    left_bind: &S,
+    right: &M,
+    right_bind: &T,
+) -> bool
+    requires left_size { sum_by literal_size (literals_instance (S.meaning left_bind.now) (L.meaning left.now)) < COMPARED_SIZE_LIMIT }
+    requires right_size { sum_by literal_size (literals_instance (T.meaning right_bind.now) (M.meaning right.now)) < COMPARED_SIZE_LIMIT }
     ensures { result ≡ list_all
-        (outdone equivalent_literals literal_greater (L.meaning left.now) (M.meaning right.now))
-        (M.meaning right.now) }
+        (outdone equivalent_literals literal_greater
+        (literals_instance (S.meaning left_bind.now) (L.meaning left.now))
+        (literals_instance (T.meaning right_bind.now) (M.meaning right.now)))
+        (literals_instance (T.meaning right_bind.now) (M.meaning right.now)) }
 {
     for index in 0..right.count() {
-        if !is_outdone(right.literal(index), left, right) {
+        if !is_outdone(right.literal(index), left, left_bind, right, right_bind) {
             return false;
         }
     }
     true
 }
 
-/// Whether the right clause doesn't have the literal more often, or the left one outdoes it.
-fn is_outdone<L: LendsLiterals, M: LendsLiterals>(
+/// Whether the right instance doesn't have the literal, which is one of its own, more often, or the left one outdoes it.
+fn is_outdone<L: LendsLiterals, S: LendsTerms, M: LendsLiterals, T: LendsTerms>(
     literal: LiteralRef<'_>,
     left: &L,
+    left_bind: &S,
     right: &M,
+    right_bind: &T,
 ) -> bool
-    requires size { literal_size (lent_of literal) < COMPARED_SIZE_LIMIT }
-    requires left_size { sum_by literal_size (L.meaning left.now) < COMPARED_SIZE_LIMIT }
+    requires size { literal_size (literal_instance (T.meaning right_bind.now) (lent_of literal)) < COMPARED_SIZE_LIMIT }
+    requires left_size { sum_by literal_size (literals_instance (S.meaning left_bind.now) (L.meaning left.now)) < COMPARED_SIZE_LIMIT }
     ensures { result ≡ outdone equivalent_literals literal_greater
-        (L.meaning left.now) (M.meaning right.now) (lent_of literal.entry) }
+        (literals_instance (S.meaning left_bind.now) (L.meaning left.now))
+        (literals_instance (T.meaning right_bind.now) (M.meaning right.now))
+        (literal_instance (T.meaning right_bind.now) (lent_of literal.entry)) }
 {
-    !stands_more_often(literal, right, left) || has_above(literal, left, right)
+    !stands_more_often(literal, right, right_bind, left, left_bind)
+        || has_above(literal, left, left_bind, right, right_bind)
 }
 
-/// Whether a literal is below one that the left clause has more often than the right one.
-fn has_above<L: LendsLiterals, M: LendsLiterals>(
+/// Whether a literal of the right instance is below one that the left one has more often than the right one.
+fn has_above<L: LendsLiterals, S: LendsTerms, M: LendsLiterals, T: LendsTerms>(
     literal: LiteralRef<'_>,
     left: &L,
+    left_bind: &S,
     right: &M,
+    right_bind: &T,
 ) -> bool
-    requires size { literal_size (lent_of literal) < COMPARED_SIZE_LIMIT }
-    requires left_size { sum_by literal_size (L.meaning left.now) < COMPARED_SIZE_LIMIT }
+    requires size { literal_size (literal_instance (T.meaning right_bind.now) (lent_of literal)) < COMPARED_SIZE_LIMIT }
+    requires left_size { sum_by literal_size (literals_instance (S.meaning left_bind.now) (L.meaning left.now)) < COMPARED_SIZE_LIMIT }
     ensures { result ≡ list_any
-        (λ x. more_often equivalent_literals (L.meaning left.now) (M.meaning right.now) x && literal_greater x (lent_of literal.entry))
-        (L.meaning left.now) }
+        (λ x. more_often equivalent_literals
+        (literals_instance (S.meaning left_bind.now) (L.meaning left.now)) (literals_instance (T.meaning right_bind.now) (M.meaning right.now)) x
+        && literal_greater x (literal_instance (T.meaning right_bind.now) (lent_of literal.entry)))
+        (literals_instance (S.meaning left_bind.now) (L.meaning left.now)) }
 {
     for index in 0..left.count() {
-        if is_outdoing(left.literal(index), literal, left, right) {
+        if is_outdoing(
+            left.literal(index),
+            literal,
+            left,
+            left_bind,
+            right,
+            right_bind,
+        ) {
             return true;
         }
     }
     false
 }
 
-/// Whether a literal is above another, and the left clause has it more often than the right one.
-fn is_outdoing<L: LendsLiterals, M: LendsLiterals>(
+/// Whether a literal of the left instance is above one of the right instance, and the left one has it more often.
+fn is_outdoing<L: LendsLiterals, S: LendsTerms, M: LendsLiterals, T: LendsTerms>(
     other: LiteralRef<'_>,
     literal: LiteralRef<'_>,
     left: &L,
+    left_bind: &S,
     right: &M,
+    right_bind: &T,
 ) -> bool
-    requires other_size { literal_size (lent_of other) < COMPARED_SIZE_LIMIT }
-    requires size { literal_size (lent_of literal) < COMPARED_SIZE_LIMIT }
-    ensures { result ≡ (more_often equivalent_literals (L.meaning left.now) (M.meaning right.now) (lent_of other.entry)
-        && literal_greater (lent_of other.entry) (lent_of literal.entry)) }
+    requires other_size { literal_size (literal_instance (S.meaning left_bind.now) (lent_of other)) < COMPARED_SIZE_LIMIT }
+    requires size { literal_size (literal_instance (T.meaning right_bind.now) (lent_of literal)) < COMPARED_SIZE_LIMIT }
+    ensures { result ≡ (more_often equivalent_literals
+        (literals_instance (S.meaning left_bind.now) (L.meaning left.now)) (literals_instance (T.meaning right_bind.now) (M.meaning right.now))
+        (literal_instance (S.meaning left_bind.now) (lent_of other.entry))
+        && literal_greater
+        (literal_instance (S.meaning left_bind.now) (lent_of other.entry)) (literal_instance (T.meaning right_bind.now) (lent_of literal.entry))) }
 {
-    is_above(other, literal) && stands_more_often(other, left, right)
+    is_above(other, left_bind, literal, right_bind)
+        && stands_more_often(other, left, left_bind, right, right_bind)
 }
 
-/// Whether the first clause has a literal more often than the second one.
-fn stands_more_often<L: LendsLiterals, M: LendsLiterals>(
+/// Whether the first instance has a literal, which is one of its own, more often than the second one.
+fn stands_more_often<L: LendsLiterals, S: LendsTerms, M: LendsLiterals, T: LendsTerms>(
     literal: LiteralRef<'_>,
     first: &L,
+    first_bind: &S,
     second: &M,
+    second_bind: &T,
 ) -> bool
-    ensures { result ≡ more_often equivalent_literals (L.meaning first.now) (M.meaning second.now) (lent_of literal.entry) }
+    ensures { result ≡ more_often equivalent_literals
+        (literals_instance (S.meaning first_bind.now) (L.meaning first.now))
+        (literals_instance (T.meaning second_bind.now) (M.meaning second.now))
+        (literal_instance (S.meaning first_bind.now) (lent_of literal.entry)) }
 {
-    occurrences(literal, second) < occurrences(literal, first)
+    occurrences(literal, first_bind, second, second_bind)
+        < occurrences(literal, first_bind, first, first_bind)
 }
 
-/// Whether the left literal is greater.
-fn is_above(left: LiteralRef<'_>, right: LiteralRef<'_>) -> bool
-    requires left_size { literal_size (lent_of left) < COMPARED_SIZE_LIMIT }
-    requires right_size { literal_size (lent_of right) < COMPARED_SIZE_LIMIT }
-    ensures { result ≡ literal_greater (lent_of left.entry) (lent_of right.entry) }
+/// Whether the left instance is greater.
+fn is_above<S: LendsTerms, T: LendsTerms>(
+    left: LiteralRef<'_>,
+    left_bind: &S,
+    right: LiteralRef<'_>,
+    right_bind: &T,
+) -> bool
+    requires left_size { literal_size (literal_instance (S.meaning left_bind.now) (lent_of left)) < COMPARED_SIZE_LIMIT }
+    requires right_size { literal_size (literal_instance (T.meaning right_bind.now) (lent_of right)) < COMPARED_SIZE_LIMIT }
+    ensures { result ≡ literal_greater
+        (literal_instance (S.meaning left_bind.now) (lent_of left.entry)) (literal_instance (T.meaning right_bind.now) (lent_of right.entry)) }
 {
-    compare_literals(left, right).is_greater()
+    compare_literals_under(left, left_bind, right, right_bind).is_greater()
 }

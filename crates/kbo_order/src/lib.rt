@@ -13,7 +13,7 @@ mod sides;
 mod terms;
 mod walk;
 
-pub use clauses::compare_clauses;
+pub use clauses::{compare_clauses, compare_clauses_under};
 pub use cmp::Cmp;
 pub use greater::greater_under;
 pub use limits::COMPARED_SIZE_LIMIT;

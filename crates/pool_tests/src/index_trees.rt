@@ -62,6 +62,25 @@ fn queries_find_entries(rt: HostRuntime) {
     }
 }
 
+/// How many symbols the last star of the entry with a number stands for, if the entry may be a generalisation of `f(b,a)`.
+fn star_of(rt: &impl Abort, alloc: Global, number: u64) -> Option<u64> {
+    let tree = tree_of(rt, alloc, ENTRIES);
+    let read = clause(alloc, "f(b,a)").expect(rt, "memory");
+    let query = &read.literals.as_slice().first().expect(rt, "a term").left;
+    let found = tree.first_generalisation(query, |entry| match entry.stars {
+        Stars::More(term, _) if entry.number == number => Ok(Some(term.size())),
+        _ => Ok(None),
+    });
+    found.expect(rt, "memory")
+}
+
+#[test]
+fn a_test_is_asked_of_generalisations(rt: HostRuntime) {
+    assert!(rt; star_of(&rt, rt.alloc(), 1) == Some(1));
+    // `g(a)` is none.
+    assert!(rt; star_of(&rt, rt.alloc(), 2).is_none());
+}
+
 /// Whether both counted calls find all four entries with `X0`, or none.
 fn counted_calls_agree<L: Ledger>(rt: &impl Abort, alloc: Global, blank: Blank) -> bool
     requires name { blank.name ≡ L.name }

@@ -5,7 +5,6 @@ pub mod FormSymbols
 pub mod FormulaSymbols
 pub mod SymbolTests
 pub mod FormUse
-mod FitLemmas
 mod ReadableLines
 mod PoolRefutations
 mod KeyLemmas

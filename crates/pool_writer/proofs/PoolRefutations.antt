@@ -2,6 +2,7 @@
 use Rattle.std.proofs.Common.{◌≡◌, ℕ, Bool, ◌+◌, ◌-◌, ◌<◌, List, [], ◌∷◌, true, false, length, Option, None, Some, refl, ap, sym, ◌∙◌, subst, arith, length-append}
 use Rattle.std.specs.Prelude.{slice_get, position, if◌then◌else◌}
 use Rattle.std.specs.List.{AllByRecursion}
+use Rattle.std.proofs.lemmas.Bool.{false≢true}
 use Rattle.std.proofs.lemmas.Option.{none-some}
 use Rattle.fol_base.specs.Clause.{TreeClause}
 use Rattle.fol_base.specs.Literal.{clause_of}
@@ -9,12 +10,12 @@ use Rattle.fol_base.specs.WellFormed.{SymbolUse}
 use Rattle.tptp_tree.specs.declared.problem.Annotated.{Annotated}
 use Rattle.signature.specs.Form.{clausal_form}
 use Rattle.kernel_steps.specs.Derivation.{IsRefutation}
+use Rattle.kernel_steps.specs.declared.step.Step.TheVariants.{Component}
 use Rattle.kernel_steps.specs.declared.step.Line.{Line}
 use Rattle.kernel_steps.proofs.AboutCalls.LineLemmas.{last-there}
 use Rattle.clausal_form.specs.FormLaws.{use_of}
-use Rattle.tstp_writer.specs.ReadableLines.{line_variables, Fits}
 use Rattle.tstp_writer.specs.WrittenLaws.{IsReadableRefutation}
-use Rattle.pool_core.specs.Derived.{ArePoolLines, LinesAreDerived, RefutedIsRefutation}
+use Rattle.pool_core.specs.Derived.{is_plain_step, ArePoolLines, LinesAreDerived, RefutedIsRefutation}
 use Rattle.pool_core.specs.Inputs.{AreInputs, IsUseOf, IsHistoryOf}
 use Rattle.pool_core.specs.Outcomes.{is_at_rest, heavy_or_saturated, outcome_by, outcome_of, is_of_living}
 use Rattle.pool_core.specs.Record.{PoolRecord}
@@ -25,7 +26,7 @@ use Rattle.pool_core.specs.declared.outcome.Outcome.TheVariants.{Refuted}
 use Rattle.retracing.specs.Retraced.{steps_of, AreRefutingSteps, IsRetracing}
 use Rattle.pool_writer.specs.Refuted.{IsPoolRefutation}
 use Rattle.pool_writer.proofs.FormUse.{form-used}
-use Rattle.pool_writer.proofs.ReadableLines.{plain-steps, readable-anew}
+use Rattle.pool_writer.proofs.ReadableLines.{plain-steps, readable-anew, plain-anew}
 
 -- ---- the pool
 
@@ -80,7 +81,6 @@ module _ (fs : List Annotated) (form : List TreeClause) (lines : List Line) (is 
   }
 
   module _ (made : List Line) (refutes : IsRefutation form made) (retracing : IsRetracing form (steps_of lines) made)
-      (fits : AllByRecursion (λ (l : Line). AllByRecursion Fits (line_variables l.step (clause_of l.clause))) made)
     where
       pub made-refutes : IsRefutation (clausal_form fs).clauses made
       made-refutes = subst (λ (cs : List TreeClause). IsRefutation cs made) is.same refutes
@@ -94,13 +94,22 @@ module _ (fs : List Annotated) (form : List TreeClause) (lines : List Line) (is 
       pub some-line : 0 < length made
       some-line = omega (arith, long)
 
+      -- no line introduces a name
+      none-introduced : (n : ℕ) (line : Line) (name : ℕ) → slice_get made n ≡ Some line → line.step ≡ Component name → ⊥
+      none-introduced n line name at step_is =
+          let plain : is_plain_step line.step ≡ true =
+          plain-anew fs lines is.of_pool retracing.numbers made
+          (retracing.lines lines (subst (λ (cs : List TreeClause). IsRefutation cs lines) (sym is.same) is.refutes).derived refl) n line at in
+          false≢true (sym (ap is_plain_step step_is) ∙ plain)
+
       pub is-readable : (last : ℕ) → last ≡ length made - 1 → IsReadableRefutation fs made last
       is-readable last place = record {
         derived = made-refutes.derived;
         readable =
             λ n line at needed.
             readable-anew fs lines is.of_pool retracing.numbers made
-            (retracing.lines lines (subst (λ (cs : List TreeClause). IsRefutation cs lines) (sym is.same) is.refutes).derived refl) fits n line at;
+            (retracing.lines lines (subst (λ (cs : List TreeClause). IsRefutation cs lines) (sym is.same) is.refutes).derived refl) n line at;
+        names = λ n m name greater line later at later_at needed later_needed less step_is later_is. absurd (none-introduced n line name at step_is);
         line = refutes.last;
         ends =
             ap (slice_get made) (let same : last ≡ length refutes.before = omega (arith, place, long) in same) ∙ last-there form made refutes;

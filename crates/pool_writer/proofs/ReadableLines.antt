@@ -23,8 +23,7 @@ use Rattle.kernel_steps.specs.declared.step.Step.TheVariants.{Input, Negate, Cla
 use Rattle.kernel_steps.specs.declared.step.Line.{Line}
 use Rattle.clausal_form.specs.FormFunctions.{is_predicate_in}
 use Rattle.clausal_form.specs.FormLaws.{use_of}
-use Rattle.tstp_writer.specs.ReadableLines.{is_nameless_step, is_symbol_in, is_term_over, line_variables, Fits, IsReadable, IsReadableLine}
-use Rattle.tstp_writer.proofs.AboutPrinted.PlaceLemmas.{all-there}
+use Rattle.tstp_writer.specs.ReadableLines.{is_symbol_in, is_term_over, IsReadable, IsReadableLine}
 use Rattle.pool_core.specs.Derived.{is_plain_step, is_function_term_of, IsPlainLine, ArePoolLines}
 use Rattle.retracing.specs.Needed.{is_plain_step as is_retraced_step}
 use Rattle.retracing.specs.Renumbered.{renumbered}
@@ -34,19 +33,6 @@ use Rattle.pool_writer.proofs.FormSymbols.{form-symbols-pass, truth-passes}
 use Rattle.pool_writer.proofs.FormUse.{literals-over}
 
 -- ---- steps
-
-plain-nameless : (step : Step) → is_plain_step step ≡ true → is_nameless_step step ≡ true
-plain-nameless (Clausify i) plain = refl
-plain-nameless (Para first second from from_side into into_side place first_bind second_bind) plain = refl
-plain-nameless (Refl parent literal bind) plain = refl
-plain-nameless (Factor parent becomes becomes_side other other_side bind) plain = refl
-plain-nameless (Merge parent stays goes bind) plain = refl
-plain-nameless (Input place) plain = absurd (false≢true plain)
-plain-nameless (Negate place) plain = absurd (false≢true plain)
-plain-nameless (Component name) plain = absurd (false≢true plain)
-plain-nameless (Opposite name) plain = absurd (false≢true plain)
-plain-nameless (Split parent definitions parts) plain = absurd (false≢true plain)
-plain-nameless (Chain numbers pivots) plain = absurd (false≢true plain)
 
 plain-retraced : (step : Step) → is_plain_step step ≡ is_retraced_step step
 plain-retraced (Clausify i) = refl
@@ -100,10 +86,8 @@ term-over symbols t formed known =
     (and_parts (is_function_term (is_predicate_in symbols) t) (has_arities (use_of symbols).arity t) formed).0 known
 
 plain-readable :
-    (symbols : List Symbol) (step : Step) (c : TreeClause) → IsPlain symbols step c → AllByRecursion Fits (line_variables step c) → IsReadable symbols step c
-plain-readable symbols step c is fits = record {
-  nameless = plain-nameless step is.plain;
-  names = is.no_names;
+    (symbols : List Symbol) (step : Step) (c : TreeClause) → IsPlain symbols step c → IsReadable symbols step c
+plain-readable symbols step c is = record {
   literals = literals-over symbols c.literals is.formed is.known;
   sides = is.sides;
   binds =
@@ -112,7 +96,6 @@ plain-readable symbols step c is fits = record {
       (bindings_of step) is.terms is.bound;
   small = is.small;
   canonical = is.canonical;
-  variables = fits;
 }
 
 -- ---- the lines of a pool
@@ -152,12 +135,17 @@ module _ (fs : List Annotated) (lines : List Line)
     -- the lines that are made anew can be read again
     pub readable-anew :
         (numbers : List ℕ) (made : List Line) → AreRetraced numbers lines made
-        → AllByRecursion (λ (l : Line). AllByRecursion Fits (line_variables l.step (clause_of l.clause))) made
         → (n : ℕ) (line : Line) → slice_get made n ≡ Some line → IsReadableLine symbols line
-    readable-anew numbers made retraced fits n line at =
+    readable-anew numbers made retraced n line at =
         plain-readable symbols line.step (clause_of line.clause)
         (property-carries_over (IsPlain symbols) numbers lines made (renumbered-is-plain symbols) retraced plain-at n line at)
-        (all-there (λ (l : Line). AllByRecursion Fits (line_variables l.step (clause_of l.clause))) made n line fits at)
+
+    -- and introduce no names
+    pub plain-anew :
+        (numbers : List ℕ) (made : List Line) → AreRetraced numbers lines made
+        → (n : ℕ) (line : Line) → slice_get made n ≡ Some line → is_plain_step line.step ≡ true
+    plain-anew numbers made retraced n line at =
+        (property-carries_over (IsPlain symbols) numbers lines made (renumbered-is-plain symbols) retraced plain-at n line at).plain
 
     plain-steps-from : (ls : List Line) → ((n : ℕ) (line : Line) → slice_get ls n ≡ Some line → is_plain_step line.step ≡ true) → list_all is_retraced_step (steps_of ls) ≡ true
     plain-steps-from [] each = refl

@@ -1,7 +1,6 @@
 // What is written of a pool that has ended.
 #![tactic(auto)]
 
-mod fits;
 mod key;
 pub mod laws;
 mod refuted;

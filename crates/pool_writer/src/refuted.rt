@@ -14,7 +14,6 @@ ghost use Rattle.tstp_writer.specs.Printable.{IsShown};
 ghost use Rattle.tstp_writer.specs.ProblemLaws.{ArePrintableEntries};
 ghost use Rattle.pool_writer.specs.Refuted.{IsPoolRefutation, IsRefutationText};
 
-use crate::fits::prove_lines_fit;
 use clausal_form::Clausal;
 use plain_types::{Mem, Text};
 use pool_core::Pool;
@@ -44,7 +43,6 @@ pub fn write_refutation(
 {
     prove_refuted(problem, form, pool);
     let lines = refutation(alloc, &form.clauses, pool.derivation())?;
-    prove_lines_fit(lines.as_slice());
     let last = lines.len() as u64 - 1;
     write_lines(alloc, problem, form, &lines, last, file)
 }

@@ -99,9 +99,16 @@ const FAULTS: &[Row] = &[
     (b"fof(a,axiom,'a).", b"Unclosed@12"),
     (b"fof(a,axiom,p)", b"Syntax@14"),
     (b"fof(a,question,p).", b"Inappropriate(RoleForm)@6"),
+    (b"fof(a,type,p).", b"Inappropriate(RoleForm)@6"),
+    (b"cnf(a,fi_domain,p).", b"Inappropriate(RoleForm)@6"),
+    (b"fof(a,fi_functors,p).", b"Inappropriate(RoleForm)@6"),
+    (b"fof(a,fi_predicates,p).", b"Inappropriate(RoleForm)@6"),
     (b"fof(a,unknown,p).", b"Role@6"),
     (b"fof(a,axiom-x,p).", b"Syntax@11"),
     (b"tff(a,axiom,p).", b"Inappropriate(Typed)@0"),
+    (b"thf(a,axiom,p).", b"Inappropriate(Typed)@0"),
+    (b"tcf(a,axiom,p).", b"Inappropriate(Typed)@0"),
+    (b"tpi(a,axiom,p).", b"Inappropriate(Typed)@0"),
     (b"include(a).", b"Syntax@0"),
     (b"fof(1.5,axiom,p).", b"Syntax@4"),
     (b"fof(X,axiom,p).", b"Syntax@4"),
@@ -166,20 +173,21 @@ fn limits_levels(rt: HostRuntime) {
     expect_answers(&rt, rt.alloc(), LEVELS, 2);
 }
 
-/// Brackets, negations, quantifiers and terms round `p`, 5,000 levels deep: what opens and closes a level, the limit within which they are
-/// read, the length of the printed formula, and where the reading ends within 500 levels. A quantifier's bracket is a level more, so the
-/// last one needs 5,001.
+/// Brackets, negations, quantifiers, terms, and connectives in turn round `p`, 5,000 levels deep: what opens and closes a level or two, how
+/// often, the limit within which they are read, the length of the printed formula, and where the reading ends within 500 levels. A quantifier's
+/// bracket is a level more, so the last one needs 5,001.
 #[test]
 fn reads_deep_formulas(rt: HostRuntime) {
     let alloc = rt.alloc();
-    for (open, close, limit, length, refused) in [
-        ("(", ")", 5_000, 1, b"Nesting@512".as_slice()),
-        ("~", "", 5_000, 5_001, b"Nesting@512"),
-        ("![X]:", "", 5_001, 40_001, b"Nesting@2508"),
-        ("f(", ")", 5_000, 15_001, b"Nesting@1013"),
+    for (open, close, times, limit, length, refused) in [
+        ("(", ")", 5_000, 5_000, 1, b"Nesting@512".as_slice()),
+        ("~", "", 5_000, 5_000, 5_001, b"Nesting@512"),
+        ("![X]:", "", 5_000, 5_001, 40_001, b"Nesting@2508"),
+        ("f(", ")", 5_000, 5_000, 15_001, b"Nesting@1013"),
+        ("p&(p|(", "))", 2_500, 5_000, 29_999, b"Nesting@1514"),
     ] {
-        let open = open.repeat(alloc, 5_000).expect(&rt, "memory");
-        let close = close.repeat(alloc, 5_000).expect(&rt, "memory");
+        let open = open.repeat(alloc, times).expect(&rt, "memory");
+        let close = close.repeat(alloc, times).expect(&rt, "memory");
         let text = format!(in alloc; "fof(a,axiom,{open}p{close}).").expect(&rt, "memory");
         let found = shown(&rt, alloc, &answer(&rt, alloc, text.as_bytes(), 0, limit));
         assert!(rt; found.len() == length);
@@ -200,4 +208,26 @@ fn keeps_names_roles_and_ranges(rt: HostRuntime) {
     assert!(rt; read.annotated.clause && read.annotated.role == Role::NegatedConjecture);
     assert!(rt; read.annotated.file.is_empty() && read.annotated.place == 16);
     assert!(rt; (read.notes_start, read.notes_end, read.next) == (17, 21, 23));
+}
+
+/// Sixty variables of one quantifier, more than are looked through: the first and the last are bound by it, and no other name is.
+#[test]
+fn binds_many_variables(rt: HostRuntime) {
+    let alloc = rt.alloc();
+    let mut names = String::new(alloc);
+    for number in 0..60 {
+        let comma = if number == 0 { "" } else { "," };
+        let name = format!(in alloc; "{comma}X{number}").expect(&rt, "memory");
+        names.push_str(name.as_str()).expect(&rt, "memory");
+    }
+    for (atom, wanted) in [
+        ("p(X0,X59)", b"! [".as_slice()),
+        ("p(X0,X60)", b"FreeVariable@250"),
+        ("((![X59]:p(X59))&q(X59))", b"! ["),
+        ("((![X60]:p(X60))&q(X60))", b"FreeVariable@264"),
+    ] {
+        let text = format!(in alloc; "fof(a,axiom,![{names}]:{atom}).").expect(&rt, "memory");
+        let found = shown(&rt, alloc, &answer(&rt, alloc, text.as_bytes(), 0, MOST_NESTING));
+        assert!(rt; found.as_slice().starts_with(wanted), "{atom}");
+    }
 }

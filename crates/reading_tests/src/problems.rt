@@ -194,6 +194,18 @@ const SELECTIONS: &[Row] = &[
     },
     Row {
         files: &[
+            ("a.p", b"include(f,[012,b,b])."),
+            (
+                "f",
+                b"cnf(12,axiom,p).cnf('012',axiom,p).cnf(b,axiom,p).",
+            ),
+        ],
+        file: "a.p",
+        root: None,
+        answer: b"012@f:16 b@f:35 ",
+    },
+    Row {
+        files: &[
             ("r14.p", b"include('ax.ax',[one,two])."),
             ("ax.ax", b"cnf(one,axiom,p)."),
         ],
@@ -230,6 +242,24 @@ const SELECTIONS: &[Row] = &[
         answer: b"Syntax@a.p:12 ",
     },
 ];
+
+/// Each load of a chain of files fails in turn, and its name is told.
+#[test]
+fn each_load_may_fail(rt: HostRuntime) {
+    let alloc = rt.alloc();
+    for (index, (name, _)) in CHAIN.iter().skip(1).enumerate() {
+        let mut list = Files::new(alloc);
+        for (name, bytes) in CHAIN {
+            let file = MemFile::new(alloc, name, bytes).expect(&rt, "memory");
+            list.push(file).expect(&rt, "memory");
+        }
+        let fail = Numbers::from_slice(alloc, &[index as u64 + 1]).expect(&rt, "memory");
+        let mut library = MemLibrary::new(alloc, list, fail);
+        let answer = read_problem(alloc, &mut library, "a", None);
+        let wanted = format!(in alloc; "Load@{name}:0 ").expect(&rt, "memory");
+        assert!(rt; shown(&rt, alloc, &answer).as_slice() == wanted.as_bytes());
+    }
+}
 
 /// Which conjectures count.
 const CONJECTURES: &[Row] = &[

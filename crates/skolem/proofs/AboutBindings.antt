@@ -4,4 +4,5 @@ pub mod BoundTermLemmas
 pub mod ListLemmas
 pub mod OccurringLemmas
 pub mod OrderLemmas
+pub mod PlaceLemmas
 pub mod TermLemmas

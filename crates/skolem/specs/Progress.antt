@@ -1,11 +1,11 @@
 -- What the program's work on a form is: the variables in force, and what was made.
-use Rattle.std.specs.Prelude.{ℕ, ◌+◌, List, [], ◌∷◌, ◌++◌, length, flat_map}
+use Rattle.std.specs.Prelude.{◌≡◌, ℕ, zero, suc, ◌+◌, ◌≤◌, List, [], ◌∷◌, ◌++◌, length, take, get_or, flat_map}
 use Rattle.tptp_tree.specs.Formula.{FormulaTree, truth, falsity, predicate, equation, negation, conjunction, disjunction, connected, quantified, FormulaTrees, no_formulas, formula_then}
-use Rattle.fol_base.specs.Tree.{tree_variables, true_tree}
+use Rattle.fol_base.specs.Tree.{variable, tree_variables, true_tree}
 use Rattle.signature.specs.Environment.{Environment, term_names, terms_names, term_in_force}
 use Rattle.signature.specs.Clausal.{SymbolNumbers, Made, Scope, applied}
 use Rattle.skolem.specs.declared.bound_term.BoundTerm.{BoundTerm}
-use Rattle.skolem.specs.declared.bound_term.BoundTerm.TheVariants.{Var}
+use Rattle.skolem.specs.declared.bound_term.BoundTerm.TheVariants.{Var, Closed}
 use Rattle.skolem.specs.declared.bindings.Binding.{Binding}
 use Rattle.skolem.specs.declared.progress.Progress.{Progress}
 use Rattle.skolem.specs.BoundTerm.{bound_tree}
@@ -52,6 +52,28 @@ abbrev mutual
   pub all_occurring : FormulaTrees → Environment → List ℕ
   all_occurring no_formulas env = []
   all_occurring (formula_then f fs) env = occurring f env ++ all_occurring fs env
+
+-- ---- the places of bindings
+
+abbrev pub no_binding : Binding
+no_binding = record { name = []; term = Closed }
+
+-- The variables of the term at a place. Places are counted from 1, and 0 is that of a name without a binding.
+abbrev pub place_variables : List Binding → ℕ → List ℕ
+place_variables bs zero = tree_variables (variable 0)
+place_variables bs (suc i) = tree_variables (bound_tree (get_or bs i no_binding).term)
+
+abbrev pub variables_at : List Binding → List ℕ → List ℕ
+variables_at bs places = flat_map (place_variables bs) places
+
+-- the variables at places among the first bindings
+abbrev pub outer_variables : ℕ → List Binding → List ℕ → List ℕ
+outer_variables outer bs places = variables_at (take outer bs) places
+
+-- the bindings after the first ones add no variables
+pub record AreClosedFrom (outer : ℕ) (bs : List Binding) : Type 0 where
+  pub within : outer ≤ length bs
+  pub closed : (i : ℕ) → outer ≤ i → place_variables bs (suc i) ≡ []
 
 -- ---- Skolem terms with given arguments
 

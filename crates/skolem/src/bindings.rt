@@ -1,13 +1,13 @@
 // The variables in force.
 
-ghost use Rattle.std.specs.Prelude.{◌≡◌, ◌<◌, ◌-◌, ◌++◌, ◌∷◌, [], length, take, get_or, IfOk};
+ghost use Rattle.std.specs.Prelude.{◌≡◌, ◌<◌, ◌≤◌, ◌-◌, ◌++◌, ◌∷◌, [], length, take, get_or, IfOk};
 ghost use Rattle.std.specs.Option.{option_map, unwrap_or};
-ghost use Rattle.fol_base.specs.Tree.{variable};
+ghost use Rattle.fol_base.specs.Tree.{variable, tree_variables};
 ghost use Rattle.signature.specs.Environment.{term_in_force};
 ghost use Rattle.skolem.specs.declared.bindings.Entry.{Entry};
 ghost use Rattle.skolem.specs.BoundTerm.{bound_tree};
 ghost use Rattle.skolem.specs.Bindings.{place_in};
-ghost use Rattle.skolem.specs.Progress.{environment_of};
+ghost use Rattle.skolem.specs.Progress.{environment_of, place_variables};
 
 use crate::bound_term::BoundTerm;
 use crate::name::{VariableName, VariableRef};
@@ -86,6 +86,29 @@ impl Bindings {
         }
         let entry = entry_at(self.entries.as_slice(), place - 1);
         Some(&entry.binding.term)
+    }
+
+    /// One more than the place of the innermost variable of that name, or 0 where there is no such variable.
+    pub(crate) fn place(&self, name: &Text) -> usize
+        ensures within { result ≤ length self.now }
+        ensures variables { place_variables self.now result ≡ tree_variables (term_in_force (environment_of self.now) name.now) }
+    {
+        place_of(&self.innermost, name)
+    }
+
+    /// Adds the variables of the term at a place, which is given as `place` gives it.
+    pub(crate) fn push_variables_at(&self, place: u32, found: &mut Vec<u32>) -> Mem<()>
+        ensures { IfOk result (λ _. found.new.items ≡ found.old.items ++ place_variables self.now place) }
+    {
+        if place == 0 {
+            return Ok(found.push(NO_VARIABLE_IN_FORCE)?);
+        }
+        let entries = self.entries.as_slice();
+        let index = place as usize - 1;
+        if index >= entries.len() {
+            return Ok(());
+        }
+        entry_at(entries, index).binding.term.push_variables(found)
     }
 
     /// The term of the innermost variable of that name, or else of one that isn't in force.

@@ -1,11 +1,12 @@
 // The work on a form: the variables in force with their terms, and what was made.
 
-ghost use Rattle.std.specs.Prelude.{◌≡◌, ◌+◌, ◌∷◌, [], ◌++◌, IfOk};
+ghost use Rattle.std.specs.Prelude.{◌≡◌, ℕ, ◌+◌, ◌==◌, ◌∷◌, [], ◌++◌, length, IfOk};
+ghost use Rattle.std.specs.List.{list_any};
 ghost use Rattle.std.specs.List.Sorted.{IsNonDecreasingBy};
 ghost use Rattle.signature.specs.Environment.{free_names, without_names};
 ghost use Rattle.signature.specs.Clausal.{skolem_arguments, made_in_order};
 ghost use Rattle.signature.specs.Form.{nothing_made};
-ghost use Rattle.skolem.specs.Progress.{environment_of, variable_term, made_of};
+ghost use Rattle.skolem.specs.Progress.{environment_of, variable_term, made_of, variables_at};
 
 use crate::bindings::Bindings;
 use crate::bound_term::BoundTerm;
@@ -80,10 +81,33 @@ impl Progress {
         ensures variables { self.new.variables ≡ self.old.variables }
         ensures arities { self.new.arities.items ≡ self.old.arities.items }
     {
-        let mut occurring = Vec::new(alloc);
-        push_occurring_under(alloc, names, body, &mut self.bindings, &mut occurring)?;
+        let outer = self.bindings.len();
+        let mut places = Vec::new(alloc);
+        push_occurring_under(alloc, names, body, outer, &mut self.bindings, &mut places)?;
+        let mut occurring = variables_at(alloc, &self.bindings, &mut places)?;
         made_in_order(alloc, self.variables, &mut occurring)
     }
+}
+
+/// The variables in the terms at those places, where each place counts once. The list of places is sorted for it.
+fn variables_at(alloc: Global, bindings: &Bindings, places: &mut Vec<u32>) -> Mem<Vec<u32>>
+    ensures { IfOk result (λ found. (v : ℕ)
+        → list_any (λ w. v == w) found.items ≡ list_any (λ w. v == w) (variables_at bindings.now places.old.items)) }
+{
+    let different = made_in_order(alloc, place_count(bindings)?, places)?;
+    let mut found = Vec::new(alloc);
+    for place in different.as_slice() {
+        bindings.push_variables_at(*place, &mut found)?;
+    }
+    Ok(found)
+}
+
+/// How many places there are, that of no binding included.
+fn place_count(bindings: &Bindings) -> Mem<u32>
+    ensures { IfOk result (λ count. count ≡ length bindings.now + 1) }
+{
+    let last = u32::try_from(bindings.len()).map_err(|_| NoMemory)?;
+    last.checked_add(1).ok_or(NoMemory)
 }
 
 /// Of the variables below that number those that occur, in their order, each once. The list is sorted for it.

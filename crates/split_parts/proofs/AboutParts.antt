@@ -5,3 +5,5 @@ pub mod ForestLemmas
 pub mod GroupLemmas
 pub mod PlaceLemmas
 pub mod SplitLemmas
+pub mod UniqueLemmas
+pub mod WholeLemmas

@@ -5,4 +5,3 @@ pub mod SignedLawLemmas
 pub mod SignedLemmas
 pub mod TagLawLemmas
 pub mod TagLemmas
-pub mod UniqueLemmas

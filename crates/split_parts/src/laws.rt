@@ -5,7 +5,7 @@ ghost use Rattle.fol_base.specs.Examples.{x, a, b, p, q, equation};
 ghost use Rattle.fol_base.specs.Rules.{disequation};
 ghost use Rattle.kernel_steps.specs.Derivation.{complement};
 ghost use Rattle.split_parts.specs.Components.{IsComponents};
-ghost use Rattle.split_parts.specs.ComponentLaws.{ComponentsAreUnique, ComponentsSplit};
+ghost use Rattle.split_parts.specs.ComponentLaws.{ComponentsAreUnique, ComponentsAreWhole, ComponentsSplit};
 ghost use Rattle.split_parts.specs.Tags.{has_part, with_part, tag_of};
 ghost use Rattle.split_parts.specs.TagLaws.{TagsTellParts, TagsStay, PartsStandAtTheirTags, MetPartsAreThere};
 ghost use Rattle.split_parts.specs.SignedNames.{is_ground_negative, named, signed_name};
@@ -14,6 +14,11 @@ ghost use Rattle.split_parts.specs.SignedLaws.{SignedNamesStay, SignedNamesTellP
 /// Two lists of components of the same literals are equal.
 pub fn components_are_unique()
     ensures { ComponentsAreUnique }
+{}
+
+/// The literals of a component are one component.
+pub fn components_are_whole()
+    ensures { ComponentsAreWhole }
 {}
 
 /// With a definition for each part, components meet the condition of a split.

@@ -30,8 +30,10 @@ fn linked(alloc: Global, literals: &[Literal]) -> Mem<Vec<usize>>
 {
     let mut links = own_classes(alloc, literals.len())?;
     let mut places = HashMap::new(alloc);
+    // Of one literal at a time, so that there is one list for all.
+    let mut variables = Vec::new(alloc);
     for place in 0..literals.len() {
-        join_literal(alloc, &mut links, &mut places, literals, place)?;
+        join_literal(&mut links, &mut places, &mut variables, literals, place)?;
     }
     Ok(links)
 }
@@ -50,9 +52,9 @@ fn own_classes(alloc: Global, count: usize) -> Mem<Vec<usize>>
 
 /// Joins the class of a literal with those of the literals before it with which it shares a variable.
 fn join_literal(
-    alloc: Global,
     links: &mut [usize],
     places: &mut HashMap<u32, usize>,
+    variables: &mut Vec<u32>,
     literals: &[Literal],
     place: usize,
 ) -> Mem<()>
@@ -63,7 +65,8 @@ fn join_literal(
     ensures falls { OnOk result (Falls links.new) }
     ensures joined { OnOk result (IsJoined (map literal_of literals.now) (place + 1) 0 links.new places.new) }
 {
-    for variable in &variables_of(alloc, &literals[place])? {
+    read_variables(&literals[place], variables)?;
+    for variable in variables.iter() {
         match places.get(variable).copied() {
             Some(first) => join(links, first, place),
             None => {
@@ -74,14 +77,13 @@ fn join_literal(
     Ok(())
 }
 
-/// The variables of a literal, with repetitions.
-fn variables_of(alloc: Global, literal: &Literal) -> Mem<Vec<u32>>
-    ensures { IfOk result (λ variables. variables.items ≡ literal_variables (literal_of literal.now)) }
+/// Makes the list that of the variables of a literal, with repetitions.
+fn read_variables(literal: &Literal, variables: &mut Vec<u32>) -> Mem<()>
+    ensures { OnOk result (variables.new.items ≡ literal_variables (literal_of literal.now)) }
 {
-    let mut variables = Vec::new(alloc);
-    push_variables(&literal.left, &mut variables)?;
-    push_variables(&literal.right, &mut variables)?;
-    Ok(variables)
+    variables.clear();
+    push_variables(&literal.left, variables)?;
+    push_variables(&literal.right, variables)
 }
 
 /// The places by their classes, in the order of their roots.

@@ -9,3 +9,5 @@ pub mod OutcomeLemmas
 pub mod EntryOutcomes
 pub mod PassedLemmas
 pub mod ReadLemmas
+pub mod SpelledLemmas
+pub mod LevelLemmas

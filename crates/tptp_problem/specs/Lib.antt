@@ -1,8 +1,12 @@
 pub mod Files
 pub mod Includes
 pub mod Formulas
+pub mod NameSets
 pub mod Problem
 pub mod Shape
 pub mod Awaiting
 pub mod IncludeReads
 pub mod Closed
+pub mod Spelled
+pub mod SpelledExamples
+pub mod Levels

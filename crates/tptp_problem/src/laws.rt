@@ -12,6 +12,9 @@ ghost use Rattle.tptp_problem.specs.declared.limits.TheConstants.{MOST_PROBLEM_B
 ghost use Rattle.tptp_problem.specs.Formulas.{Placed, placed};
 ghost use Rattle.tptp_problem.specs.Closed.{closed_within};
 ghost use Rattle.tptp_problem.specs.Problem.{IsProblem, IsProblemFault};
+ghost use Rattle.tptp_problem.specs.Spelled.{FromFile, from_file, SpellsProblem};
+ghost use Rattle.tptp_problem.specs.SpelledExamples.{SelectedFormula, WholeFile, OneClause};
+ghost use Rattle.tptp_problem.specs.Levels.{HasFewLevels};
 
 /// Where a library tells what it holds, a file has one problem or one first fault, but that a load may fail: there is at most
 /// one problem, no other fault beside it, and at most one other fault.
@@ -53,4 +56,26 @@ pub fn problems_have_a_size()
         (h : IsProblem told file root formulas) → h.0.loaded ≤ MOST_PROBLEM_BYTES }
     ensures sized { (told : Option Holdings) (file : List ℕ) (root : Option (List ℕ)) (formulas : List Annotated)
         → IsProblem told file root (map placed formulas) → HasProblemSize formulas }
+{}
+
+/// The formulas of a problem are those that the bytes of its files spell, after includes and selections; and where a library
+/// tells what it holds, a file spells at most one list of formulas.
+pub fn formulas_are_spelled()
+    ensures spelled { (told : Option Holdings) (file : List ℕ) (root : Option (List ℕ)) (formulas : List Placed)
+        → IsProblem told file root formulas → SpellsProblem told file root (map from_file formulas) }
+    ensures one { (holds : Holdings) (file : List ℕ) (root : Option (List ℕ)) (f g : List FromFile)
+        → SpellsProblem (Some holds) file root f → SpellsProblem (Some holds) file root g → f ≡ g }
+{}
+
+/// Each formula of a problem is said by one of at most 500 levels, and its printed text spells it within 1,000.
+pub fn few_levels()
+    ensures { (told : Option Holdings) (file : List ℕ) (root : Option (List ℕ)) (formulas : List Placed)
+        → IsProblem told file root formulas → AllByRecursion (λ (f : Placed). HasFewLevels f.tree.formula) formulas }
+{}
+
+/// The definitions of a problem, on small files.
+pub fn problem_examples()
+    ensures selected_formula { SelectedFormula }
+    ensures whole_file { WholeFile }
+    ensures one_clause { OneClause }
 {}

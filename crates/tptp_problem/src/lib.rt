@@ -5,6 +5,7 @@ mod include;
 pub mod laws;
 mod limits;
 mod name;
+mod name_set;
 mod problem;
 mod reading;
 mod selection;

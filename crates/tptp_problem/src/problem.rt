@@ -13,6 +13,7 @@ ghost use Rattle.tptp_problem.specs.Shape.{IsLoadTold, IsLexed, file_of, selecti
 use crate::include::include_at;
 use crate::limits::{MOST_INCLUDES, MOST_PROBLEM_BYTES};
 use crate::name::{base_of, loaded_name};
+use crate::name_set::set_of;
 use crate::reading::Reading;
 use crate::selection::Selection;
 use crate::source::Source;
@@ -151,13 +152,16 @@ impl Reading<'_> {
             return Err(source.fault(alloc, ReadCause::IncludeDepth, first));
         }
         let include = include_at(alloc, source, first)?;
+        let names = include.names.as_slice();
+        let known = set_of(alloc, names)?;
         let selection = Selection {
-            names: include.names.as_slice(),
+            names,
+            known: &known,
         };
         let around = selection.within(alloc, source.around)?;
         let name = loaded_name(alloc, self.base, include.file.as_slice())?;
         let read = self.file(alloc, library, name.as_str(), around.as_slice(), depth - 1)?;
-        match selection.missing(read.as_slice()) {
+        match selection.missing(alloc, read.as_slice())? {
             Some(index) => {
                 Err(source.fault(alloc, ReadCause::SelectionMissing, first + 5 + 2 * index))
             }

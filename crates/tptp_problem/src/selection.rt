@@ -1,10 +1,11 @@
 // The formulas that an include takes.
 
 ghost use Rattle.std.specs.Prelude.{◌≡◌, ◌++◌, [], ◌∷◌, map, IfOk};
-ghost use Rattle.tptp_token.specs.Spelling.{is_one_of};
-ghost use Rattle.tptp_problem.specs.Formulas.{placed, selects as selects_name, selected, is_named as named, missing as missing_among};
+ghost use Rattle.tptp_problem.specs.Formulas.{placed, selects as selects_name, selected, missing as missing_among};
+ghost use Rattle.tptp_problem.specs.NameSets.{HasNames};
 ghost use Rattle.tptp_problem.specs.Shape.{selections};
 
+use crate::name_set::{NameSet, has_name, names_of};
 use plain_types::{Mem, Text};
 use std::alloc::Global;
 use tptp_tree::Annotated;
@@ -13,26 +14,33 @@ use tptp_tree::Annotated;
 #[derive(Clone, Copy)]
 pub struct Selection<'a> {
     pub names: &'a [Text],
+    /// The same names, by which each is found.
+    pub known: &'a NameSet<'a>,
+    ghost known_are: { HasNames names.now known.now },
 }
 
 impl<'a> Selection<'a> {
-    /// Whether it takes the formulas of that name. The time is linear in the names.
+    /// Whether it takes the formulas of that name.
     pub fn selects(&self, name: &[u8]) -> bool
         ensures { result ≡ selects_name self.now.names.now name.now }
     {
-        self.names.is_empty() || is_listed(self.names, name)
+        self.names.is_empty() || has_name(self.known, name)
     }
 
-    /// The index of its first name that none of the formulas has. The time is linear in the names times the formulas.
-    pub fn missing(&self, formulas: &[Annotated]) -> Option<usize>
-        ensures { result ≡ missing_among self.now.names.now (map placed formulas.now) }
+    /// The index of its first name that none of the formulas has.
+    pub fn missing(&self, alloc: Global, formulas: &[Annotated]) -> Mem<Option<usize>>
+        ensures { IfOk result (λ index. index ≡ missing_among self.now.names.now (map placed formulas.now)) }
     {
+        if self.names.is_empty() {
+            return Ok(None);
+        }
+        let present = names_of(alloc, formulas)?;
         for (index, name) in self.names.iter().enumerate() {
-            if !is_named(formulas, name.as_slice()) {
-                return Some(index);
+            if !has_name(&present, name.as_slice()) {
+                return Ok(Some(index));
             }
         }
-        None
+        Ok(None)
     }
 
     /// Moves the formulas that it takes to the end of a list, in their order.
@@ -57,28 +65,4 @@ impl<'a> Selection<'a> {
         all.push(self)?;
         Ok(all)
     }
-}
-
-/// Whether the name is one of the names.
-fn is_listed(names: &[Text], name: &[u8]) -> bool
-    ensures { result ≡ is_one_of names.now name.now }
-{
-    for listed in names {
-        if name == listed.as_slice() {
-            return true;
-        }
-    }
-    false
-}
-
-/// Whether one of the formulas has the name.
-fn is_named(formulas: &[Annotated], name: &[u8]) -> bool
-    ensures { result ≡ named (map placed formulas.now) name.now }
-{
-    for formula in formulas {
-        if formula.name.as_slice() == name {
-            return true;
-        }
-    }
-    false
 }

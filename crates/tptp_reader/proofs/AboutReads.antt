@@ -1,5 +1,6 @@
 -- What a run reads, by kind.
 pub mod AtomReads
+pub mod BoundLemmas
 pub mod ClauseReads
 pub mod EntryReads
 pub mod EntryWhole

@@ -3,6 +3,7 @@ pub mod AnswerLemmas
 pub mod OutcomeLemmas
 pub mod PlacedLemmas
 pub mod PrintedLemmas
+pub mod RisingLemmas
 pub mod Spelled
 pub mod TellingLemmas
 pub mod TextLemmas

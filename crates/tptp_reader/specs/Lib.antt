@@ -4,9 +4,11 @@ pub mod Answers
 pub mod Verdicts
 pub mod AnswerExamples
 pub mod Placed
+pub mod Bound
 pub mod Telling
 pub mod TellingNotes
 pub mod TellingEntries
 pub mod Faults
 pub mod Annotating
 pub mod Printed
+pub mod Rising

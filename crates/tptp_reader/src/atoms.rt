@@ -8,8 +8,9 @@ ghost use Rattle.tptp_token.specs.TextTokens.{lexeme_of};
 ghost use Rattle.tptp_token.specs.Words.{is_word as word_is, is_variable as variable_is};
 ghost use Rattle.tptp_reader.specs.Telling.{one, IsNext, ReadsAtom, Halts};
 
+use crate::bound::Bound;
 use crate::cause::{Halt, Refusal};
-use crate::source::{Name, Reader, is_sign_of_equation, refusal_as_term};
+use crate::source::{Reader, is_sign_of_equation, refusal_as_term};
 use plain_types::Text;
 use std::alloc::Global;
 use tptp_token::{Kind, TextToken};
@@ -21,7 +22,7 @@ impl<'a> Reader<'a> {
     pub fn atom(
         &self,
         alloc: Global,
-        bound: &[Name<'a>],
+        bound: &Bound<'a>,
         at: usize,
         level: u32,
         may_differ: bool,
@@ -49,7 +50,7 @@ impl<'a> Reader<'a> {
     fn word_atom(
         &self,
         alloc: Global,
-        bound: &[Name<'a>],
+        bound: &Bound<'a>,
         token: &TextToken<'a>,
         at: usize,
         level: u32,
@@ -76,7 +77,7 @@ impl<'a> Reader<'a> {
     fn variable_atom(
         &self,
         alloc: Global,
-        bound: &[Name<'a>],
+        bound: &Bound<'a>,
         token: &TextToken<'a>,
         at: usize,
         level: u32,

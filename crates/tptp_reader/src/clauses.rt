@@ -5,8 +5,10 @@ ghost use Rattle.tptp_tree.specs.Shape.{formula_of};
 ghost use Rattle.tptp_reader.specs.Machine.{a_clause, a_literal, a_plain_literal};
 ghost use Rattle.tptp_reader.specs.Telling.{one, Halts, ReadsClause, ReadsPlainClause, ReadsLiterals, ReadsLiteral, ReadsNegated, further_literals};
 
+use crate::bound::Bound;
 use crate::cause::Halt;
-use crate::source::{Name, Reader};
+use crate::lists::fitted_formulas;
+use crate::source::Reader;
 use std::alloc::Global;
 use tptp_tree::{Formula, FormulaBox, Formulas};
 
@@ -15,7 +17,7 @@ impl<'a> Reader<'a> {
     pub fn clause(
         &self,
         alloc: Global,
-        bound: &[Name<'a>],
+        bound: &Bound<'a>,
         at: usize,
         level: u32,
     ) -> Result<(Formula, usize), Halt>
@@ -37,7 +39,7 @@ impl<'a> Reader<'a> {
     fn literals(
         &self,
         alloc: Global,
-        bound: &[Name<'a>],
+        bound: &Bound<'a>,
         at: usize,
         level: u32,
     ) -> Result<(Formula, usize), Halt>
@@ -57,7 +59,7 @@ impl<'a> Reader<'a> {
     fn more_literals(
         &self,
         alloc: Global,
-        bound: &[Name<'a>],
+        bound: &Bound<'a>,
         first: Formula,
         at: usize,
         level: u32,
@@ -72,7 +74,7 @@ impl<'a> Reader<'a> {
         loop {
             let token = self.look(next)?;
             if !token.is_connective(b"|") {
-                return Ok((literals, next));
+                return Ok((fitted_formulas(literals), next));
             }
             let (literal, after) = self.literal(alloc, bound, next + 1, level)?;
             literals.push(literal)?;
@@ -84,7 +86,7 @@ impl<'a> Reader<'a> {
     fn literal(
         &self,
         alloc: Global,
-        bound: &[Name<'a>],
+        bound: &Bound<'a>,
         at: usize,
         level: u32,
     ) -> Result<(Formula, usize), Halt>
@@ -106,7 +108,7 @@ impl<'a> Reader<'a> {
     fn negated_atom(
         &self,
         alloc: Global,
-        bound: &[Name<'a>],
+        bound: &Bound<'a>,
         at: usize,
         level: u32,
     ) -> Result<(Formula, usize), Halt>

@@ -11,6 +11,7 @@ ghost use Rattle.tptp_token.specs.Lexing.{lexed_of};
 ghost use Rattle.tptp_reader.specs.Annotating.{IsReading, IsFaultOf};
 ghost use Rattle.tptp_reader.specs.TellingEntries.{IsFaultOfHalt, IsWithin, cause_told, body_symbols, ReadsLanguage, ReadsName, ReadsRole, ReadsBody, ReadsEnding, ReadsEntry};
 
+use crate::bound::Bound;
 use crate::cause::{Form, Halt, ReadCause, ReadFault, Refusal};
 use crate::source::Reader;
 use plain_types::Text;
@@ -211,9 +212,9 @@ impl<'a> Reader<'a> {
             limit: self.limit,
             closed: !clause,
         };
-        let mut bound = Vec::new(alloc);
+        let mut bound = Bound::new(alloc);
         if clause {
-            let (plain, last) = reader.clause(alloc, bound.as_slice(), at, 0)?;
+            let (plain, last) = reader.clause(alloc, &bound, at, 0)?;
             return Ok((plain, last));
         }
         let (formula, next) = reader.formula(alloc, &mut bound, at, 0)?;

@@ -8,7 +8,9 @@ ghost use Rattle.tptp_tree.specs.Shape.{formula_of};
 ghost use Rattle.tptp_reader.specs.Machine.{a_unit, formula_symbols, variables_bracket};
 ghost use Rattle.tptp_reader.specs.Telling.{one, IsNext, Halts, ReadsFormula, ReadsUnit, ReadsUnits, further_units, ReadsBound, ReadsVariables, ReadsVariable, HaltsVariable, Binds, BindsOne, quantifier_of, binary_of};
 
+use crate::bound::Bound;
 use crate::cause::{Halt, Refusal};
+use crate::lists::fitted_formulas;
 use crate::source::{Binary, Name, Reader, binary_connective, is_quantifier};
 use plain_types::{Mem, Text, Texts};
 use std::alloc::Global;
@@ -20,13 +22,13 @@ impl<'a> Reader<'a> {
     pub fn formula(
         &self,
         alloc: Global,
-        bound: &mut Vec<Name<'a>>,
+        bound: &mut Bound<'a>,
         at: usize,
         level: u32,
     ) -> Result<(Formula, usize), Halt>
-        ensures read { IfOk result (λ read. ReadsFormula self.now bound.old.items level at read.1 (formula_of read.0)) }
-        ensures kept { IfOk result (λ _. bound.new.items ≡ bound.old.items) }
-        ensures halted { IfErr result (λ halt. Halts self.now formula_symbols bound.old.items level at halt) }
+        ensures read { IfOk result (λ read. ReadsFormula self.now bound.old level at read.1 (formula_of read.0)) }
+        ensures kept { IfOk result (λ _. bound.new ≡ bound.old) }
+        ensures halted { IfErr result (λ halt. Halts self.now formula_symbols bound.old level at halt) }
     {
         let (first, after) = self.unit(alloc, bound, at, level)?;
         self.after_unit(alloc, bound, at, first, after, level)
@@ -39,16 +41,16 @@ impl<'a> Reader<'a> {
     fn after_unit(
         &self,
         alloc: Global,
-        bound: &mut Vec<Name<'a>>,
+        bound: &mut Bound<'a>,
         at: usize,
         first: Formula,
         after: usize,
         level: u32,
     ) -> Result<(Formula, usize), Halt>
-        requires { ReadsUnit self.now bound.old.items level at after (formula_of first) }
-        ensures read { IfOk result (λ read. ReadsFormula self.now bound.old.items level at read.1 (formula_of read.0)) }
-        ensures kept { IfOk result (λ _. bound.new.items ≡ bound.old.items) }
-        ensures halted { IfErr result (λ halt. Halts self.now formula_symbols bound.old.items level at halt) }
+        requires { ReadsUnit self.now bound.old level at after (formula_of first) }
+        ensures read { IfOk result (λ read. ReadsFormula self.now bound.old level at read.1 (formula_of read.0)) }
+        ensures kept { IfOk result (λ _. bound.new ≡ bound.old) }
+        ensures halted { IfErr result (λ halt. Halts self.now formula_symbols bound.old level at halt) }
     {
         let sign = self.look(after)?;
         if sign.is_connective(b"&") {
@@ -75,15 +77,15 @@ impl<'a> Reader<'a> {
     fn operands(
         &self,
         alloc: Global,
-        bound: &mut Vec<Name<'a>>,
+        bound: &mut Bound<'a>,
         first: Formula,
         sign: &[u8],
         at: usize,
         level: u32,
     ) -> Result<(Formulas, usize), Halt>
-        ensures read { IfOk result (λ read. ReadsUnits sign.now (formula_of first) self.now bound.old.items level at read.1 read.0) }
-        ensures kept { IfOk result (λ _. bound.new.items ≡ bound.old.items) }
-        ensures halted { IfErr result (λ halt. Halts self.now (further_units sign.now) bound.old.items level at halt) }
+        ensures read { IfOk result (λ read. ReadsUnits sign.now (formula_of first) self.now bound.old level at read.1 read.0) }
+        ensures kept { IfOk result (λ _. bound.new ≡ bound.old) }
+        ensures halted { IfErr result (λ halt. Halts self.now (further_units sign.now) bound.old level at halt) }
     {
         let mut operands = Formulas::new(alloc);
         operands.push(first)?;
@@ -92,7 +94,7 @@ impl<'a> Reader<'a> {
         loop {
             let token = self.look(next)?;
             if !token.is_connective(sign) {
-                return Ok((operands, next));
+                return Ok((fitted_formulas(operands), next));
             }
             let (operand, after) = self.unit(alloc, bound, next + 1, level)?;
             operands.push(operand)?;
@@ -105,13 +107,13 @@ impl<'a> Reader<'a> {
     fn unit(
         &self,
         alloc: Global,
-        bound: &mut Vec<Name<'a>>,
+        bound: &mut Bound<'a>,
         at: usize,
         level: u32,
     ) -> Result<(Formula, usize), Halt>
-        ensures read { IfOk result (λ read. ReadsUnit self.now bound.old.items level at read.1 (formula_of read.0)) }
-        ensures kept { IfOk result (λ _. bound.new.items ≡ bound.old.items) }
-        ensures halted { IfErr result (λ halt. Halts self.now (one a_unit) bound.old.items level at halt) }
+        ensures read { IfOk result (λ read. ReadsUnit self.now bound.old level at read.1 (formula_of read.0)) }
+        ensures kept { IfOk result (λ _. bound.new ≡ bound.old) }
+        ensures halted { IfErr result (λ halt. Halts self.now (one a_unit) bound.old level at halt) }
     {
         let token = self.look(at)?;
         if token.is_connective(b"~") {
@@ -126,7 +128,7 @@ impl<'a> Reader<'a> {
         if token.is_mark(b"(") {
             return self.in_brackets(alloc, bound, at, level);
         }
-        let (plain, last) = self.atom(alloc, bound.as_slice(), at, level, true)?;
+        let (plain, last) = self.atom(alloc, &*bound, at, level, true)?;
         Ok((plain, last))
     }
 
@@ -136,14 +138,14 @@ impl<'a> Reader<'a> {
     fn negated(
         &self,
         alloc: Global,
-        bound: &mut Vec<Name<'a>>,
+        bound: &mut Bound<'a>,
         at: usize,
         level: u32,
     ) -> Result<(Formula, usize), Halt>
         requires { IsNext self.now at (lexeme Connective (codes "~")) }
-        ensures read { IfOk result (λ read. ReadsUnit self.now bound.old.items level at read.1 (formula_of read.0)) }
-        ensures kept { IfOk result (λ _. bound.new.items ≡ bound.old.items) }
-        ensures halted { IfErr result (λ halt. Halts self.now (one a_unit) bound.old.items level at halt) }
+        ensures read { IfOk result (λ read. ReadsUnit self.now bound.old level at read.1 (formula_of read.0)) }
+        ensures kept { IfOk result (λ _. bound.new ≡ bound.old) }
+        ensures halted { IfErr result (λ halt. Halts self.now (one a_unit) bound.old level at halt) }
     {
         let under = self.deeper(at, level)?;
         let (negated, next) = self.unit(alloc, bound, at + 1, under)?;
@@ -157,14 +159,14 @@ impl<'a> Reader<'a> {
     fn in_brackets(
         &self,
         alloc: Global,
-        bound: &mut Vec<Name<'a>>,
+        bound: &mut Bound<'a>,
         at: usize,
         level: u32,
     ) -> Result<(Formula, usize), Halt>
         requires { IsNext self.now at (lexeme Mark (codes "(")) }
-        ensures read { IfOk result (λ read. ReadsUnit self.now bound.old.items level at read.1 (formula_of read.0)) }
-        ensures kept { IfOk result (λ _. bound.new.items ≡ bound.old.items) }
-        ensures halted { IfErr result (λ halt. Halts self.now (one a_unit) bound.old.items level at halt) }
+        ensures read { IfOk result (λ read. ReadsUnit self.now bound.old level at read.1 (formula_of read.0)) }
+        ensures kept { IfOk result (λ _. bound.new ≡ bound.old) }
+        ensures halted { IfErr result (λ halt. Halts self.now (one a_unit) bound.old level at halt) }
     {
         let inside = self.deeper(at, level)?;
         let (grouped, close) = self.formula(alloc, bound, at + 1, inside)?;
@@ -178,14 +180,14 @@ impl<'a> Reader<'a> {
     fn quantified(
         &self,
         alloc: Global,
-        bound: &mut Vec<Name<'a>>,
+        bound: &mut Bound<'a>,
         for_all: bool,
         at: usize,
         level: u32,
     ) -> Result<(Formula, usize), Halt>
-        ensures read { IfOk result (λ read. ReadsBound for_all self.now bound.old.items level at read.1 (formula_of read.0)) }
-        ensures kept { IfOk result (λ _. bound.new.items ≡ bound.old.items) }
-        ensures halted { IfErr result (λ halt. Halts self.now (one variables_bracket) bound.old.items level at halt) }
+        ensures read { IfOk result (λ read. ReadsBound for_all self.now bound.old level at read.1 (formula_of read.0)) }
+        ensures kept { IfOk result (λ _. bound.new ≡ bound.old) }
+        ensures halted { IfErr result (λ halt. Halts self.now (one variables_bracket) bound.old level at halt) }
     {
         let outer = bound.len();
         let (variables, next) = self.variables(alloc, bound, at, level)?;
@@ -201,13 +203,13 @@ impl<'a> Reader<'a> {
     fn variables(
         &self,
         alloc: Global,
-        bound: &mut Vec<Name<'a>>,
+        bound: &mut Bound<'a>,
         at: usize,
         level: u32,
     ) -> Result<(Texts, usize), Halt>
-        ensures read { IfOk result (λ read. ReadsVariables self.now bound.old.items level at read.1 read.0) }
-        ensures binds { IfOk result (λ read. Binds bound.old.items bound.new.items read.0) }
-        ensures halted { IfErr result (λ halt. Halts self.now (one variables_bracket) bound.old.items level at halt) }
+        ensures read { IfOk result (λ read. ReadsVariables self.now bound.old level at read.1 read.0) }
+        ensures binds { IfOk result (λ read. Binds bound.old bound.new read.0) }
+        ensures halted { IfErr result (λ halt. Halts self.now (one variables_bracket) bound.old level at halt) }
     {
         let open = self.look(at)?;
         if !open.is_mark(b"[") {
@@ -232,12 +234,12 @@ impl<'a> Reader<'a> {
     fn next_variable(
         &self,
         alloc: Global,
-        bound: &mut Vec<Name<'a>>,
+        bound: &mut Bound<'a>,
         variables: &mut Texts,
         at: usize,
     ) -> Result<usize, Halt>
         ensures read { IfOk result (λ next. ReadsVariable self.now at next variables.old variables.new) }
-        ensures binds { IfOk result (λ _. BindsOne bound.old.items bound.new.items variables.old variables.new) }
+        ensures binds { IfOk result (λ _. BindsOne bound.old bound.new variables.old variables.new) }
         ensures halted { IfErr result (λ halt. HaltsVariable self.now at variables.old halt) }
     {
         let token = self.look(at)?;

@@ -17,6 +17,7 @@ ghost use Rattle.tptp_reader.specs.Answers.{AreFaultless};
 ghost use Rattle.tptp_reader.specs.declared.cause.ReadCause.{ReadCause};
 ghost use Rattle.tptp_reader.specs.Shape.{tree_of};
 ghost use Rattle.tptp_reader.specs.Printed.{IsPrintedAgain};
+ghost use Rattle.tptp_reader.specs.Rising.{TokensRise};
 ghost use Rattle.tptp_reader.specs.declared.entry.Read.{Read};
 ghost use Rattle.tptp_reader.specs.AnswerExamples.{WholeClause, MixedConnectives, NegatedInequality, TruthAsTerm, EmptyNotes, CrossedNotes, FreeVariable, Unbound, UnknownRole, ConjectureClause, TooDeep, TypedFormula, LeftOutRole, NumberTerm, DistinctTerm, DollarAtom, IncludeEntry, NumberRole, CutOff};
 
@@ -80,6 +81,11 @@ pub fn whole_texts()
     ensures spelled_is_read { (limit : ℕ) (bytes : List ℕ) (a : AnnotatedTree) (s : SpellsAnnotated bytes a)
         → AreFaultless (annotated_causes limit s.0)
         → IsReadFrom limit (lexemes_of bytes (lexed_of bytes).tokens) 0 s.0 (length (lexed_of bytes).tokens) }
+{}
+
+/// The tokens of a text stand one behind the other, none of them empty, within the text.
+pub fn tokens_rise()
+    ensures { TokensRise }
 {}
 
 /// The machine's verdict on small texts, one for each cause.

@@ -2,14 +2,17 @@
 #![tactic(auto)]
 
 mod atoms;
+mod bound;
 mod cause;
 mod clauses;
 mod entry;
 mod formulas;
 pub mod laws;
+mod lists;
 mod notes;
 mod source;
 mod terms;
 
 pub use cause::{Form, ReadCause, ReadFault};
 pub use entry::{Read, annotated};
+pub use source::Name;

@@ -6,11 +6,15 @@ ghost use Rattle.tptp_token.specs.Lexemes.{lexeme, is_connective as connective_i
 ghost use Rattle.tptp_token.specs.TextTokens.{lexeme_of};
 ghost use Rattle.tptp_tree.specs.Spelling.{connective_lexeme};
 ghost use Rattle.tptp_reader.specs.Machine.{Symbol, mark, is_sign_of_equation as equation_sign_is, is_binary_connective};
-ghost use Rattle.tptp_reader.specs.Telling.{IsNext, Leads, Ends, term_refusal, is_among as among, is_free_among, binary_of};
+ghost use Rattle.tptp_reader.specs.Telling.{IsNext, Leads, Ends, term_refusal, is_free_among, binary_of};
+ghost use Rattle.std.specs.Cmp.{partial_equiv_from_equiv};
+ghost use Rattle.tptp_reader.specs.Bound.{same_name, same_names, same_names_hash_alike};
 ghost use Rattle.tptp_reader.specs.declared.cause.Halt.TheVariants.{At};
 ghost use Rattle.tptp_reader.specs.declared.cause.Refusal.TheVariants.{Nesting};
 
+use crate::bound::Bound;
 use crate::cause::{Form, Halt, Refusal};
+use std::hash::{Hash, Hasher};
 use tptp_token::{Kind, TextToken, Token};
 
 /// Whether a token stands between the sides of an equation: `=`, or `!=` where the sides may differ.
@@ -82,10 +86,34 @@ pub enum Binary {
     Nand,
 }
 
-/// A variable's name, as it stands in the text.
+/// A name that is lent, by which tables find it.
 #[derive(Clone, Copy)]
 pub struct Name<'a> {
     pub bytes: &'a [u8],
+}
+
+impl<'a> PartialEq for Name<'a> {
+    ghost eq = { same_name };
+
+    ghost laws = { partial_equiv_from_equiv same_names };
+
+    fn eq(&self, other: &Name<'a>) -> bool {
+        self.bytes == other.bytes
+    }
+}
+
+impl<'a> Eq for Name<'a> {
+    ghost laws = { same_names };
+}
+
+impl<'a> Hash for Name<'a> {
+    ghost hash_input = { λ s. s.bytes.now ∷ [] };
+
+    ghost respects_eq = { same_names_hash_alike };
+
+    fn hash<H: Hasher>(&self, state: &mut H) {
+        state.write(self.bytes);
+    }
 }
 
 /// The tokens of a text, with what holds throughout an annotated formula.
@@ -138,16 +166,9 @@ impl<'a> Reader<'a> {
     }
 
     /// Whether a variable has to be bound and is none of these.
-    pub fn is_free(&self, bound: &[Name<'a>], bytes: &[u8]) -> bool
+    pub fn is_free(&self, bound: &Bound<'a>, bytes: &'a [u8]) -> bool
         ensures { result ≡ is_free_among self.now.closed bound.now bytes.now }
     {
-        self.closed && !is_among(bound, bytes)
+        self.closed && !bound.contains(bytes)
     }
-}
-
-/// Whether the bytes are one of the names. The time is linear in the names.
-fn is_among(names: &[Name<'_>], bytes: &[u8]) -> bool
-    ensures { result ≡ among names.now bytes.now }
-{
-    names.iter().any(|name| bytes == name.bytes)
 }

@@ -6,8 +6,10 @@ ghost use Rattle.tptp_tree.specs.Shape.{term_of};
 ghost use Rattle.tptp_reader.specs.Machine.{a_term, maybe_arguments, arguments as argument_symbols};
 ghost use Rattle.tptp_reader.specs.Telling.{one, ReadsTerm, ReadsArguments, ReadsBracketed, Halts};
 
+use crate::bound::Bound;
 use crate::cause::{Halt, Refusal};
-use crate::source::{Name, Reader, refusal_as_term};
+use crate::lists::fitted_terms;
+use crate::source::{Reader, refusal_as_term};
 use plain_types::Text;
 use std::alloc::Global;
 use tptp_tree::{TreeTerm, TreeTerms};
@@ -18,7 +20,7 @@ impl<'a> Reader<'a> {
     pub fn term(
         &self,
         alloc: Global,
-        bound: &[Name<'a>],
+        bound: &Bound<'a>,
         at: usize,
         level: u32,
     ) -> Result<(TreeTerm, usize), Halt>
@@ -45,7 +47,7 @@ impl<'a> Reader<'a> {
     pub fn arguments(
         &self,
         alloc: Global,
-        bound: &[Name<'a>],
+        bound: &Bound<'a>,
         at: usize,
         level: u32,
     ) -> Result<(TreeTerms, usize), Halt>
@@ -65,7 +67,7 @@ impl<'a> Reader<'a> {
     fn bracketed(
         &self,
         alloc: Global,
-        bound: &[Name<'a>],
+        bound: &Bound<'a>,
         at: usize,
         level: u32,
     ) -> Result<(TreeTerms, usize), Halt>
@@ -78,7 +80,7 @@ impl<'a> Reader<'a> {
         loop {
             let token = self.look(next)?;
             if token.is_mark(b")") {
-                return Ok((terms, next + 1));
+                return Ok((fitted_terms(terms), next + 1));
             }
             if !token.is_mark(b",") {
                 return Err(Halt::At(Refusal::Syntax, next));

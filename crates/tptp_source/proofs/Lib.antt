@@ -3,3 +3,5 @@
 pub mod AboutParts
 -- AboutWholes: whole sources: read exactly.
 pub mod AboutWholes
+-- AboutLevels: how deep brackets are nested.
+pub mod AboutLevels

@@ -7,6 +7,7 @@ use Rattle.tptp_source.specs.declared.sign.NumberSign.TheVariants.{Unsigned, Plu
 use Rattle.tptp_source.specs.General.{GeneralTree, variable, number, distinct, dollar, negated, joined, no_trees, tree_then}
 use Rattle.tptp_source.specs.Spelling.{word_part, number_part, list_part, no_parts, part_then, GeneralPhrase, parts, no_phrases, phrase_then, general_lexemes, general_meant}
 use Rattle.tptp_source.specs.Sources.{file_source, inference_source, component_source, opposite_source, word_of, list_of, definition_by}
+use Rattle.tptp_source.specs.Levels.{general_levels, source_levels}
 use Rattle.tptp_source.specs.Machine.{read}
 use Rattle.tptp_source.specs.TermSources.{source_in}
 
@@ -132,3 +133,22 @@ DefinitionWithArguments =
     (word_of (codes "introduced")
     (word_of (codes "definition") (name (codes "a") ∷ []) ∷ list_of (word_of (codes "component") (name (codes "n") ∷ []) ∷ []) ∷ []))
     ≡ None
+
+-- ---- levels
+
+-- the arguments' brackets, and those of the empty list in them
+abbrev pub PhraseLevels : Type 0
+PhraseLevels = general_levels (general_meant phrase) ≡ 2
+
+-- `file('f.p',a)`
+abbrev pub FileLevels : Type 0
+FileLevels = source_levels (file_source (name (codes "f.p")) (codes "a")) ≡ 1
+
+-- `inference(refl,[status(thm)],[c1])`
+abbrev pub InferenceLevels : Type 0
+InferenceLevels =
+    source_levels (inference_source (name (codes "refl")) (word_of (codes "status") (name (codes "thm") ∷ []) ∷ []) (codes "c1" ∷ [])) ≡ 3
+
+-- `introduced(definition,[component(spl0)])`
+abbrev pub DefinitionLevels : Type 0
+DefinitionLevels = general_levels (definition_by (codes "component") (name (codes "spl0"))) ≡ source_levels (component_source (codes "spl0"))

@@ -9,5 +9,6 @@ pub mod Telling
 pub mod TermSources
 pub mod SourceShape
 pub mod Items
+pub mod Levels
 pub mod Examples
 pub mod ItemExamples

@@ -2,9 +2,10 @@
 
 ghost use Rattle.std.specs.Prelude.{◌≡◌, ◌↔◌, List, Some};
 ghost use Rattle.tptp_token.specs.Lexemes.{Lexeme};
-ghost use Rattle.tptp_source.specs.Examples.{PhraseTokens, PhraseMeaning, SignedNames, JoinedParts, OneWord, ArgumentsBehindTilde, EmptyArguments, OtherBracket, TwoTerms, NoPartBehindColon, FileSource, InferenceSource, EmptyLists, Definitions, ParentWithArguments, SignedFileName, FractionAsName, DefinitionWithArguments};
+ghost use Rattle.tptp_source.specs.Examples.{PhraseTokens, PhraseMeaning, SignedNames, JoinedParts, OneWord, ArgumentsBehindTilde, EmptyArguments, OtherBracket, TwoTerms, NoPartBehindColon, FileSource, InferenceSource, EmptyLists, Definitions, ParentWithArguments, SignedFileName, FractionAsName, DefinitionWithArguments, PhraseLevels, FileLevels, InferenceLevels, DefinitionLevels};
 ghost use Rattle.tptp_source.specs.General.{GeneralTree};
 ghost use Rattle.tptp_source.specs.ItemExamples.{Sides, SignedNames as SignedItems, Decimals, NoDecimals, NumberLists, FormulaTerms};
+ghost use Rattle.tptp_source.specs.Levels.{LimitIsOfGeneralLevels, SourcesHaveTheirLevels, LimitIsOfSourceLevels};
 ghost use Rattle.tptp_source.specs.Machine.{read};
 ghost use Rattle.tptp_source.specs.Sources.{SourceTree, IsSource, SpellsSource};
 ghost use Rattle.tptp_source.specs.Spelling.{SpellsGeneral};
@@ -36,6 +37,14 @@ pub fn source_examples()
     ensures definition_with_arguments { DefinitionWithArguments }
 {}
 
+/// Worked examples of the levels of general terms and sources.
+pub fn level_examples()
+    ensures phrase { PhraseLevels }
+    ensures file { FileLevels }
+    ensures inference { InferenceLevels }
+    ensures definition { DefinitionLevels }
+{}
+
 /// Worked examples of what items of an inference say.
 pub fn item_examples()
     ensures sides { Sides }
@@ -64,4 +73,16 @@ pub fn one_term()
 /// Tokens spell at most one source.
 pub fn one_source()
     ensures { (tokens : List Lexeme) (s r : SourceTree) → SpellsSource tokens s → SpellsSource tokens r → s ≡ r }
+{}
+
+/// The readers' limit of nesting is one of levels in annotations too: no token of a general term or of a source is too deep exactly
+/// where its levels are within the limit.
+pub fn limit_is_of_levels()
+    ensures terms { LimitIsOfGeneralLevels }
+    ensures sources { LimitIsOfSourceLevels }
+{}
+
+/// A source has the levels of its term.
+pub fn sources_have_their_levels()
+    ensures { SourcesHaveTheirLevels }
 {}

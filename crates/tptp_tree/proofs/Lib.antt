@@ -1,19 +1,18 @@
 -- A map of the proofs, by topic; what is proved of one function stands in the folder of its module.
--- SizeLemmas: a member of a list is no larger than the list.
-pub mod SizeLemmas
--- NameLemmas: names, and the words that spell them.
-pub mod NameLemmas
--- CanonicalLemmas: the phrases that are printed for terms and formulas.
-pub mod CanonicalLemmas
--- LexingLemmas: a printed text has the tokens of the phrase that is printed.
-pub mod LexingLemmas
--- WellLemmas: what a text spells has names that can be printed.
-pub mod WellLemmas
--- AgainLemmas: a printed text spells again what some text spells.
-pub mod AgainLemmas
--- UniqueAtoms: a list of tokens is that of at most one atom, with what follows it.
-pub mod UniqueAtoms
--- UniqueLemmas: a list of tokens is that of at most one phrase.
-pub mod UniqueLemmas
--- UniqueEntries: a list of tokens is that of at most one annotated formula, with what follows it, and of at most one list of entries.
-pub mod UniqueEntries
+-- AboutTrees: sizes and equality of trees.
+pub mod AboutTrees
+-- AboutNames: names and what is printed for them.
+pub mod AboutNames
+-- AboutPrinting: what is printed spells again what some text spells.
+pub mod AboutPrinting
+-- AboutUniqueness: a text spells one thing at most.
+pub mod AboutUniqueness
+-- AboutLevels: how deep levels are nested.
+pub mod AboutLevels
+-- by the names that crates above cite
+pub use Rattle.tptp_tree.proofs.AboutTrees.SizeLemmas
+pub use Rattle.tptp_tree.proofs.AboutNames.NameLemmas
+pub use Rattle.tptp_tree.proofs.AboutPrinting.CanonicalLemmas
+pub use Rattle.tptp_tree.proofs.AboutPrinting.LexingLemmas
+pub use Rattle.tptp_tree.proofs.AboutPrinting.WellLemmas
+pub use Rattle.tptp_tree.proofs.AboutUniqueness.UniqueEntries

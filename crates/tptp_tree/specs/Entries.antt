@@ -87,6 +87,11 @@ abbrev pub is_right_name : NamePhrase → Bool
 is_right_name (word_name w) = true
 is_right_name (digits_name ds) = list_all is_digit ds
 
+-- the text spells the formula's name
+abbrev pub SpellsFormulaName : List ℕ → List ℕ → Type 0
+SpellsFormulaName text name =
+    (n : NamePhrase) × (is_right_name n ≡ true) × IsLexedAs text (name_lexeme n ∷ []) × (name_meant n ≡ name)
+
 abbrev pub role_word : Role → List ℕ
 role_word Axiom = codes "axiom"
 role_word Hypothesis = codes "hypothesis"

@@ -10,5 +10,9 @@ pub mod Spelling
 pub mod Brackets
 pub mod Entries
 pub mod Causes
+pub mod Levels
+pub mod Equality
+pub mod LevelLaws
 pub mod Examples
 pub mod EntryExamples
+pub mod LevelExamples

@@ -1,5 +1,7 @@
--- How terms and formulas are printed.
-use Rattle.std.specs.Prelude.{ℕ, Bool, true, false, not, List, [], ◌∷◌, ◌++◌, codes}
+-- How terms, formulas and the names of formulas are printed.
+use Rattle.std.specs.Prelude.{ℕ, Bool, true, false, not, List, [], ◌∷◌, ◌++◌, codes, if◌then◌else◌}
+use Rattle.std.specs.List.{list_all}
+use Rattle.tptp_token.specs.Spelling.{is_digit, begins}
 use Rattle.tptp_token.specs.Words.{name_text}
 use Rattle.tptp_tree.specs.Term.{TermTree, variable, application, TermTrees, no_terms, term_then}
 use Rattle.tptp_tree.specs.Formula.{BinaryConnective, implies, implied, equivalent, different, nor, nand, Quantifier, for_all, exists_some, FormulaTree, truth, falsity, predicate, equation, negation, conjunction, disjunction, connected, quantified, FormulaTrees, no_formulas, formula_then}
@@ -105,3 +107,13 @@ abbrev mutual
 -- an operand of a connective, or the body of a quantifier
 abbrev pub operand_text : FormulaTree → List ℕ
 operand_text f = in_parentheses (is_joined f) (formula_text f)
+
+-- ---- names of formulas
+
+-- of digits alone
+abbrev pub is_number_name : List ℕ → Bool
+is_number_name name = begins is_digit (list_all is_digit) name
+
+-- digits stand bare, every other name as elsewhere
+abbrev pub formula_name_text : List ℕ → List ℕ
+formula_name_text name = if is_number_name name then name else name_text name

@@ -3,7 +3,9 @@
 ghost use Rattle.std.specs.Prelude.{◌≡◌, ◌<◌, ◌^◌, ◌↔◌, ◌++◌, [], ◌∷◌, length, map, IfOk, OnErr, IsTrue};
 ghost use Rattle.std.specs.Slice.Iter.{iter_rest};
 ghost use Rattle.std.specs.Iterator.Adapters.{IterYieldsInOrder, IterYieldsInReverse};
-ghost use Rattle.tptp_tree.specs.Shape.{formula_of};
+ghost use Rattle.tptp_tree.specs.Term.{terms_of};
+ghost use Rattle.tptp_tree.specs.Formula.{predicate, equation};
+ghost use Rattle.tptp_tree.specs.Shape.{term_of, formula_of};
 
 use crate::term::{TreeTerm, TreeTerms};
 use plain_types::{Mem, Text, Texts};
@@ -32,6 +34,79 @@ pub enum Formula {
     Nand(FormulaBox, FormulaBox),
     All(Texts, FormulaBox),
     Ex(Texts, FormulaBox),
+}
+
+impl Formula {
+    /// An equal formula.
+    #[cycle(copy_formulas)]
+    pub fn copy(&self, alloc: Global) -> Mem<Formula>
+        ensures { IfOk result (λ formula. formula_of formula ≡ formula_of self.now) }
+    {
+        match self {
+            Formula::True => Ok(Formula::True),
+            Formula::False => Ok(Formula::False),
+            Formula::Pred(name, arguments) => copied_predicate(alloc, name, arguments),
+            Formula::Equal(left, right) => copied_equation(alloc, true, left, right),
+            Formula::NotEqual(left, right) => copied_equation(alloc, false, left, right),
+            Formula::Not(inner) => Ok(Formula::Not(inner.copy(alloc)?)),
+            Formula::And(formulas) => Ok(Formula::And(formulas.copy(alloc)?)),
+            Formula::Or(formulas) => Ok(Formula::Or(formulas.copy(alloc)?)),
+            Formula::Implies(left, right) => Ok(Formula::Implies(
+                left.copy(alloc)?,
+                right.copy(alloc)?,
+            )),
+            Formula::Implied(left, right) => Ok(Formula::Implied(
+                left.copy(alloc)?,
+                right.copy(alloc)?,
+            )),
+            Formula::Iff(left, right) => Ok(Formula::Iff(left.copy(alloc)?, right.copy(alloc)?)),
+            Formula::Xor(left, right) => Ok(Formula::Xor(left.copy(alloc)?, right.copy(alloc)?)),
+            Formula::Nor(left, right) => Ok(Formula::Nor(left.copy(alloc)?, right.copy(alloc)?)),
+            Formula::Nand(left, right) => Ok(Formula::Nand(left.copy(alloc)?, right.copy(alloc)?)),
+            Formula::All(names, body) => Ok(Formula::All(
+                copied_names(alloc, names)?,
+                body.copy(alloc)?,
+            )),
+            Formula::Ex(names, body) => Ok(Formula::Ex(
+                copied_names(alloc, names)?,
+                body.copy(alloc)?,
+            )),
+        }
+    }
+}
+
+/// An equal predicate with its arguments. Not inlined, so that a recursion down a formula has small frames.
+#[inline(never)]
+fn copied_predicate(alloc: Global, name: &Text, arguments: &TreeTerms) -> Mem<Formula>
+    ensures { IfOk result (λ formula. formula_of formula ≡ predicate name.now (terms_of arguments.now)) }
+{
+    Ok(Formula::Pred(name.copy(alloc)?, arguments.copy(alloc)?))
+}
+
+/// An equal equation, by its sign and its sides. Not inlined, as above.
+#[inline(never)]
+fn copied_equation(alloc: Global, positive: bool, left: &TreeTerm, right: &TreeTerm) -> Mem<Formula>
+    ensures { IfOk result (λ formula. formula_of formula ≡ equation positive (term_of left.now) (term_of right.now)) }
+{
+    let left = left.copy(alloc)?;
+    let right = right.copy(alloc)?;
+    if positive {
+        Ok(Formula::Equal(left, right))
+    } else {
+        Ok(Formula::NotEqual(left, right))
+    }
+}
+
+/// An equal list of names.
+#[inline(never)]
+fn copied_names(alloc: Global, names: &Texts) -> Mem<Texts>
+    ensures { IfOk result (λ copied. copied ≡ names.now) }
+{
+    let mut copied = Texts::new(alloc);
+    for name in names.as_slice() {
+        copied.push(name.copy(alloc)?)?;
+    }
+    Ok(copied)
 }
 
 /// A formula of its own, in a box, which contracts see as its tree.
@@ -83,6 +158,14 @@ impl FormulaBox {
         ensures { formula_of result ≡ self }
     {
         Box::into_inner(self.formula)
+    }
+
+    /// An equal formula, in a box of its own.
+    #[cycle(copy_formulas)]
+    pub fn copy(&self, alloc: Global) -> Mem<FormulaBox>
+        ensures { IfOk result (λ boxed. boxed ≡ self.now) }
+    {
+        FormulaBox::new(alloc, self.formula.copy(alloc)?)
     }
 }
 
@@ -178,5 +261,16 @@ impl Formulas {
     {
         self.items.push(formula)?;
         Ok(())
+    }
+    /// An equal list.
+    #[cycle(copy_formulas)]
+    pub fn copy(&self, alloc: Global) -> Mem<Formulas>
+        ensures { IfOk result (λ formulas. formulas ≡ self.now) }
+    {
+        let mut items = Vec::with_capacity(alloc, self.items.len())?;
+        for formula in &self.items {
+            items.push(formula.copy(alloc)?)?;
+        }
+        Ok(Formulas { items })
     }
 }

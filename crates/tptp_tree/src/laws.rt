@@ -6,7 +6,10 @@ ghost use Rattle.std.specs.Prelude.{◌≡◌, ℕ, true, List};
 ghost use Rattle.tptp_token.specs.Lexemes.{Lexeme};
 ghost use Rattle.tptp_tree.specs.Formula.{FormulaTree};
 ghost use Rattle.tptp_tree.specs.Spelling.{SpellsName, SpellsFormula};
-ghost use Rattle.tptp_tree.specs.Entries.{AnnotatedPhrase, is_right_annotated, annotated_lexemes, AnnotatedTree, SpellsAnnotated, EntryTree, SpellsEntries};
+ghost use Rattle.tptp_tree.specs.Equality.{SameFormulasAreEqual};
+ghost use Rattle.tptp_tree.specs.LevelExamples.{NegatedEquationLevels, BareNegatedEquation, NegatedQuantifierLevels, NegatedTwiceLevels, JoinedOperandLevels, WrittenBrackets, WrittenClause, DigitsName, QuotedName, BareName, SameImplication, TurnedImplication, OtherConnective, InequationAndNegation};
+ghost use Rattle.tptp_tree.specs.LevelLaws.{PrintingAtMostDoubles, PrintedWithinItsLevels, WrittenIsAtMostDoubled, LimitIsOfLevels};
+ghost use Rattle.tptp_tree.specs.Entries.{SpellsFormulaName, AnnotatedPhrase, is_right_annotated, annotated_lexemes, AnnotatedTree, SpellsAnnotated, EntryTree, SpellsEntries};
 
 /// Worked examples of printed formulas.
 pub fn printing_examples()
@@ -22,6 +25,32 @@ pub fn size_examples()
     ensures truth { OccurrencesInTruth }
 {}
 
+/// Worked examples of levels, printed and written.
+pub fn level_examples()
+    ensures negated_equation { NegatedEquationLevels }
+    ensures bare_equation { BareNegatedEquation }
+    ensures negated_quantifier { NegatedQuantifierLevels }
+    ensures negated_twice { NegatedTwiceLevels }
+    ensures joined_operand { JoinedOperandLevels }
+    ensures written_brackets { WrittenBrackets }
+    ensures written_clause { WrittenClause }
+{}
+
+/// Worked examples of printed names of formulas.
+pub fn formula_name_examples()
+    ensures digits { DigitsName }
+    ensures quoted { QuotedName }
+    ensures bare { BareName }
+{}
+
+/// Worked examples of formulas that are the same or aren't.
+pub fn equality_examples()
+    ensures same { SameImplication }
+    ensures turned { TurnedImplication }
+    ensures connective { OtherConnective }
+    ensures inequation { InequationAndNegation }
+{}
+
 /// A text spells at most one formula.
 pub fn one_formula()
     ensures { (text : List ℕ) (f g : FormulaTree) → SpellsFormula text f → SpellsFormula text g → f ≡ g }
@@ -30,6 +59,11 @@ pub fn one_formula()
 /// A text spells at most one name.
 pub fn one_name()
     ensures { (text name other : List ℕ) → SpellsName text name → SpellsName text other → name ≡ other }
+{}
+
+/// A text spells at most one name of a formula.
+pub fn one_formula_name()
+    ensures { (text name other : List ℕ) → SpellsFormulaName text name → SpellsFormulaName text other → name ≡ other }
 {}
 
 /// Worked examples of entries: their tokens, what they say, and what is wrong with their tokens.
@@ -72,4 +106,26 @@ pub fn one_annotated()
 /// A text spells at most one list of annotated formulas and includes.
 pub fn one_problem()
     ensures { (text : List ℕ) (es fs : List EntryTree) → SpellsEntries text es → SpellsEntries text fs → es ≡ fs }
+{}
+
+/// What some text spells within a number of levels is printed within at most twice as many.
+pub fn printing_at_most_doubles()
+    ensures texts { PrintingAtMostDoubles }
+    ensures written { WrittenIsAtMostDoubled }
+{}
+
+/// The levels of a tree are those of its printed text.
+pub fn printed_levels()
+    ensures { PrintedWithinItsLevels }
+{}
+
+/// The readers' limit of nesting is one of levels: no token of a formula or a clause is too deep exactly where its levels are
+/// within the limit.
+pub fn limit_is_of_levels()
+    ensures { LimitIsOfLevels }
+{}
+
+/// Formulas are the same exactly where they are equal.
+pub fn same_formulas_are_equal()
+    ensures { SameFormulasAreEqual }
 {}

@@ -1,6 +1,7 @@
 // TPTP's formulas as trees, and how they are printed.
 #![tactic(auto)]
 
+mod equality;
 mod formula;
 pub mod laws;
 mod limits;
@@ -9,9 +10,10 @@ mod problem;
 mod role;
 mod term;
 
+pub use equality::same_formula;
 pub use formula::{Formula, FormulaBox, Formulas};
 pub use limits::{MOST_DERIVATION_NESTING, MOST_NESTING, MOST_PRINTED_NESTING};
-pub use print::{print_formula, print_name};
+pub use print::{print_formula, print_formula_name, print_name, push_formula_name};
 pub use problem::{Annotated, AnnotatedList, Problem};
 pub use role::Role;
 pub use term::{TreeTerm, TreeTerms};

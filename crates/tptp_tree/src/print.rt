@@ -1,18 +1,20 @@
-// How names and formulas are printed.
+// How names, formulas and the names of formulas are printed.
 
-ghost use Rattle.std.specs.Prelude.{◌≡◌, ℕ, List, ◌++◌, map, IfOk, codes};
+ghost use Rattle.std.specs.Prelude.{◌≡◌, ℕ, ◌*◌, List, ◌++◌, map, IfOk, OnErr, codes};
 ghost use Rattle.tptp_tree.specs.Term.{terms_of};
 ghost use Rattle.tptp_tree.specs.Formula.{negation, formulas_of};
 ghost use Rattle.tptp_tree.specs.Shape.{term_of, formula_of};
 ghost use Rattle.tptp_tree.specs.Spelling.{SpellsName, SpellsFormula};
+ghost use Rattle.tptp_tree.specs.Levels.{SpellsFormulaWithin};
 ghost use Rattle.tptp_token.specs.Words.{name_text};
-ghost use Rattle.tptp_tree.specs.Printing.{term_text, arguments_text, more_arguments_text, variables_text, more_variables_text, is_joined as joined, is_bare as bare, in_parentheses, formula_text, operand_text, operands_text, more_operands_text};
+ghost use Rattle.tptp_tree.specs.Entries.{SpellsFormulaName};
+ghost use Rattle.tptp_tree.specs.Printing.{formula_name_text, term_text, arguments_text, more_arguments_text, variables_text, more_variables_text, is_joined as joined, is_bare as bare, in_parentheses, formula_text, operand_text, operands_text, more_operands_text};
 
 use crate::formula::Formula;
 use crate::term::TreeTerm;
 use plain_types::{Mem, Text};
 use std::alloc::Global;
-use tptp_token::push_name;
+use tptp_token::{are_digits, push_name};
 
 /// The text of a name: bare where it is a lower word, else between single quotes, with a `\` before a quote and a `\`.
 /// Where some text spells the name, this one does.
@@ -25,14 +27,41 @@ pub fn print_name(alloc: Global, name: &Text) -> Mem<Text>
     Ok(Text::from_vec(page))
 }
 
+/// The text of a formula's name: digits alone stand bare, every other name as elsewhere. Where some text spells the name, this
+/// one does.
+pub fn print_formula_name(alloc: Global, name: &Text) -> Mem<Text>
+    ensures printed { IfOk result (λ text. text ≡ formula_name_text name.now) }
+    ensures read_again { IfOk result (λ text.
+        (other : List ℕ) → SpellsFormulaName other name.now → SpellsFormulaName text name.now) }
+{
+    let mut page = Vec::new(alloc);
+    push_formula_name(&mut page, name.as_slice())?;
+    Ok(Text::from_vec(page))
+}
+
+/// Adds a formula's name at the end of a text: digits alone stand bare, every other name as elsewhere. After want of memory
+/// nothing is added.
+pub fn push_formula_name(page: &mut Vec<u8>, name: &[u8]) -> Mem<()>
+    ensures added { IfOk result (λ _. page.new.items ≡ page.old.items ++ formula_name_text name.now) }
+    ensures unchanged { OnErr result (page.new.items ≡ page.old.items) }
+{
+    if !name.is_empty() && are_digits(name) {
+        page.extend_from_slice(name)?;
+        return Ok(());
+    }
+    push_name(page, name)
+}
+
 /// The text of a formula. Arguments are separated by `,`, the signs of connectives and equations stand between single
 /// blanks, a quantifier is `! [X,Y] : ` before its body. An operand of a connective and the body of a quantifier stand in
 /// parentheses exactly where they are made by a connective of two or more operands, what is negated where it is no atom
-/// without equality and no negation. Where some text spells the formula, this one does.
+/// without equality and no negation. Where some text spells the formula, this one does, within at most twice as many levels.
 pub fn print_formula(alloc: Global, formula: &Formula) -> Mem<Text>
     ensures printed { IfOk result (λ text. text ≡ formula_text (formula_of formula.now)) }
     ensures read_again { IfOk result (λ text.
         (other : List ℕ) → SpellsFormula other (formula_of formula.now) → SpellsFormula text (formula_of formula.now)) }
+    ensures within { IfOk result (λ text. (levels : ℕ) (other : List ℕ)
+        → SpellsFormulaWithin levels other (formula_of formula.now) → SpellsFormulaWithin (2 * levels) text (formula_of formula.now)) }
 {
     let mut page = Vec::new(alloc);
     push_formula(&mut page, formula)?;

@@ -47,6 +47,22 @@ impl Model for TreeTerms {
     ghost size_decreases = { λ a h. Prim.omega (arith, most-deep-TreeTerm-≤ a.items.items) };
 }
 
+impl TreeTerm {
+    /// An equal term.
+    #[cycle(copy)]
+    pub fn copy(&self, alloc: Global) -> Mem<TreeTerm>
+        ensures { IfOk result (λ term. term_of term ≡ term_of self.now) }
+    {
+        match self {
+            TreeTerm::Var(name) => Ok(TreeTerm::Var(name.copy(alloc)?)),
+            TreeTerm::App(name, arguments) => Ok(TreeTerm::App(
+                name.copy(alloc)?,
+                arguments.copy(alloc)?,
+            )),
+        }
+    }
+}
+
 impl TreeTerms {
     /// The empty list. It takes no memory.
     pub fn new(alloc: Global) -> TreeTerms
@@ -110,5 +126,16 @@ impl TreeTerms {
     {
         self.items.push(term)?;
         Ok(())
+    }
+    /// An equal list.
+    #[cycle(copy)]
+    pub fn copy(&self, alloc: Global) -> Mem<TreeTerms>
+        ensures { IfOk result (λ terms. terms ≡ self.now) }
+    {
+        let mut items = Vec::with_capacity(alloc, self.items.len())?;
+        for term in &self.items {
+            items.push(term.copy(alloc)?)?;
+        }
+        Ok(TreeTerms { items })
     }
 }

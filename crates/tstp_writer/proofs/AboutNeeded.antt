@@ -5,5 +5,8 @@ pub mod ConeLemmas
 pub mod DerivedLemmas
 pub mod BindingsAgain
 pub mod DerivedLines
+pub mod DerivedNames
+pub mod DerivedRules
 pub mod EarlierLemmas
 pub mod MarkLemmas
+pub mod StandingLines

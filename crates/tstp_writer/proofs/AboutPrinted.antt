@@ -1,8 +1,10 @@
 -- Printed clauses, terms, names and sources.
 pub mod AcceptedTexts
 pub mod ClausePhrases
+pub mod FitLemmas
 pub mod LayoutLemmas
 pub mod LineLemmas
+pub mod NameOrder
 pub mod NoteLemmas
 pub mod OriginLemmas
 pub mod PlaceLemmas
@@ -16,5 +18,6 @@ pub mod WalkLemmas
 pub mod WrittenBounds
 pub mod WrittenClauses
 pub mod WrittenLines
+pub mod WrittenNames
 pub mod WrittenNumbers
 pub mod WrittenSteps

@@ -8,6 +8,7 @@ pub mod ProblemTrees
 pub mod ReadableSources
 pub mod ReadableTexts
 pub mod ReadableTrees
+pub mod RenamedNames
 pub mod RenamedSteps
 pub mod SameLemmas
 pub mod ShownSymbols

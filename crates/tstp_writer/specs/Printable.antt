@@ -14,7 +14,8 @@ use Rattle.clausal_form.specs.DerivationLine.{LineTree}
 use Rattle.clausal_form.specs.DerivationTexts.{SpellsDerivation}
 use Rattle.tstp_writer.specs.SourceTexts.{is_number_name, source_term}
 use Rattle.tstp_writer.specs.LineTexts.{lines_text}
-use Rattle.tstp_writer.specs.Levels.{formula_levels, general_levels}
+use Rattle.tptp_tree.specs.Levels.{formula_levels}
+use Rattle.tstp_writer.specs.Levels.{general_levels}
 
 -- ---- names and general terms
 

@@ -1,4 +1,4 @@
--- A line with variables and equations: from f(X) = a | f(Y) = b, by factoring, a != b | f(X) = b.
+-- A line with variables and equations: from f(X) = a | f(Y) = b, by factoring, a != b | f(X) = b; and lines with names.
 use Rattle.std.specs.Prelude.{ℕ, true, List, [], ◌∷◌, codes}
 use Rattle.fol_base.specs.Tree.{Tree, variable, application, trees_of}
 use Rattle.fol_base.specs.Clause.{TreeClause}
@@ -6,8 +6,9 @@ use Rattle.fol_base.specs.Rules.{disequation}
 use Rattle.fol_base.specs.declared.clause.Side.TheVariants.{Left}
 use Rattle.signature.specs.declared.symbol.Symbol.{Symbol}
 use Rattle.signature.specs.Symbol.{true_symbol, function_symbol}
+use Rattle.kernel_steps.specs.Derivation.{positive_of, negative_of}
 use Rattle.kernel_steps.specs.declared.step.Step.{Step}
-use Rattle.kernel_steps.specs.declared.step.Step.TheVariants.{Refl, Factor}
+use Rattle.kernel_steps.specs.declared.step.Step.TheVariants.{Refl, Factor, Split}
 use Rattle.tstp_writer.specs.LineTrees.{Script, Layout}
 
 -- f, a and b, behind `$true`
@@ -31,6 +32,16 @@ factor_clause = record {
 -- a step that binds a variable which its clause doesn't have
 abbrev pub other_step : Step
 other_step = Refl 0 0 (variable 7 ∷ variable 0 ∷ [])
+
+-- a component line of a name, and the split of the line before it and of another one by that name and the next
+abbrev pub component_clause : TreeClause
+component_clause = record { literals = factor_clause.literals; names = negative_of 2 ∷ [] }
+
+abbrev pub split_step : Step
+split_step = Split 0 (1 ∷ 2 ∷ []) ((0 ∷ []) ∷ (1 ∷ []) ∷ [])
+
+abbrev pub split_clause : TreeClause
+split_clause = record { literals = []; names = positive_of 2 ∷ positive_of 5 ∷ [] }
 
 -- the factor line is line 1, behind its parent
 abbrev pub script : Script

@@ -1,7 +1,8 @@
--- Clause lines whose text can be read again: canonical clauses without names, over the symbols of a form; and what is taken of them when they
--- are read again.
+-- Clause lines whose text can be read again: canonical clauses over the symbols of a form; and what is taken of them when they are read
+-- again.
 use Rattle.std.specs.Prelude.{◌≡◌, ℕ, ◌+◌, ◌^◌, ◌<◌, Bool, true, false, ◌&&◌, ◌==◌, List, [], ◌∷◌, ◌++◌, map, filter_map, flat_map, length, Option, option_map, unwrap_or, slice_get, position, IsTrue}
 use Rattle.std.specs.List.{list_all, AllByRecursion}
+use Rattle.plain_types.specs.declared.sequence.NameLit.{NameLit}
 use Rattle.fol_base.specs.Tree.{Tree, tree_variables}
 use Rattle.fol_base.specs.Kind.{is_function_term, is_literal}
 use Rattle.fol_base.specs.Clause.{TreeLiteral, TreeClause, clause_variables}
@@ -11,26 +12,16 @@ use Rattle.fol_base.specs.Literal.{clause_of}
 use Rattle.tptp_tree.specs.declared.problem.Annotated.{Annotated}
 use Rattle.signature.specs.declared.symbol.Symbol.{Symbol}
 use Rattle.kernel_steps.specs.Conclusion.{empty_clause}
+use Rattle.kernel_steps.specs.Derivation.{is_clause_step}
 use Rattle.kernel_steps.specs.Soundness.{bindings_of, binds_each}
 use Rattle.kernel_steps.specs.Lines.{is_small_term, has_small_sides}
 use Rattle.kernel_steps.specs.Symbols.{symbols_pass, literal_symbols_pass}
 use Rattle.kernel_steps.specs.declared.step.Step.{Step}
-use Rattle.kernel_steps.specs.declared.step.Step.TheVariants.{Input, Negate, Clausify, Para, Refl, Factor, Merge}
+use Rattle.kernel_steps.specs.declared.step.Step.TheVariants.{Input, Negate, Clausify, Para, Refl, Factor, Merge, Component, Opposite, Split, Chain}
 use Rattle.kernel_steps.specs.declared.step.Line.{Line}
 use Rattle.clausal_form.specs.DerivationLine.{NamedLine, kernel_line, same_entry, entry_of}
 use Rattle.clausal_form.specs.FormFunctions.{is_predicate_in}
 use Rattle.tstp_writer.specs.LineTrees.{Layout, line_name, place_in, derived_name}
-
--- ---- steps
-
--- a clause of the form, or a conclusion of a rule on literals; the other steps are about formulas or names
-abbrev pub is_nameless_step : Step → Bool
-is_nameless_step (Clausify i) = true
-is_nameless_step (Para first second from from_side into into_side place first_bind second_bind) = true
-is_nameless_step (Refl parent literal bind) = true
-is_nameless_step (Factor parent becomes becomes_side other other_side bind) = true
-is_nameless_step (Merge parent stays goes bind) = true
-is_nameless_step _ = false
 
 -- ---- symbols
 
@@ -56,26 +47,60 @@ bound_by step = flat_map (λ ts. ts) (bindings_of step)
 abbrev pub line_variables : Step → TreeClause → List ℕ
 line_variables step c = clause_variables c ++ flat_map tree_variables (bound_by step)
 
+-- ---- numbers
+
 -- a number that can be read again
 abbrev pub Fits : ℕ → Type 0
 Fits n = n < 2 ^ 64
+
+-- the name that a component line introduces, and the places of literals in the parts of a split
+abbrev pub step_numbers : Step → List ℕ
+step_numbers (Component name) = name ∷ []
+step_numbers (Split parent definitions parts) = flat_map (λ ns. ns) parts
+step_numbers step = []
 
 -- ---- lines
 
 -- A clause with the step that gave it, of which the text can be read again. A text may have 5,000 levels of brackets, and no term has more
 -- levels than symbols.
 pub record IsReadable (symbols : List Symbol) (step : Step) (c : TreeClause) : Type 0 where
-  pub nameless : IsTrue (is_nameless_step step)
-  pub names : c.names ≡ []
   pub literals : IsTrue (list_all (is_literal_over symbols) c.literals)
   pub sides : IsTrue (list_all has_small_sides c.literals)
   pub binds : IsTrue (binds_each (is_term_over symbols) step)
   pub small : IsTrue (binds_each is_small_term step)
   pub canonical : IsCanonical c
-  pub variables : AllByRecursion Fits (line_variables step c)
 
 abbrev pub IsReadableLine : List Symbol → Line → Type 0
 IsReadableLine symbols line = IsReadable symbols line.step (clause_of line.clause)
+
+abbrev pub IsReadableClauseLine : List Symbol → Line → Type 0
+IsReadableClauseLine symbols line = IsTrue (is_clause_step line.step) × IsReadableLine symbols line
+
+-- The numbers in the text of a line can be read again. Those of the kernel's own lines are machine words.
+pub record NumbersFit (step : Step) (c : TreeClause) : Type 0 where
+  pub variables : AllByRecursion Fits (line_variables step c)
+  pub numbers : AllByRecursion Fits (step_numbers step)
+
+abbrev pub LinesFit : List Line → Type 0
+LinesFit lines = AllByRecursion (λ (l : Line). NumbersFit l.step (clause_of l.clause)) lines
+
+-- ---- names
+
+-- the name that a component line introduces
+abbrev pub step_names : Step → List ℕ
+step_names (Component name) = name ∷ []
+step_names step = []
+
+-- the names that lines introduce, in the order of the lines
+abbrev pub names_of_lines : List Line → List ℕ
+names_of_lines lines = flat_map (λ (l : Line). step_names l.step) lines
+
+-- An introduced name is read as its place among all of them.
+abbrev pub read_name : List ℕ → NameLit → NameLit
+read_name names n = record { positive = n.positive; name = place_in n.name names }
+
+abbrev pub read_clause : List ℕ → TreeClause → TreeClause
+read_clause names c = record { literals = c.literals; names = map (read_name names) c.names }
 
 -- ---- what is taken when they are read again
 
@@ -91,19 +116,24 @@ read_renaming step c = renaming (distinct (line_variables step c))
 abbrev pub read_terms : Substitution → List Tree → List Tree
 read_terms σ ts = map (instance σ) ts
 
--- the step with its parents' places, and with the terms that it binds as they are read
-abbrev pub placed_step : Layout → Substitution → Step → Step
-placed_step layout σ (Para first second from from_side into into_side place first_bind second_bind) =
+-- The step with its parents' places, with its names as they are read, and with the terms that it binds as they are read.
+abbrev pub placed_step : Layout → List ℕ → Substitution → Step → Step
+placed_step layout names σ (Para first second from from_side into into_side place first_bind second_bind) =
     Para (written_place layout first) (written_place layout second) from from_side into into_side place
     (read_terms σ first_bind) (read_terms σ second_bind)
-placed_step layout σ (Refl parent literal bind) = Refl (written_place layout parent) literal (read_terms σ bind)
-placed_step layout σ (Factor parent becomes becomes_side other other_side bind) =
+placed_step layout names σ (Refl parent literal bind) = Refl (written_place layout parent) literal (read_terms σ bind)
+placed_step layout names σ (Factor parent becomes becomes_side other other_side bind) =
     Factor (written_place layout parent) becomes becomes_side other other_side (read_terms σ bind)
-placed_step layout σ (Merge parent stays goes bind) = Merge (written_place layout parent) stays goes (read_terms σ bind)
-placed_step layout σ step = step
+placed_step layout names σ (Merge parent stays goes bind) = Merge (written_place layout parent) stays goes (read_terms σ bind)
+placed_step layout names σ (Component name) = Component (place_in name names)
+placed_step layout names σ (Opposite name) = Opposite (place_in name names)
+placed_step layout names σ (Split parent definitions parts) =
+    Split (written_place layout parent) (map (written_place layout) definitions) parts
+placed_step layout names σ (Chain parents pivots) = Chain (map (written_place layout) parents) (map (read_name names) pivots)
+placed_step layout names σ step = step
 
-abbrev pub placed_line : Layout → Step → TreeClause → Line
-placed_line layout step c = kernel_line (placed_step layout (read_renaming step c) step) c
+abbrev pub placed_line : Layout → List ℕ → Step → TreeClause → Line
+placed_line layout names step c = kernel_line (placed_step layout names (read_renaming step c) step) (read_clause names c)
 
 -- the first formula that says the same as the one at a place
 abbrev pub first_place : List Annotated → ℕ → ℕ
@@ -128,15 +158,15 @@ negations_taken problem k (place ∷ places) =
     taken_as (line_name k) (kernel_line (Negate (first_place problem place)) empty_clause) ∷ negations_taken problem (k + 1) places
 
 -- and a derivation's line
-abbrev pub derived_taken : Layout → List Line → ℕ → Option NamedLine
-derived_taken layout lines n =
+abbrev pub derived_taken : Layout → List ℕ → List Line → ℕ → Option NamedLine
+derived_taken layout names lines n =
     option_map
-    (λ (l : Line). taken_as (derived_name layout n) (placed_line layout l.step (clause_of l.clause)))
+    (λ (l : Line). taken_as (derived_name layout n) (placed_line layout names l.step (clause_of l.clause)))
     (slice_get lines n)
 
 -- all that is taken, with the lines of these numbers of the derivation
-abbrev pub all_written : List Annotated → Layout → List Line → List ℕ → List NamedLine
-all_written problem layout lines numbers =
+abbrev pub all_written : List Annotated → Layout → List ℕ → List Line → List ℕ → List NamedLine
+all_written problem layout names lines numbers =
     inputs_taken problem 0 layout.cited
     ++ negations_taken problem (length layout.cited) layout.negated
-    ++ filter_map (derived_taken layout lines) numbers
+    ++ filter_map (derived_taken layout names lines) numbers

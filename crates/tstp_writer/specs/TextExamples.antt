@@ -7,6 +7,7 @@ use Rattle.tptp_tree.specs.Term.{no_terms}
 use Rattle.tptp_tree.specs.Formula.{FormulaTree, predicate, negation}
 use Rattle.tptp_tree.specs.declared.role.Role.TheVariants.{Axiom}
 use Rattle.tptp_tree.specs.declared.problem.Annotated.{Annotated}
+use Rattle.kernel_steps.specs.Names.{sorted_names}
 use Rattle.kernel_steps.specs.Derivation.{positive_of, negative_of}
 use Rattle.kernel_steps.specs.Examples.{line, named_line}
 use Rattle.kernel_steps.specs.declared.step.Step.{Step}
@@ -61,20 +62,24 @@ implication_text =
 
 -- ---- p(X) or q(Y), but neither p(a) nor q(b). The symbols are p, q, a and b.
 
-abbrev pub components_steps : List Line
-components_steps =
+-- with two names, in the order of their component lines
+abbrev pub named_components : ℕ → ℕ → List Line
+named_components n m =
     line (Clausify 0) (of_predicate true 1 (variable 0) ∷ of_predicate true 2 (variable 1) ∷ [])
     ∷ line (Clausify 1) (of_predicate false 1 (constant 3) ∷ [])
     ∷ line (Clausify 2) (of_predicate false 2 (constant 4) ∷ [])
-    ∷ named_line (Component 0) (of_predicate true 1 (variable 0) ∷ []) (negative_of 0 ∷ [])
-    ∷ named_line (Component 1) (of_predicate true 2 (variable 0) ∷ []) (negative_of 1 ∷ [])
-    ∷ named_line (Split 0 (3 ∷ 4 ∷ []) ((0 ∷ []) ∷ (1 ∷ []) ∷ [])) [] (positive_of 0 ∷ positive_of 1 ∷ [])
-    ∷ named_line (resolved 3 1 (constant 3 ∷ []) []) (not_true ∷ []) (negative_of 0 ∷ [])
-    ∷ named_line (Refl 6 0 []) [] (negative_of 0 ∷ [])
-    ∷ named_line (resolved 4 2 (constant 4 ∷ []) []) (not_true ∷ []) (negative_of 1 ∷ [])
-    ∷ named_line (Refl 8 0 []) [] (negative_of 1 ∷ [])
-    ∷ line (Chain (5 ∷ 7 ∷ 9 ∷ []) (positive_of 0 ∷ positive_of 1 ∷ [])) []
+    ∷ named_line (Component n) (of_predicate true 1 (variable 0) ∷ []) (negative_of n ∷ [])
+    ∷ named_line (Component m) (of_predicate true 2 (variable 0) ∷ []) (negative_of m ∷ [])
+    ∷ named_line (Split 0 (3 ∷ 4 ∷ []) ((0 ∷ []) ∷ (1 ∷ []) ∷ [])) [] (sorted_names (positive_of n ∷ positive_of m ∷ []))
+    ∷ named_line (resolved 3 1 (constant 3 ∷ []) []) (not_true ∷ []) (negative_of n ∷ [])
+    ∷ named_line (Refl 6 0 []) [] (negative_of n ∷ [])
+    ∷ named_line (resolved 4 2 (constant 4 ∷ []) []) (not_true ∷ []) (negative_of m ∷ [])
+    ∷ named_line (Refl 8 0 []) [] (negative_of m ∷ [])
+    ∷ line (Chain (5 ∷ 7 ∷ 9 ∷ []) (positive_of n ∷ positive_of m ∷ [])) []
     ∷ []
+
+abbrev pub components_steps : List Line
+components_steps = named_components 0 1
 
 abbrev pub components_numbers : List ℕ
 components_numbers = 0 ∷ 1 ∷ 2 ∷ 3 ∷ 4 ∷ 5 ∷ 6 ∷ 7 ∷ 8 ∷ 9 ∷ 10 ∷ []

@@ -9,7 +9,7 @@ use Rattle.clausal_form.specs.DerivationLine.{LineTree}
 use Rattle.clausal_form.specs.DerivationTexts.{SpellsDerivation}
 use Rattle.tstp_writer.specs.LineTexts.{lines_text}
 use Rattle.tstp_writer.specs.LineTrees.{script_of, Layout, lines_at, derived_tree, derivation_trees}
-use Rattle.tstp_writer.specs.ReadableLines.{IsReadableLine}
+use Rattle.tstp_writer.specs.ReadableLines.{IsReadableClauseLine, LinesFit}
 use Rattle.tstp_writer.specs.Printable.{IsShown, IsPrintable}
 use Rattle.tstp_writer.specs.ProblemLaws.{ArePrintableEntries}
 use Rattle.tstp_writer.specs.DerivedLines.{HasNumberedForm}
@@ -27,20 +27,20 @@ FormSymbolsAreShown =
 
 -- ---- lines
 
--- what is written for a line that can be read again, under whatever layout
+-- what is written for a clause line that can be read again, under whatever layout
 abbrev pub ReadableLinesArePrintable : Type 0
 ReadableLinesArePrintable =
     (problem : List Annotated) → ArePrintableEntries problem → (name : List ℕ) → IsShown name → (layout : Layout) (lines : List Line) (n : ℕ)
-    → IfSome (slice_get lines n) (IsReadableLine (clausal_form problem).symbols)
+    → IfSome (slice_get lines n) (IsReadableClauseLine (clausal_form problem).symbols)
     → IfSome (derived_tree (script_of name problem) layout lines n) IsPrintable
 
 -- ---- derivations
 
--- all that is written for lines of a derivation, those with these numbers
+-- all that is written for clause lines of a derivation, those with these numbers
 abbrev pub ReadableDerivationsArePrintable : Type 0
 ReadableDerivationsArePrintable =
     (problem : List Annotated) → ArePrintableEntries problem → (name : List ℕ) → IsShown name → (lines : List Line) (numbers : List ℕ)
-    → AllByRecursion (IsReadableLine (clausal_form problem).symbols) (lines_at lines numbers)
+    → AllByRecursion (IsReadableClauseLine (clausal_form problem).symbols) (lines_at lines numbers)
     → AllByRecursion IsPrintable (derivation_trees (script_of name problem) lines numbers)
 
 abbrev pub IsSpelledByText : List LineTree → Type 0
@@ -50,11 +50,11 @@ IsSpelledByText trees = SpellsDerivation (lines_text trees) trees
 abbrev pub ReadableDerivationsAreSpelled : Type 0
 ReadableDerivationsAreSpelled =
     (problem : List Annotated) → ArePrintableEntries problem → (name : List ℕ) → IsShown name → (lines : List Line) (numbers : List ℕ)
-    → AllByRecursion (IsReadableLine (clausal_form problem).symbols) (lines_at lines numbers)
+    → AllByRecursion (IsReadableClauseLine (clausal_form problem).symbols) (lines_at lines numbers)
     → IsSpelledByText (derivation_trees (script_of name problem) lines numbers)
 
 -- what is written of a refutation that can be read again is an accepted derivation
 abbrev pub WrittenTextsAreAccepted : Type 0
 WrittenTextsAreAccepted =
     (file : List ℕ) (problem : List Annotated) (lines : List Line) (last : ℕ) (text : List ℕ)
-    → HasNumberedForm problem → IsWritten file problem lines last text → IsAcceptedWhereReadable file problem lines last text
+    → HasNumberedForm problem → LinesFit lines → IsWritten file problem lines last text → IsAcceptedWhereReadable file problem lines last text

@@ -9,19 +9,19 @@ ghost use Rattle.tstp_writer.specs.Cone.{needs, IsCone};
 ghost use Rattle.tstp_writer.specs.ConeExamples.{split_lines};
 ghost use Rattle.tstp_writer.specs.ConeLaws.{DerivationsNeedEarlier};
 ghost use Rattle.fol_base.specs.Tree.{variable};
-ghost use Rattle.tptp_tree.specs.Term.{variable as named_variable, no_terms};
-ghost use Rattle.tptp_tree.specs.Formula.{implies, for_all, truth, falsity, predicate, equation, negation, conjunction, connected, quantified, no_formulas, formula_then};
-ghost use Rattle.tstp_writer.specs.Levels.{formula_levels};
+ghost use Rattle.fol_base.specs.Clause.{TreeClause};
+ghost use Rattle.clausal_form.specs.DerivationCauses.{text};
+ghost use Rattle.clausal_form.specs.DerivationLines.{verdict_on_lines, accepted, refused_line};
 ghost use Rattle.tstp_writer.specs.DerivedLines.{DerivedLinesAreTaken};
 ghost use Rattle.tstp_writer.specs.LineTexts.{line_text, lines_text};
 ghost use Rattle.tstp_writer.specs.LineTrees.{script_of, derived_name, step_source, clause_tree, derivation_trees};
 ghost use Rattle.tstp_writer.specs.ReadableExamples as factor;
-ghost use Rattle.tstp_writer.specs.ReadableLines.{IsReadable, read_renaming, read_terms};
+ghost use Rattle.tstp_writer.specs.ReadableLines.{IsReadable, NumbersFit, read_clause, read_renaming, read_terms};
 ghost use Rattle.tstp_writer.specs.Printable.{PrintedLinesAreSpelled};
 ghost use Rattle.tstp_writer.specs.ProblemLaws.{ProblemFormulasArePrintable, ProblemLinesArePrintable, ScriptFormulasArePrintable, BeginningsArePrintable, LineNamesAreShown};
 ghost use Rattle.tstp_writer.specs.WrittenTexts.{FormSymbolsAreShown, ReadableLinesArePrintable, ReadableDerivationsArePrintable, ReadableDerivationsAreSpelled, WrittenTextsAreAccepted};
 ghost use Rattle.tstp_writer.specs.WrittenLaws.{WrittenLinesAreAccepted};
-ghost use Rattle.tstp_writer.specs.TextExamples.{implication_steps, implication_numbers, implication_text, components_steps, components_numbers, components_text, split_or_q, signed_steps, signed_numbers, signed_text};
+ghost use Rattle.tstp_writer.specs.TextExamples.{implication_steps, implication_numbers, implication_text, named_components, components_steps, components_numbers, components_text, split_or_q, signed_steps, signed_numbers, signed_text};
 
 /// The lines of a derivation need earlier lines alone.
 pub fn derivations_need_earlier()
@@ -46,16 +46,6 @@ pub fn needed_line_examples()
 pub fn cone_examples()
     ensures split { IsCone split_lines 5 (0 ∷ 1 ∷ 2 ∷ 4 ∷ 5 ∷ []) }
     ensures implication { IsCone implication_steps 7 implication_numbers }
-{}
-
-/// What stands behind `~` has parentheses of its own where it is quantified or an equation, and none where it is negated or another
-/// atom. An operand has them where it is joined.
-pub fn printed_level_examples()
-    ensures negated_quantifier { formula_levels (negation (quantified for_all (codes "X" ∷ []) (predicate (codes "p") no_terms))) ≡ 4 }
-    ensures negated_equation { formula_levels (negation (equation true (named_variable (codes "X")) (named_variable (codes "Y")))) ≡ 2 }
-    ensures negated_twice { formula_levels (negation (negation (predicate (codes "p") no_terms))) ≡ 2 }
-    ensures joined_operand { formula_levels (connected implies
-        (conjunction (formula_then truth (formula_then falsity no_formulas))) (negation truth)) ≡ 1 }
 {}
 
 /// The formulas of a problem that was read can be printed, with at most twice the levels that a text may have; so can the lines
@@ -90,12 +80,32 @@ pub fn factor_line_examples()
     ensures text { line_text (clause_tree factor.script (derived_name factor.layout 1) factor.factor_clause
         (step_source factor.script factor.layout factor.factor_step)) ≡ factor.factor_text }
     ensures readable { IsReadable factor.symbols factor.factor_step factor.factor_clause }
+    ensures numbers { NumbersFit factor.factor_step factor.factor_clause }
 {}
 
 /// A canonical clause keeps its variables when its line is read. A variable that a bound term alone has is numbered behind them.
 pub fn read_variable_examples()
     ensures of_clause { read_terms (read_renaming factor.factor_step factor.factor_clause) (variable 0 ∷ []) ≡ variable 0 ∷ [] }
     ensures alone { read_terms (read_renaming factor.other_step factor.factor_clause) (variable 7 ∷ variable 0 ∷ []) ≡ variable 1 ∷ variable 0 ∷ [] }
+{}
+
+/// A component line and a split line, which can be read again. Names 2 and 5, if no others are introduced, are read as 0 and 1.
+pub fn named_line_examples()
+    ensures component { IsReadable factor.symbols (Component 2) factor.component_clause }
+    ensures component_numbers { NumbersFit (Component 2) factor.component_clause }
+    ensures split { IsReadable factor.symbols factor.split_step factor.split_clause }
+    ensures split_numbers { NumbersFit factor.split_step factor.split_clause }
+    ensures names { read_clause (2 ∷ 5 ∷ []) factor.split_clause
+        ≡ (let c : TreeClause = record { literals = []; names = positive_of 0 ∷ positive_of 1 ∷ [] } in c) }
+{}
+
+/// What is written of two components is accepted with other names too. With names that fall, a clause with both names has them in
+/// another order than the text's, and its line is refused.
+pub fn written_name_examples()
+    ensures rising { verdict_on_lines example.components
+        (derivation_trees (script_of (codes "r10.p") example.components) (named_components 2 5) components_numbers) ≡ accepted 14 }
+    ensures falling { verdict_on_lines example.components
+        (derivation_trees (script_of (codes "r10.p") example.components) (named_components 1 0) components_numbers) ≡ refused_line 9 text }
 {}
 
 /// The printed text of lines that can be printed spells them.

@@ -3,6 +3,7 @@
 
 mod cited;
 mod clauses;
+mod fits;
 mod items;
 pub mod laws;
 mod layout;

@@ -9,6 +9,7 @@ ghost use Rattle.tstp_writer.specs.Cone.{NeedEarlier};
 ghost use Rattle.tstp_writer.specs.ReadableLines.{Fits};
 ghost use Rattle.tstp_writer.specs.Written.{IsWritten, IsAcceptedWhereReadable};
 
+use crate::fits::prove_lines_fit;
 use crate::layout::lay_out;
 use crate::needed::cone;
 use crate::page::Page;
@@ -23,8 +24,8 @@ use tptp_tree::Problem;
 
 /// The text of the lines that the line `last` needs, with the formulas of the problem that they stand on. The file is the name that
 /// is shown. Where that name is shown, the problem's formulas can be printed, as those that were read can, and the lines are a
-/// refutation of which those that `last` needs can be read again, it is an accepted derivation of the problem. Linear in the formulas,
-/// the symbols, the lines and the text. Over 2^64 written lines are want of memory.
+/// refutation of which those that `last` needs can be read again and introduce rising names, it is an accepted derivation. Linear in
+/// the formulas, the symbols, the lines and the text. Over 2^64 written lines are want of memory.
 pub fn write_lines(
     alloc: Global,
     problem: &Problem,
@@ -49,6 +50,7 @@ pub fn write_lines(
         prefix: prefix.as_slice(),
     };
     prove_counts(form);
+    prove_lines_fit(lines.as_slice());
     let lines_needed = cone(alloc, lines, last)?;
     let layout = lay_out(alloc, script, lines.as_slice(), lines_needed)?;
     let mut page = Page::new(alloc);

@@ -1,9 +1,10 @@
 -- Each step keeps the rule of the lock.
-use Rattle.std.proofs.Common.{◌≡◌, ◌≢◌, ℕ, zero, suc, ◌+◌, ◌-◌, ◌<◌, ◌⊎◌, eqb, List, [], ◌∷◌, ◌++◌, length, get_or, set, Option, Some, None, sym, refl, ap, ◌∙◌, subst, inl, inr, ⊎_elim, arith}
+use Rattle.std.proofs.Common.{◌≡◌, ◌≢◌, ℕ, zero, suc, ◌+◌, ◌-◌, ◌<◌, ◌≤◌, ◌⊎◌, eqb, List, [], ◌∷◌, ◌++◌, length, get_or, set, Option, Some, None, sym, refl, ap, ◌∙◌, subst, inl, inr, ⊎_elim, arith}
 use Rattle.std.specs.List.{Contains}
-use Rattle.std.proofs.lemmas.List.Elements.{Contains-append_cases}
+use Rattle.std.proofs.lemmas.List.Elements.{Contains-append_cases, Contains-append_left, Contains-append_right}
 use Rattle.std.proofs.lemmas.List.{set-get_or}
 use Rattle.std.proofs.lemmas.Option.{same_Some, none-some}
+use Rattle.std.proofs.lemmas.Bool.{cases_lt}
 use mathlib.Core.Option.{Option as Opt, none, some, some-injective, some-ne-none}
 use mathlib.Core.Logic.{dite}
 use mathlib.Core.List.{IsPrefix}
@@ -13,10 +14,10 @@ use prog.Atomic.{either}
 use Rattle.atomic_table.specs.Table.{State, Me, keeps, takes, gives, step, stepped, opening, Allows, Splits, Joins, Final, Seen, homes_after, carried_after, rest}
 use Rattle.atomic_table.proofs.Lists.{at_set, set_else, at_longer, at_snoc, exchanged}
 use Rattle.turn_lock.specs.declared.view.View.{View}
-use Rattle.turn_lock.specs.History.{AddsOwnKeys, OwnsKeys, AreBelow, added_places}
-use Rattle.turn_lock.specs.Rule.{IsLive, IsKnown, IsHome, IsHeldBy, Turns}
+use Rattle.turn_lock.specs.History.{AddsOwnKeys, OwnsKeys, AreAdded, OwnsAdded, added_places}
+use Rattle.turn_lock.specs.Rule.{Made, IsLive, IsKnown, IsHome, IsHeldBy, IsOwned, Turns}
 use Rattle.turn_lock.specs.Steps.{first_view, holding, raised, released, planning, kept_part, given_part, joined, spent_view, Seizes, Raises, Releases, Plans, Looks}
-use Rattle.turn_lock.proofs.Lists.{prefix_itself, prefix_trans, prefix_length, set_there, same_at, single, contains_none, distinct_none, distinct_append, range_distinct, longer_prefix, both_lists, added_bounds, others_keys, own_keys, own_keys_none, both_keys, shares_set, shares_snoc, shares_two}
+use Rattle.turn_lock.proofs.Lists.{prefix_itself, prefix_longer, keys_seen, range_has, prefix_trans, prefix_length, set_there, same_at, single, contains_none, distinct_none, distinct_append, range_distinct, longer_prefix, both_lists, added_bounds, others_keys, own_keys, own_keys_none, both_keys, shares_set, shares_snoc, shares_two}
 
 -- of two seats before a join that are one, the seats after it are one
 same_seat : (id other i j a b : ℕ) → (a ≡ i) ⊎ ((a ≡ other) × (i ≡ id)) → (b ≡ j) ⊎ ((b ≡ other) × (j ≡ id)) → i ≢ other → j ≢ other → a ≡ b → i ≡ j
@@ -39,13 +40,13 @@ module _ {S E O : Type 0} (history_of : S → List E) (origin_of : S → O) (key
   abbrev M : Type 0
   M = Me (Option S) V
 
-  abbrev Rule : O → St → Type 0
+  abbrev Rule : Made E O → St → Type 0
   Rule = Turns history_of origin_of key_of
 
-  abbrev Knows : ℕ → ℕ → List E → O → ℕ → V → Type 0
+  abbrev Knows : ℕ → ℕ → List E → Made E O → ℕ → V → Type 0
   Knows = IsKnown key_of
 
-  abbrev Live : List E → O → V → Type 0
+  abbrev Live : List E → Made E O → V → Type 0
   Live = IsLive key_of
 
   abbrev Home : List E → O → List (Opt (Option S)) → Type 0
@@ -55,18 +56,18 @@ module _ {S E O : Type 0} (history_of : S → List E) (origin_of : S → O) (key
   HeldBy = IsHeldBy
 
   -- who owns a place is live
-  owner_lives : (gate holder : ℕ) (log : List E) (first : O) (j k : ℕ) (v : V) → Knows gate holder log first j v → Contains v.own k → 0 < v.shares
-  owner_lives gate holder log first j k v known has = dite (ℕ_discrete v.shares 0)
+  owner_lives : (gate holder : ℕ) (log : List E) (made : Made E O) (j k : ℕ) (v : V) → Knows gate holder log made j v → Contains v.own k → 0 < v.shares
+  owner_lives gate holder log made j k v known has = dite (ℕ_discrete v.shares 0)
       (λ none_left. absurd (contains_none k (subst (λ (l : List ℕ). Contains l k) (known.spent none_left) has)))
       (λ some_left. omega (arith, some_left))
 
-  owned_below : (gate holder : ℕ) (log : List E) (first : O) (j k : ℕ) (v : V) → Knows gate holder log first j v → Contains v.own k → k < length log
-  owned_below gate holder log first j k v known has =
-      let live = known.live (owner_lives gate holder log first j k v known has) in
-      let a = live.below k has in let b = prefix_length v.seen log live.begins in omega (arith, a, b)
+  owned_below : (gate holder : ℕ) (log : List E) (made : Made E O) (j k : ℕ) (v : V) → Knows gate holder log made j v → Contains v.own k → k < length log
+  owned_below gate holder log made j k v known has =
+      let live = known.live (owner_lives gate holder log made j k v known has) in
+      let a = (live.added k has).1 in let b = prefix_length v.seen log live.begins in omega (arith, a, b)
 
-  owned_keys : (gate holder : ℕ) (log : List E) (first : O) (j : ℕ) (v : V) → Knows gate holder log first j v → OwnsKeys key_of log v.own
-  owned_keys gate holder log first j v known = dite (ℕ_discrete v.shares 0)
+  owned_keys : (gate holder : ℕ) (log : List E) (made : Made E O) (j : ℕ) (v : V) → Knows gate holder log made j v → OwnsKeys key_of log v.own
+  owned_keys gate holder log made j v known = dite (ℕ_discrete v.shares 0)
       (λ none_left. subst (OwnsKeys key_of log) (sym (known.spent none_left)) (own_keys_none key_of log))
       (λ some_left. (known.live (omega (arith, some_left))).keys)
 
@@ -77,23 +78,34 @@ module _ {S E O : Type 0} (history_of : S → List E) (origin_of : S → O) (key
       other : holder ≢ id
       other e = none-some log (sym free ∙ ap (λ (z : V). z.held) (same_at views id v h.0 at (subst (λ (z : ℕ). get_elem? views z ≡ some h.0) e h.1)) ∙ h.2)
 
+  -- a place stays owned at its seat where the one view that is changed owns no less
+  still_owned_at : (views : List V) (id : ℕ) (v w : V) → get_elem? views id ≡ some v → ((k : ℕ) → Contains v.own k → Contains w.own k) → (k : ℕ) (o : IsOwned k views) → (x : V) × (get_elem? (set views id w) o.0 ≡ some x) × Contains x.own k
+  still_owned_at views id v w at more k o = dite (ℕ_discrete o.0 id)
+      (λ e. (w, subst (λ (z : ℕ). get_elem? (set views id w) z ≡ some w) (sym e) (set_there views id v w at), more k (subst (λ (z : V). Contains z.own k) (same_at views id o.1 v (subst (λ (z : ℕ). get_elem? views z ≡ some o.1) e o.2) at) o.3)))
+      (λ ne. (o.1, set_else views id o.0 w ne ∙ o.2, o.3))
+
+  still_owned : (views : List V) (id : ℕ) (v w : V) → get_elem? views id ≡ some v → ((k : ℕ) → Contains v.own k → Contains w.own k) → (k : ℕ) → IsOwned k views → IsOwned k (set views id w)
+  still_owned views id v w at more k o = let p = still_owned_at views id v w at more k o in (o.0, p.0, p.1, p.2)
+
   -- one view is changed, and with it the words, the slot and the counted history
-  moved : (first : O) (s : St) (r : Rule first s) (ws : List ℕ) (hs : List (Opt (Option S))) (id : ℕ) (v w : V) (gate holder : ℕ) (log : List E) → get_elem? s.views id ≡ some v
-      → ws ≡ gate ∷ length log ∷ [] → (gate ≡ 0 → Home log first hs) → (gate ≢ 0 → HeldBy holder log (set s.views id w))
-      → Knows gate holder log first id w
-      → ((j : ℕ) (x : V) → j ≢ id → get_elem? s.views j ≡ some x → Knows gate holder log first j x)
+  moved : (made : Made E O) (s : St) (r : Rule made s) (ws : List ℕ) (hs : List (Opt (Option S))) (id : ℕ) (v w : V) (gate holder : ℕ) (log : List E) → get_elem? s.views id ≡ some v
+      → ws ≡ gate ∷ length log ∷ [] → (gate ≡ 0 → Home log made.origin hs) → (gate ≢ 0 → HeldBy holder log (set s.views id w))
+      → Knows gate holder log made id w
+      → ((j : ℕ) (x : V) → j ≢ id → get_elem? s.views j ≡ some x → Knows gate holder log made j x)
       → ((j k : ℕ) (x : V) → j ≢ id → get_elem? s.views j ≡ some x → Contains x.own k → Contains w.own k → ⊥)
-      → w.shares ≡ v.shares
-      → Rule first record { words = ws; homes = hs; views = set s.views id w }
-  moved first s r ws hs id v w gate holder log at words home closed me others apart shares = record {
+      → w.shares ≡ v.shares → IsPrefix made.history log → ((k : ℕ) → length made.history ≤ k → k < length log → IsOwned k (set s.views id w))
+      → Rule made record { words = ws; homes = hs; views = set s.views id w }
+  moved made s r ws hs id v w gate holder log at words home closed me others apart shares begun owned = record {
     gate = gate;
     holder = holder;
     log = log;
+    begun = begun;
+    owned = owned;
     words = words;
     home = home;
     closed = closed;
     each = λ j x e. ⊎_elim
-        (λ (t : (j ≡ id) × (w ≡ x)). subst (λ (z : ℕ × V). Knows gate holder log first z.0 z.1) (λ i. (sym t.0 i, t.1 i)) me)
+        (λ (t : (j ≡ id) × (w ≡ x)). subst (λ (z : ℕ × V). Knows gate holder log made z.0 z.1) (λ i. (sym t.0 i, t.1 i)) me)
         (λ (t : (j ≢ id) × (get_elem? s.views j ≡ some x)). others j x t.0 t.1) (at_set s.views id j w x e);
     apart = λ i j k x y e f has also. ⊎_elim
         (λ (t : (i ≡ id) × (w ≡ x)). ⊎_elim
@@ -109,10 +121,10 @@ module _ {S E O : Type 0} (history_of : S → List E) (origin_of : S → O) (key
   }
 
   -- no word changes, and no slot
-  unmoved : (first : O) (s : St) (r : Rule first s) (i id : ℕ) (cs : List (ℕ × Option S)) (v w : V) → get_elem? s.views id ≡ some v
-      → ((gate holder : ℕ) (log : List E) → Knows gate holder log first id v → Knows gate holder log first id w) → w.own ≡ v.own → w.shares ≡ v.shares → w.held ≡ v.held
-      → Rule first (stepped s i (get_or s.words i 0) id cs w keeps)
-  unmoved first s r i id cs v w at me own shares held = moved first s r (set s.words i (get_or s.words i 0)) s.homes id v w r.gate r.holder r.log at
+  unmoved : (made : Made E O) (s : St) (r : Rule made s) (i id : ℕ) (cs : List (ℕ × Option S)) (v w : V) → get_elem? s.views id ≡ some v
+      → ((gate holder : ℕ) (log : List E) → Knows gate holder log made id v → Knows gate holder log made id w) → w.own ≡ v.own → w.shares ≡ v.shares → w.held ≡ v.held
+      → Rule made (stepped s i (get_or s.words i 0) id cs w keeps)
+  unmoved made s r i id cs v w at me own shares held = moved made s r (set s.words i (get_or s.words i 0)) s.homes id v w r.gate r.holder r.log at
       (set-get_or s.words i 0 ∙ r.words) r.home
       (λ shut. let h = r.closed shut in dite (ℕ_discrete r.holder id)
       (λ e. let same = same_at s.views id v h.0 at (subst (λ (z : ℕ). get_elem? s.views z ≡ some h.0) e h.1) in
@@ -122,6 +134,8 @@ module _ {S E O : Type 0} (history_of : S → List E) (origin_of : S → O) (key
       (λ j x ne e. r.each j x e)
       (λ j k x ne e has also. ne (r.apart j id k x v e at has (subst (λ (l : List ℕ). Contains l k) own also)))
       shares
+      r.begun
+      (λ k from below. still_owned s.views id v w at (λ n has. subst (λ (l : List ℕ). Contains l n) (sym own) has) k (r.owned k from below))
 
   word_0 : (ws : List ℕ) (a b : ℕ) → ws ≡ a ∷ b ∷ [] → get_or ws 0 0 ≡ a
   word_0 ws a b e = ap (λ (l : List ℕ). get_or l 0 0) e
@@ -129,64 +143,66 @@ module _ {S E O : Type 0} (history_of : S → List E) (origin_of : S → O) (key
   word_1 : (ws : List ℕ) (a b : ℕ) → ws ≡ a ∷ b ∷ [] → get_or ws 1 0 ≡ b
   word_1 ws a b e = ap (λ (l : List ℕ). get_or l 1 0) e
 
-  planned_known : (n id gate holder : ℕ) (v : V) (first : O) (log : List E) → Knows gate holder log first id v → Knows gate holder log first id (planning v n)
-  planned_known n id gate holder v first log k = record {
+  planned_known : (n id gate holder : ℕ) (v : V) (made : Made E O) (log : List E) → Knows gate holder log made id v → Knows gate holder log made id (planning v n)
+  planned_known n id gate holder v made log k = record {
     holds = k.holds;
-    live = λ alive. let l = k.live alive in record { begins = l.begins; shorter = l.shorter; below = l.below; keys = l.keys; once = l.once; origin = l.origin };
+    live = λ alive. let l = k.live alive in record { begins = l.begins; shorter = l.shorter; started = l.started; added = l.added; keys = l.keys; once = l.once; start = l.start; origin = l.origin; other_start = l.other_start; other_origin = l.other_origin };
     spent = k.spent;
   }
 
-  pub plans : (first : O) (slots id : ℕ) (me : M) (n : ℕ) → Allows (Rule first) slots id me 0 (λ x. either (eqb x n) n x) (Plans (step slots 0 n n none) me)
-  plans first slots id me n s r _ at _ =
+  pub plans : (made : Made E O) (slots id : ℕ) (me : M) (n : ℕ) → Allows (Rule made) slots id me 0 (λ x. either (eqb x n) n x) (Plans (step slots 0 n n none) me)
+  plans made slots id me n s r _ at _ =
       let w : V = planning me.0 n in
       let x : ℕ = get_or s.words 0 0 in
-      let kept : Rule first (stepped s 0 x id me.1 w keeps) = unmoved first s r 0 id me.1 me.0 w at (λ gate holder log. planned_known n id gate holder me.0 first log) refl refl refl in (
+      let kept : Rule made (stepped s 0 x id me.1 w keeps) = unmoved made s r 0 id me.1 me.0 w at (λ gate holder log. planned_known n id gate holder me.0 made log) refl refl refl in (
         w,
         keeps,
         tt,
-        exchanged x n n (λ z. Rule first (stepped s 0 z id me.1 w keeps)) (λ e. subst (λ z. Rule first (stepped s 0 z id me.1 w keeps)) e kept) (λ _. kept),
+        exchanged x n n (λ z. Rule made (stepped s 0 z id me.1 w keeps)) (λ e. subst (λ z. Rule made (stepped s 0 z id me.1 w keeps)) e kept) (λ _. kept),
         refl,
       )
 
   -- the gate was open, and is now held by the seat `me`: what the others know stays
-  closed_known : (gate holder me j : ℕ) (v : V) (first : O) (log : List E) → gate ≡ 0 → Knows gate holder log first j v → Knows 1 me log first j v
-  closed_known gate holder me j v first log shut k = record {
+  closed_known : (gate holder me j : ℕ) (v : V) (made : Made E O) (log : List E) → gate ≡ 0 → Knows gate holder log made j v → Knows 1 me log made j v
+  closed_known gate holder me j v made log shut k = record {
     holds = λ h e. absurd ((k.holds h e).0 shut);
     live = k.live;
     spent = k.spent;
   }
 
-  held_known : (id holder : ℕ) (v : V) (first : O) (log : List E) → 0 < v.shares → Knows 0 holder log first id v → Knows 1 id log first id (holding v log)
-  held_known id holder v first log alive k = let l = k.live alive in record {
+  held_known : (id holder : ℕ) (v : V) (made : Made E O) (log : List E) → 0 < v.shares → Knows 0 holder log made id v → Knows 1 id log made id (holding v log)
+  held_known id holder v made log alive k = let l = k.live alive in record {
     holds = λ h e. ((λ z. omega (arith, z)), refl, sym (same_Some log h e), alive);
-    live = λ _. record { begins = l.begins; shorter = l.shorter; below = l.below; keys = l.keys; once = l.once; origin = l.origin };
+    live = λ _. record { begins = l.begins; shorter = l.shorter; started = l.started; added = l.added; keys = l.keys; once = l.once; start = l.start; origin = l.origin; other_start = l.other_start; other_origin = l.other_origin };
     spent = k.spent;
   }
 
-  pub seizes : (first : O) (slots id : ℕ) (me : M) → me.1 ≡ [] → 0 < me.0.shares → Allows (Rule first) slots id me 0 (λ x. either (eqb x 0) 1 x) (Seizes history_of origin_of key_of (step slots 0 0 1 none) me)
-  seizes first slots id me empty alive s r _ at _ = let x : ℕ = get_or s.words 0 0 in dite (ℕ_discrete x 0)
+  pub seizes : (made : Made E O) (slots id : ℕ) (me : M) → me.1 ≡ [] → 0 < me.0.shares → Allows (Rule made) slots id me 0 (λ x. either (eqb x 0) 1 x) (Seizes history_of origin_of key_of (step slots 0 0 1 none) me)
+  seizes made slots id me empty alive s r _ at _ = let x : ℕ = get_or s.words 0 0 in dite (ℕ_discrete x 0)
       (λ free. let gate : r.gate ≡ 0 = sym (word_0 s.words r.gate (length r.log) r.words) ∙ free in
       let home = r.home gate in
-      let known : Knows 0 r.holder r.log first id me.0 = subst (λ (z : ℕ). Knows z r.holder r.log first id me.0) gate (r.each id me.0 at) in
+      let known : Knows 0 r.holder r.log made id me.0 = subst (λ (z : ℕ). Knows z r.holder r.log made id me.0) gate (r.each id me.0 at) in
       let live = known.live alive in
       let w : V = holding me.0 r.log in
       let same : history_of home.0 ≡ r.log = home.2 in
-      let ends : Rule first (stepped s 0 1 id me.1 w (takes 0 (Some home.0))) = moved first s r (set s.words 0 1) (set s.homes 0 none) id me.0 w 1 id r.log at
+      let ends : Rule made (stepped s 0 1 id me.1 w (takes 0 (Some home.0))) = moved made s r (set s.words 0 1) (set s.homes 0 none) id me.0 w 1 id r.log at
       (ap (λ (l : List ℕ). set l 0 1) r.words) (λ z. absurd (omega (arith, z))) (λ _. (w, set_there s.views id me.0 w at, refl))
-      (held_known id r.holder me.0 first r.log alive known)
-      (λ j v _ e. closed_known r.gate r.holder id j v first r.log gate (r.each j v e))
-      (λ j k v ne e has also. ne (r.apart j id k v me.0 e at has also)) refl in (
+      (held_known id r.holder me.0 made r.log alive known)
+      (λ j v _ e. closed_known r.gate r.holder id j v made r.log gate (r.each j v e))
+      (λ j k v ne e has also. ne (r.apart j id k v me.0 e at has also)) refl r.begun
+      (λ k from below. still_owned s.views id me.0 w at (λ n has. has) k (r.owned k from below)) in (
         w,
         takes 0 (Some home.0),
         ap (λ (l : List (Opt (Option S))). get_elem? l 0) home.1,
-        subst (λ (z : ℕ). Rule first (stepped s 0 (either (eqb z 0) 1 z) id me.1 w (takes 0 (Some home.0)))) (sym free) ends,
+        subst (λ (z : ℕ). Rule made (stepped s 0 (either (eqb z 0) 1 z) id me.1 w (takes 0 (Some home.0)))) (sym free) ends,
         (
           (λ _. (
             home.0,
             (λ i. (holding me.0 (sym same i), (0, Some home.0) ∷ empty i)),
             subst (IsPrefix me.0.seen) (sym same) live.begins,
             live.origin ∙ ap (λ (o : O). Some o) (sym home.3),
-            live.below,
+            subst (λ (l : List E). IsPrefix l me.0.seen) (sym live.start) live.started,
+            subst (λ (l : List E). AreAdded l me.0.seen me.0.own) (sym live.start) live.added,
             subst (λ (l : List E). OwnsKeys key_of l me.0.own) (sym same) live.keys,
           )),
           (λ shut. absurd (shut free)),
@@ -196,66 +212,93 @@ module _ {S E O : Type 0} (history_of : S → List E) (origin_of : S → O) (key
         me.0,
         keeps,
         tt,
-        exchanged x 0 1 (λ z. Rule first (stepped s 0 z id me.1 me.0 keeps)) (λ free. absurd (shut free)) (λ _. unmoved first s r 0 id me.1 me.0 me.0 at (λ _ _ _ k. k) refl refl refl),
+        exchanged x 0 1 (λ z. Rule made (stepped s 0 z id me.1 me.0 keeps)) (λ free. absurd (shut free)) (λ _. unmoved made s r 0 id me.1 me.0 me.0 at (λ _ _ _ k. k) refl refl refl),
         ((λ free. absurd (shut free)), λ _. refl),
       ))
 
-  raised_known : (id gate holder : ℕ) (v : V) (first : O) (old new : List E) → gate ≢ 0 → 0 < v.shares → Knows gate holder old first id v → id ≡ holder
-      → IsPrefix old new → AddsOwnKeys key_of old v.own new → Knows gate holder new first id (raised v old new)
-  raised_known id gate holder v first old new shut alive k is pre adds = let l = k.live alive in let le = prefix_length old new pre in let le' = prefix_length v.seen old l.begins in
-      let below : (n : ℕ) → Contains v.own n → n < length old = λ n has. let b = l.below n has in omega (arith, b, le') in record {
+  raised_known : (id gate holder : ℕ) (v : V) (made : Made E O) (old new : List E) → gate ≢ 0 → 0 < v.shares → Knows gate holder old made id v → id ≡ holder
+      → IsPrefix old new → AddsOwnKeys key_of old v.own new → Knows gate holder new made id (raised v old new)
+  raised_known id gate holder v made old new shut alive k is pre adds = let l = k.live alive in let le = prefix_length old new pre in let le' = prefix_length v.seen old l.begins in
+      let from = prefix_length made.history v.seen l.started in
+      let below : (n : ℕ) → Contains v.own n → n < length old = λ n has. let b = (l.added n has).1 in omega (arith, b, le') in record {
         holds = λ h e. (shut, is, sym (same_Some new h e), alive);
         live = λ _. record {
           begins = prefix_itself new;
           shorter = prefix_trans v.shorter v.seen new l.shorter (prefix_trans v.seen old new l.begins pre);
-          below = λ n has. ⊎_elim (λ h. let b = below n h in omega (arith, b, le)) (λ h. (added_bounds old new n le h).1) (Contains-append_cases v.own (added_places old new) n has);
+          started = prefix_trans made.history v.seen new l.started (prefix_trans v.seen old new l.begins pre);
+          added = λ n has. ⊎_elim
+              (λ h. let b = below n h in ((l.added n h).0, omega (arith, b, le)))
+              (λ h. let b = added_bounds old new n le h in let c = b.0 in (omega (arith, c, from, le'), b.1))
+              (Contains-append_cases v.own (added_places old new) n has);
           keys = own_keys key_of old new v.own pre adds l.keys below;
           once = distinct_append v.own (added_places old new) l.once (range_distinct (length old) (length new - length old))
               (λ n h h'. let b = below n h in let b' = (added_bounds old new n le h').0 in omega (arith, b, b'));
+          start = l.start;
           origin = l.origin;
+          other_start = l.other_start;
+          other_origin = l.other_origin;
         };
         spent = λ none_left. absurd (omega (arith, none_left, alive));
       }
 
   -- another raises the history
-  grown_known : (j gate holder : ℕ) (v mine : V) (first : O) (old new : List E) → j ≢ holder → Knows gate holder old first j v → IsPrefix old new → AddsOwnKeys key_of old mine.own new → OwnsKeys key_of old mine.own
-      → ((n : ℕ) → Contains mine.own n → Contains v.own n → ⊥) → Knows gate holder new first j v
-  grown_known j gate holder v mine first old new other k pre adds keys apart = record {
+  grown_known : (j gate holder : ℕ) (v mine : V) (made : Made E O) (old new : List E) → j ≢ holder → Knows gate holder old made j v → IsPrefix old new → AddsOwnKeys key_of old mine.own new → OwnsKeys key_of old mine.own
+      → ((n : ℕ) → Contains mine.own n → Contains v.own n → ⊥) → Knows gate holder new made j v
+  grown_known j gate holder v mine made old new other k pre adds keys apart = record {
     holds = λ h e. absurd (other (k.holds h e).1);
     live = λ alive. let l = k.live alive in record {
       begins = prefix_trans v.seen old new l.begins pre;
       shorter = l.shorter;
-      below = l.below;
-      keys = others_keys key_of old new mine.own v.own pre adds keys l.keys (λ n has. owned_below gate holder old first j n v k has) apart;
+      started = l.started;
+      added = l.added;
+      keys = others_keys key_of old new mine.own v.own pre adds keys l.keys (λ n has. owned_below gate holder old made j n v k has) apart;
       once = l.once;
+      start = l.start;
       origin = l.origin;
+      other_start = l.other_start;
+      other_origin = l.other_origin;
     };
     spent = k.spent;
   }
 
-  pub raises : (first : O) (slots id : ℕ) (me : M) (x : S) (old : List E) (new : ℕ) → me.1 ≡ (0, Some x) ∷ [] → me.0.held ≡ Some old → IsPrefix old (history_of x) → AddsOwnKeys key_of old me.0.own (history_of x)
-      → new ≡ length (history_of x) → Allows (Rule first) slots id me 1 (λ _. new) (λ _. Raises history_of (step slots 1 new 0 none) me new)
-  raises first slots id me x old new carries holds pre adds long s r _ at _ =
+  pub raises : (made : Made E O) (slots id : ℕ) (me : M) (x : S) (old : List E) (new : ℕ) → me.1 ≡ (0, Some x) ∷ [] → me.0.held ≡ Some old → IsPrefix old (history_of x) → AddsOwnKeys key_of old me.0.own (history_of x)
+      → new ≡ length (history_of x) → Allows (Rule made) slots id me 1 (λ _. new) (λ _. Raises history_of key_of (step slots 1 new 0 none) me new)
+  raises made slots id me x old new carries holds pre adds long s r _ at _ =
       let known = r.each id me.0 at in let h = known.holds old holds in let log : List E = history_of x in
-      let known' : Knows r.gate r.holder old first id me.0 = subst (λ (l : List E). Knows r.gate r.holder l first id me.0) (sym h.2) known in
+      let known' : Knows r.gate r.holder old made id me.0 = subst (λ (l : List E). Knows r.gate r.holder l made id me.0) (sym h.2) known in
       let w : V = raised me.0 old log in
-      let mine = raised_known id r.gate r.holder me.0 first old log h.0 h.3 known' h.1 pre adds in (
+      let mine = raised_known id r.gate r.holder me.0 made old log h.0 h.3 known' h.1 pre adds in (
         w,
         keeps,
         tt,
-        moved first s r (set s.words 1 new) s.homes id me.0 w r.gate r.holder log at
+        moved made s r (set s.words 1 new) s.homes id me.0 w r.gate r.holder log at
             (ap (λ (l : List ℕ). set l 1 new) r.words ∙ ap (λ (n : ℕ). r.gate ∷ n ∷ []) long) (λ free. absurd (h.0 free))
             (λ _. (w, subst (λ (z : ℕ). get_elem? (set s.views id w) z ≡ some w) h.1 (set_there s.views id me.0 w at), refl))
             mine
-            (λ j v ne e. grown_known j r.gate r.holder v me.0 first old log (λ is. ne (is ∙ sym h.1)) (subst (λ (l : List E). Knows r.gate r.holder l first j v) (sym h.2) (r.each j v e)) pre adds
-            (owned_keys r.gate r.holder old first id me.0 known') (λ n a b. ne (r.apart j id n v me.0 e at b a)))
+            (λ j v ne e. grown_known j r.gate r.holder v me.0 made old log (λ is. ne (is ∙ sym h.1)) (subst (λ (l : List E). Knows r.gate r.holder l made j v) (sym h.2) (r.each j v e)) pre adds
+            (owned_keys r.gate r.holder old made id me.0 known') (λ n a b. ne (r.apart j id n v me.0 e at b a)))
             (λ j n v ne e has also. ⊎_elim
             (λ a. ne (r.apart j id n v me.0 e at has a))
-            (λ a. let b = (added_bounds old log n (prefix_length old log pre) a).0 in let c = owned_below r.gate r.holder r.log first j n v (r.each j v e) has in
+            (λ a. let b = (added_bounds old log n (prefix_length old log pre) a).0 in let c = owned_below r.gate r.holder r.log made j n v (r.each j v e) has in
             let d : length old ≡ length r.log = ap length h.2 in omega (arith, b, c, d))
             (Contains-append_cases me.0.own (added_places old log) n also))
-            refl,
-        λ y old' carries' holds'. (same_raise y old' (same_state y (sym carries ∙ carries')) (same_Some old old' (sym holds ∙ holds')), (mine.live h.3).below),
+            refl
+            (prefix_trans made.history old log (subst (IsPrefix made.history) (sym h.2) r.begun) pre)
+            (λ n from below. ⊎_elim
+            (λ (l : n < length old). still_owned s.views id me.0 w at (Contains-append_left me.0.own (added_places old log)) n
+            (r.owned n from (let d : length old ≡ length r.log = ap length h.2 in omega (arith, l, d))))
+            (λ (l : length old ≤ n). (
+              id,
+              w,
+              set_there s.views id me.0 w at,
+              Contains-append_right me.0.own (added_places old log) n (range_has (length old) (length log - length old) n l (omega (arith, below))),
+            ))
+            (cases_lt n (length old))),
+        λ y old' carries' holds'. (
+          same_raise y old' (same_state y (sym carries ∙ carries')) (same_Some old old' (sym holds ∙ holds')),
+          let live = mine.live h.3 in subst (λ (l : List E). AreAdded l log w.own) (sym live.start) live.added,
+          (mine.live h.3).keys,
+        ),
       )
     where
       same_state : (y : S) → ◌≡◌ {A = List (ℕ × Option S)} ((0, Some x) ∷ []) ((0, Some y) ∷ []) → x ≡ y
@@ -264,36 +307,38 @@ module _ {S E O : Type 0} (history_of : S → List E) (origin_of : S → O) (key
       same_raise : (y : S) (old' : List E) → x ≡ y → old ≡ old' → ◌≡◌ {A = M} (raised me.0 old (history_of x), me.1) (raised me.0 old' (history_of y), me.1)
       same_raise y old' e f i = (raised me.0 (f i) (history_of (e i)), me.1)
 
-  released_known : (id gate holder : ℕ) (v : V) (first : O) (log : List E) → Knows gate holder log first id v → Knows 0 holder log first id (released v)
-  released_known id gate holder v first log k = record {
+  released_known : (id gate holder : ℕ) (v : V) (made : Made E O) (log : List E) → Knows gate holder log made id v → Knows 0 holder log made id (released v)
+  released_known id gate holder v made log k = record {
     holds = λ h e. absurd (none-some h e);
-    live = λ alive. let l = k.live alive in record { begins = l.begins; shorter = l.shorter; below = l.below; keys = l.keys; once = l.once; origin = l.origin };
+    live = λ alive. let l = k.live alive in record { begins = l.begins; shorter = l.shorter; started = l.started; added = l.added; keys = l.keys; once = l.once; start = l.start; origin = l.origin; other_start = l.other_start; other_origin = l.other_origin };
     spent = k.spent;
   }
 
   -- the gate is opened by another
-  opened_known : (j gate holder : ℕ) (v : V) (first : O) (log : List E) → j ≢ holder → Knows gate holder log first j v → Knows 0 holder log first j v
-  opened_known j gate holder v first log other k = record {
+  opened_known : (j gate holder : ℕ) (v : V) (made : Made E O) (log : List E) → j ≢ holder → Knows gate holder log made j v → Knows 0 holder log made j v
+  opened_known j gate holder v made log other k = record {
     holds = λ h e. absurd (other (k.holds h e).1);
     live = k.live;
     spent = k.spent;
   }
 
-  pub releases : (first : O) (slots id : ℕ) (me : M) (x : S) → slots ≡ 1 → me.1 ≡ (0, Some x) ∷ [] → me.0.held ≡ Some (history_of x) → me.0.origin ≡ Some (origin_of x)
-      → Allows (Rule first) slots id me 0 (λ _. 0) (λ _. Releases (step slots 0 0 0 none) me 0)
-  releases first slots id me x one carries holds origin s r wide at _ =
+  pub releases : (made : Made E O) (slots id : ℕ) (me : M) (x : S) → slots ≡ 1 → me.1 ≡ (0, Some x) ∷ [] → me.0.held ≡ Some (history_of x) → me.0.origin ≡ Some (origin_of x)
+      → Allows (Rule made) slots id me 0 (λ _. 0) (λ _. Releases (step slots 0 0 0 none) me 0)
+  releases made slots id me x one carries holds origin s r wide at _ =
       let known = r.each id me.0 at in let h = known.holds (history_of x) holds in let w : V = released me.0 in
       let live = known.live h.3 in
       let homes : homes_after s.homes me.1 gives ≡ some (Some x) ∷ [] = ap (λ (l : List (ℕ × Option S)). homes_after s.homes l gives) carries ∙ single s.homes (some (Some x)) (wide ∙ one) in (
         w,
         gives,
         tt,
-        moved first s r (set s.words 0 0) (homes_after s.homes me.1 gives) id me.0 w 0 r.holder r.log at
-            (ap (λ (l : List ℕ). set l 0 0) r.words) (λ _. (x, homes, h.2, same_Some (origin_of x) first (sym origin ∙ live.origin))) (λ shut. absurd (shut refl))
-            (released_known id r.gate r.holder me.0 first r.log known)
-            (λ j v ne e. opened_known j r.gate r.holder v first r.log (λ is. ne (is ∙ sym h.1)) (r.each j v e))
+        moved made s r (set s.words 0 0) (homes_after s.homes me.1 gives) id me.0 w 0 r.holder r.log at
+            (ap (λ (l : List ℕ). set l 0 0) r.words) (λ _. (x, homes, h.2, same_Some (origin_of x) made.origin (sym origin ∙ live.origin))) (λ shut. absurd (shut refl))
+            (released_known id r.gate r.holder me.0 made r.log known)
+            (λ j v ne e. opened_known j r.gate r.holder v made r.log (λ is. ne (is ∙ sym h.1)) (r.each j v e))
             (λ j n v ne e has also. ne (r.apart j id n v me.0 e at has also))
-            refl,
+            refl
+            r.begun
+            (λ n from below. still_owned s.views id me.0 w at (λ _ has. has) n (r.owned n from below)),
         λ i. (w, carried_after (carries i) gives),
       )
 
@@ -304,50 +349,61 @@ module _ {S E O : Type 0} (history_of : S → List E) (origin_of : S → O) (key
   pub filled : (m m' : M) (x : S) → m.1 ≡ (0, None) ∷ [] → m' ≡ (m.0, (0, Some x) ∷ rest m.1) → m' ≡ (m.0, One x)
   filled m m' x is e = e ∙ (λ i. (m.0, (0, Some x) ∷ rest (is i)))
 
-  pub raises_at : (first : O) (slots id : ℕ) (m : M) (v : V) (x : S) (old : List E) (new : ℕ) → m ≡ (v, One x) → v.held ≡ Some old → IsPrefix old (history_of x) → AddsOwnKeys key_of old v.own (history_of x)
-      → new ≡ length (history_of x) → Allows (Rule first) slots id m 1 (λ _. new) (λ _. Raises history_of (step slots 1 new 0 none) m new)
-  raises_at first slots id m v x old new is holds pre adds long =
-      subst (λ (m : M). Allows (Rule first) slots id m 1 (λ _. new) (λ _. Raises history_of (step slots 1 new 0 none) m new)) (sym is) (raises first slots id (v, One x) x old new refl holds pre adds long)
+  pub raises_at : (made : Made E O) (slots id : ℕ) (m : M) (v : V) (x : S) (old : List E) (new : ℕ) → m ≡ (v, One x) → v.held ≡ Some old → IsPrefix old (history_of x) → AddsOwnKeys key_of old v.own (history_of x)
+      → new ≡ length (history_of x) → Allows (Rule made) slots id m 1 (λ _. new) (λ _. Raises history_of key_of (step slots 1 new 0 none) m new)
+  raises_at made slots id m v x old new is holds pre adds long =
+      subst (λ (m : M). Allows (Rule made) slots id m 1 (λ _. new) (λ _. Raises history_of key_of (step slots 1 new 0 none) m new)) (sym is) (raises made slots id (v, One x) x old new refl holds pre adds long)
 
-  pub raised_at : (slots : ℕ) (m m' : M) (v : V) (x : S) (old : List E) (new : ℕ) → m ≡ (v, One x) → v.held ≡ Some old → Raises history_of (step slots 1 new 0 none) m new m' → (m' ≡ (raised v old (history_of x), One x)) × AreBelow m'.0.own (length m'.0.seen)
-  raised_at slots m m' v x old new is holds told = subst (λ (m : M). Raises history_of (step slots 1 new 0 none) m new m') is told x old refl holds
+  pub raised_at : (slots : ℕ) (m m' : M) (v : V) (x : S) (old : List E) (new : ℕ) → m ≡ (v, One x) → v.held ≡ Some old → Raises history_of key_of (step slots 1 new 0 none) m new m' → (m' ≡ (raised v old (history_of x), One x)) × AreAdded m'.0.start m'.0.seen m'.0.own × OwnsKeys key_of m'.0.seen m'.0.own
+  raised_at slots m m' v x old new is holds told = subst (λ (m : M). Raises history_of key_of (step slots 1 new 0 none) m new m') is told x old refl holds
 
-  pub releases_at : (first : O) (slots id : ℕ) (m : M) (v : V) (x : S) → slots ≡ 1 → m ≡ (v, One x) → v.held ≡ Some (history_of x) → v.origin ≡ Some (origin_of x)
-      → Allows (Rule first) slots id m 0 (λ _. 0) (λ _. Releases (step slots 0 0 0 none) m 0)
-  releases_at first slots id m v x one is holds origin =
-      subst (λ (m : M). Allows (Rule first) slots id m 0 (λ _. 0) (λ _. Releases (step slots 0 0 0 none) m 0)) (sym is) (releases first slots id (v, One x) x one refl holds origin)
+  pub releases_at : (made : Made E O) (slots id : ℕ) (m : M) (v : V) (x : S) → slots ≡ 1 → m ≡ (v, One x) → v.held ≡ Some (history_of x) → v.origin ≡ Some (origin_of x)
+      → Allows (Rule made) slots id m 0 (λ _. 0) (λ _. Releases (step slots 0 0 0 none) m 0)
+  releases_at made slots id m v x one is holds origin =
+      subst (λ (m : M). Allows (Rule made) slots id m 0 (λ _. 0) (λ _. Releases (step slots 0 0 0 none) m 0)) (sym is) (releases made slots id (v, One x) x one refl holds origin)
 
-  pub looks : (first : O) (slots id : ℕ) (me : M) → 0 < me.0.shares → Allows (Rule first) slots id me 1 (λ x. x) (Looks (step slots 1 0 0 none) me)
-  looks first slots id me alive s r _ at _ = let live = (r.each id me.0 at).live alive in let le = prefix_length me.0.seen r.log live.begins in let n = word_1 s.words r.gate (length r.log) r.words in (
+  pub looks : (made : Made E O) (slots id : ℕ) (me : M) → 0 < me.0.shares → Allows (Rule made) slots id me 1 (λ x. x) (Looks key_of (step slots 1 0 0 none) me)
+  looks made slots id me alive s r _ at _ = let live = (r.each id me.0 at).live alive in let le = prefix_length me.0.seen r.log live.begins in let n = word_1 s.words r.gate (length r.log) r.words in (
     me.0,
     keeps,
     tt,
-    unmoved first s r 1 id me.1 me.0 me.0 at (λ _ _ _ k. k) refl refl refl,
-    (refl, omega (arith, le, n), live.below, live.once, live.shorter),
+    unmoved made s r 1 id me.1 me.0 me.0 at (λ _ _ _ k. k) refl refl refl,
+    (
+      refl,
+      record {
+        counted = omega (arith, le, n);
+        added = subst (λ (l : List E). AreAdded l me.0.seen me.0.own) (sym live.start) live.added;
+        once = live.once;
+        keys = keys_seen key_of me.0.seen r.log me.0.own live.begins live.keys (λ k has. (live.added k has).1);
+        shorter = live.shorter;
+        start = live.other_start ∙ sym live.start;
+        origin = live.other_origin ∙ sym live.origin;
+      },
+    ),
   )
 
-  kept_known : (id gate holder : ℕ) (v : V) (first : O) (log : List E) → v.held ≡ None → v.planned < v.shares → Knows gate holder log first id v → Knows gate holder log first id (kept_part v)
-  kept_known id gate holder v first log free less k = let l = k.live (omega (arith, less)) in record {
+  kept_known : (id gate holder : ℕ) (v : V) (made : Made E O) (log : List E) → v.held ≡ None → v.planned < v.shares → Knows gate holder log made id v → Knows gate holder log made id (kept_part v)
+  kept_known id gate holder v made log free less k = let l = k.live (omega (arith, less)) in record {
     holds = λ h e. absurd (none-some h (sym free ∙ e));
-    live = λ _. record { begins = l.begins; shorter = l.shorter; below = l.below; keys = l.keys; once = l.once; origin = l.origin };
+    live = λ _. record { begins = l.begins; shorter = l.shorter; started = l.started; added = l.added; keys = l.keys; once = l.once; start = l.start; origin = l.origin; other_start = l.other_start; other_origin = l.other_origin };
     spent = λ none_left. absurd (omega (arith, none_left, less));
   }
 
-  given_known : (id gate holder : ℕ) (v : V) (first : O) (log : List E) → 0 < v.planned → Live log first v → (j : ℕ) → Knows gate holder log first j (given_part v)
-  given_known id gate holder v first log plenty l j = record {
+  given_known : (id gate holder : ℕ) (v : V) (made : Made E O) (log : List E) → 0 < v.planned → Live log made v → (j : ℕ) → Knows gate holder log made j (given_part v)
+  given_known id gate holder v made log plenty l j = record {
     holds = λ h e. absurd (none-some h e);
-    live = λ _. record { begins = l.begins; shorter = l.shorter; below = λ n has. absurd (contains_none n has); keys = own_keys_none key_of log; once = distinct_none; origin = l.origin };
+    live = λ _. record { begins = l.begins; shorter = l.shorter; started = l.started; added = λ n has. absurd (contains_none n has); keys = own_keys_none key_of log; once = distinct_none; start = l.start; origin = l.origin; other_start = l.other_start; other_origin = l.other_origin };
     spent = λ _. refl;
   }
 
   -- a new view comes, which owns nothing and does not hold the gate
-  arrived : (first : O) (s : St) (r : Rule first s) (id : ℕ) (v w new : V) → get_elem? s.views id ≡ some v → v.held ≡ None
-      → Knows r.gate r.holder r.log first id w → w.own ≡ v.own → ((j : ℕ) → Knows r.gate r.holder r.log first j new) → new.own ≡ [] → w.shares + new.shares ≡ v.shares
-      → Rule first record { words = s.words; homes = s.homes; views = set s.views id w ++ new ∷ [] }
-  arrived first s r id v w new at free me own fresh nothing shares =
+  arrived : (made : Made E O) (s : St) (r : Rule made s) (id : ℕ) (v w new : V) → get_elem? s.views id ≡ some v → v.held ≡ None
+      → Knows r.gate r.holder r.log made id w → w.own ≡ v.own → ((j : ℕ) → Knows r.gate r.holder r.log made j new) → new.own ≡ [] → w.shares + new.shares ≡ v.shares
+      → Rule made record { words = s.words; homes = s.homes; views = set s.views id w ++ new ∷ [] }
+  arrived made s r id v w new at free me own fresh nothing shares =
       let vs : List V = set s.views id w in
-      let each : (j : ℕ) (x : V) → get_elem? vs j ≡ some x → Knows r.gate r.holder r.log first j x = λ j x e. ⊎_elim
-      (λ (t : (j ≡ id) × (w ≡ x)). subst (λ (z : ℕ × V). Knows r.gate r.holder r.log first z.0 z.1) (λ i. (sym t.0 i, t.1 i)) me)
+      let each : (j : ℕ) (x : V) → get_elem? vs j ≡ some x → Knows r.gate r.holder r.log made j x = λ j x e. ⊎_elim
+      (λ (t : (j ≡ id) × (w ≡ x)). subst (λ (z : ℕ × V). Knows r.gate r.holder r.log made z.0 z.1) (λ i. (sym t.0 i, t.1 i)) me)
       (λ (t : (j ≢ id) × (get_elem? s.views j ≡ some x)). r.each j x t.1) (at_set s.views id j w x e) in
       let owner : (j k : ℕ) (x : V) → get_elem? vs j ≡ some x → Contains x.own k → (y : V) × (get_elem? s.views j ≡ some y) × Contains y.own k = λ j k x e has. ⊎_elim
       (λ (t : (j ≡ id) × (w ≡ x)). (v, subst (λ (z : ℕ). get_elem? s.views z ≡ some v) (sym t.0) at, subst (λ (l : List ℕ). Contains l k) (sym (ap (λ (z : V). z.own) t.1) ∙ own) has))
@@ -358,8 +414,10 @@ module _ {S E O : Type 0} (history_of : S → List E) (origin_of : S → O) (key
         log = r.log;
         words = r.words;
         home = r.home;
+        begun = r.begun;
+        owned = λ k from below. let o = still_owned s.views id v w at (λ n has. subst (λ (l : List ℕ). Contains l n) (sym own) has) k (r.owned k from below) in (o.0, o.1, at_longer vs (new ∷ []) o.0 o.1 o.2, o.3);
         closed = λ shut. let h = still_held r.holder r.log s.views id v w at free (r.closed shut) in (h.0, at_longer vs (new ∷ []) r.holder h.0 h.1, h.2);
-        each = λ j x e. ⊎_elim (each j x) (λ (t : new ≡ x). subst (λ (z : V). Knows r.gate r.holder r.log first j z) t (fresh j)) (at_snoc vs new x j e);
+        each = λ j x e. ⊎_elim (each j x) (λ (t : new ≡ x). subst (λ (z : V). Knows r.gate r.holder r.log made j z) t (fresh j)) (at_snoc vs new x j e);
         apart = λ i j k x y e f has also. ⊎_elim
             (λ (t : get_elem? vs i ≡ some x). ⊎_elim
             (λ (u : get_elem? vs j ≡ some y). let a = owner i k x t has in let b = owner j k y u also in r.apart i j k a.0 b.0 a.1 b.1 a.2 b.2)
@@ -370,40 +428,47 @@ module _ {S E O : Type 0} (history_of : S → List E) (origin_of : S → O) (key
         whole = let a = shares_set s.views id v w at in let b = shares_snoc vs new in let c = r.whole in omega (arith, a, b, c, shares);
       }
 
-  pub splits : (first : O) (id : ℕ) (v : V) → v.held ≡ None → 0 < v.planned → v.planned < v.shares → Splits (Rule first) id v (kept_part v) (given_part v)
-  splits first id v free plenty less s r at = let known = r.each id v at in
-      arrived first s r id v (kept_part v) (given_part v) at free (kept_known id r.gate r.holder v first r.log free less known) refl
-      (given_known id r.gate r.holder v first r.log plenty (known.live (omega (arith, less)))) refl (omega (arith, less))
+  pub splits : (made : Made E O) (id : ℕ) (v : V) → v.held ≡ None → 0 < v.planned → v.planned < v.shares → Splits (Rule made) id v (kept_part v) (given_part v)
+  splits made id v free plenty less s r at = let known = r.each id v at in
+      arrived made s r id v (kept_part v) (given_part v) at free (kept_known id r.gate r.holder v made r.log free less known) refl
+      (given_known id r.gate r.holder v made r.log plenty (known.live (omega (arith, less)))) refl (omega (arith, less))
 
-  joined_known : (id other gate holder : ℕ) (v w : V) (first : O) (log : List E) → v.held ≡ None → 0 < v.shares → 0 < w.shares → Knows gate holder log first id v → Knows gate holder log first other w
-      → ((k : ℕ) → Contains v.own k → Contains w.own k → ⊥) → Knows gate holder log first id (joined v w)
-  joined_known id other gate holder v w first log free alive alive' k k' apart = let l = k.live alive in let l' = k'.live alive' in
+  joined_known : (id other gate holder : ℕ) (v w : V) (made : Made E O) (log : List E) → v.held ≡ None → 0 < v.shares → 0 < w.shares → Knows gate holder log made id v → Knows gate holder log made other w
+      → ((k : ℕ) → Contains v.own k → Contains w.own k → ⊥) → Knows gate holder log made id (joined v w)
+  joined_known id other gate holder v w made log free alive alive' k k' apart = let l = k.live alive in let l' = k'.live alive' in
       let both = both_lists v.seen w.seen log l.begins l'.begins in record {
         holds = λ h e. absurd (none-some h (sym free ∙ e));
         live = λ _. record {
           begins = longer_prefix v.seen w.seen log l.begins l'.begins;
           shorter = both.0;
-          below = λ n has. ⊎_elim (λ a. let b = l.below n a in let c = both.1 in omega (arith, b, c)) (λ a. let b = l'.below n a in let c = both.2 in omega (arith, b, c)) (Contains-append_cases v.own w.own n has);
+          started = prefix_longer made.history v.seen w.seen l.started l'.started;
+          added = λ n has. ⊎_elim
+              (λ a. let b = l.added n a in let d = b.1 in let c = both.1 in (b.0, omega (arith, d, c)))
+              (λ a. let b = l'.added n a in let d = b.1 in let c = both.2 in (b.0, omega (arith, d, c)))
+              (Contains-append_cases v.own w.own n has);
           keys = both_keys key_of log v.own w.own l.keys l'.keys;
           once = distinct_append v.own w.own l.once l'.once apart;
+          start = l.start;
           origin = l.origin;
+          other_start = l'.start;
+          other_origin = l'.origin;
         };
         spent = λ none_left. absurd (omega (arith, none_left, alive));
       }
 
-  spent_known : (j gate holder : ℕ) (first : O) (log : List E) → Knows gate holder log first j spent_view
-  spent_known j gate holder first log = record {
+  spent_known : (j gate holder : ℕ) (made : Made E O) (log : List E) → Knows gate holder log made j spent_view
+  spent_known j gate holder made log = record {
     holds = λ h e. absurd (none-some h e);
     live = λ alive. absurd (omega (arith, alive));
     spent = λ _. refl;
   }
 
-  pub joins : (first : O) (id : ℕ) (v : V) (other : ℕ) (w : V) → v.held ≡ None → w.held ≡ None → 0 < v.shares → 0 < w.shares → Joins (Rule first) id v other w (joined v w) spent_view
-  joins first id v other w free free' alive alive' s r at ne there =
+  pub joins : (made : Made E O) (id : ℕ) (v : V) (other : ℕ) (w : V) → v.held ≡ None → w.held ≡ None → 0 < v.shares → 0 < w.shares → Joins (Rule made) id v other w (joined v w) spent_view
+  joins made id v other w free free' alive alive' s r at ne there =
       let both : V = joined v w in
       let vs : List V = set s.views id both in
       let at' : get_elem? s.views other ≡ some w = sym (set_else s.views id other both ne) ∙ there in
-      let me : Knows r.gate r.holder r.log first id both = joined_known id other r.gate r.holder v w first r.log free alive alive' (r.each id v at) (r.each other w at')
+      let me : Knows r.gate r.holder r.log made id both = joined_known id other r.gate r.holder v w made r.log free alive alive' (r.each id v at) (r.each other w at')
       (λ k a b. ne (sym (r.apart id other k v w at at' a b))) in
       let owner : (j k : ℕ) (x : V) → get_elem? (set vs other spent_view) j ≡ some x → Contains x.own k → (y : V) × (i : ℕ) × (get_elem? s.views i ≡ some y) × Contains y.own k × ((i ≡ j) ⊎ ((i ≡ other) × (j ≡ id))) × (j ≢ other) = λ j k x e has. ⊎_elim
       (λ (t : (j ≡ other) × (spent_view ≡ x)). absurd (contains_none k (subst (λ (z : V). Contains z.own k) (sym t.1) has)))
@@ -420,11 +485,21 @@ module _ {S E O : Type 0} (history_of : S → List E) (origin_of : S → O) (key
         log = r.log;
         words = r.words;
         home = r.home;
+        begun = r.begun;
+        owned = λ k from below. let o = r.owned k from below in dite (ℕ_discrete o.0 other)
+            (λ is. (
+              id,
+              both,
+              set_else vs other id spent_view (λ e. ne (sym e)) ∙ set_there s.views id v both at,
+              Contains-append_right v.own w.own k (subst (λ (z : V). Contains z.own k) (same_at s.views other o.1 w (subst (λ (z : ℕ). get_elem? s.views z ≡ some o.1) is o.2) at') o.3),
+            ))
+            (λ not. let p = still_owned_at s.views id v both at (Contains-append_left v.own w.own) k o in
+            (o.0, p.0, set_else vs other o.0 spent_view not ∙ p.1, p.2));
         closed = λ shut. still_held r.holder r.log vs other w spent_view there free' (still_held r.holder r.log s.views id v both at free (r.closed shut));
         each = λ j x e. ⊎_elim
-            (λ (t : (j ≡ other) × (spent_view ≡ x)). subst (λ (z : V). Knows r.gate r.holder r.log first j z) t.1 (spent_known j r.gate r.holder first r.log))
+            (λ (t : (j ≡ other) × (spent_view ≡ x)). subst (λ (z : V). Knows r.gate r.holder r.log made j z) t.1 (spent_known j r.gate r.holder made r.log))
             (λ (t : (j ≢ other) × (get_elem? vs j ≡ some x)). ⊎_elim
-            (λ (u : (j ≡ id) × (both ≡ x)). subst (λ (z : ℕ × V). Knows r.gate r.holder r.log first z.0 z.1) (λ i. (sym u.0 i, u.1 i)) me)
+            (λ (u : (j ≡ id) × (both ≡ x)). subst (λ (z : ℕ × V). Knows r.gate r.holder r.log made z.0 z.1) (λ i. (sym u.0 i, u.1 i)) me)
             (λ (u : (j ≢ id) × (get_elem? s.views j ≡ some x)). r.each j x u.1)
             (at_set s.views id j both x t.1))
             (at_set vs other j spent_view x e);
@@ -433,17 +508,19 @@ module _ {S E O : Type 0} (history_of : S → List E) (origin_of : S → O) (key
         whole = let a = shares_set s.views id v both at in let b = shares_set vs other w spent_view there in let c = r.whole in omega (arith, a, b, c);
       }
 
-  pub opens : (first : O) (x : S) (n : ℕ) → n ≡ length (history_of x) → origin_of x ≡ first → Rule first (opening (0 ∷ n ∷ []) (Some x ∷ []) (first_view (history_of x) first))
-  opens first x n long origin = let log : List E = history_of x in let v : V = first_view log first in record {
+  pub opens : (x : S) (n : ℕ) → n ≡ length (history_of x) → Rule record { history = history_of x; origin = origin_of x } (opening (0 ∷ n ∷ []) (Some x ∷ []) (first_view (history_of x) (origin_of x)))
+  opens x n long = let log : List E = history_of x in let made : Made E O = record { history = log; origin = origin_of x } in let v : V = first_view log (origin_of x) in record {
     gate = 0;
     holder = 0;
     log = log;
+    begun = prefix_itself log;
+    owned = λ k from below. absurd (omega (arith, from, below));
     words = ap (λ (z : ℕ). 0 ∷ z ∷ []) long;
-    home = λ _. (x, refl, refl, origin);
+    home = λ _. (x, refl, refl, refl);
     closed = λ shut. absurd (shut refl);
-    each = λ j w e. subst (Knows 0 0 log first j) (only_one v j w e) record {
+    each = λ j w e. subst (Knows 0 0 log made j) (only_one v j w e) record {
       holds = λ h t. absurd (none-some h t);
-      live = λ _. record { begins = prefix_itself log; shorter = (log, refl); below = λ k has. absurd (contains_none k has); keys = own_keys_none key_of log; once = distinct_none; origin = refl };
+      live = λ _. record { begins = prefix_itself log; shorter = (log, refl); started = prefix_itself log; added = λ k has. absurd (contains_none k has); keys = own_keys_none key_of log; once = distinct_none; start = refl; origin = refl; other_start = refl; other_origin = refl };
       spent = λ _. refl;
     };
     apart = λ i j k v' w' e f has also. absurd (contains_none k (subst (λ (z : V). Contains z.own k) (sym (only_one v i v' e)) has));
@@ -452,13 +529,25 @@ module _ {S E O : Type 0} (history_of : S → List E) (origin_of : S → O) (key
 
   -- what a pass with all shares knows of the state that the lock had in the end
   abbrev pub IsLast : V → S → Type 0
-  IsLast v x = IsPrefix v.seen (history_of x) × (v.origin ≡ Some (origin_of x)) × AreBelow v.own (length v.seen) × OwnsKeys key_of (history_of x) v.own
+  IsLast v x = IsPrefix v.seen (history_of x) × (v.origin ≡ Some (origin_of x)) × OwnsAdded v.start (history_of x) v.own × OwnsKeys key_of (history_of x) v.own
+
+  -- with all shares a pass owns all places that were added since the lock was made
+  owns_added : (made : Made E O) (s : St) (r : Rule made s) (id : ℕ) (v : V) → get_elem? s.views id ≡ some v → v.shares ≡ 1024 → OwnsAdded made.history r.log v.own
+  owns_added made s r id v at all = let live = (r.each id v at).live (omega (arith, all)) in record {
+    begins = r.begun;
+    added = λ k has. let a = live.added k has in let b = a.1 in let c = prefix_length v.seen r.log live.begins in (a.0, omega (arith, b, c));
+    once = live.once;
+    all = λ k from below. let o = r.owned k from below in dite (ℕ_discrete o.0 id)
+        (λ e. subst (λ (z : V). Contains z.own k) (same_at s.views id o.1 v (subst (λ (z : ℕ). get_elem? s.views z ≡ some o.1) e o.2) at) o.3)
+        (λ ne. absurd (let t = shares_two s.views o.0 id o.1 v ne o.2 at in let u = r.whole in
+        let z = owner_lives r.gate r.holder r.log made o.0 k o.1 (r.each o.0 o.1 o.2) o.3 in omega (arith, t, u, z, all)));
+  }
 
   -- with all shares there is no other pass, so the state is at home
-  pub closes : (first : O) (id : ℕ) (v : V) (ws : List ℕ) (xs : List (Option S)) (taken : Option S) → Final (Seen (Rule first) id v) ws xs → get_elem? xs 0 ≡ some taken → v.held ≡ None → v.shares ≡ 1024
+  pub closes : (made : Made E O) (id : ℕ) (v : V) (ws : List ℕ) (xs : List (Option S)) (taken : Option S) → Final (Seen (Rule made) id v) ws xs → get_elem? xs 0 ≡ some taken → v.held ≡ None → v.shares ≡ 1024
       → (x : S) × (taken ≡ Some x) × IsLast v x
-  closes first id v ws xs taken final got free all =
-      let s : St = final.0 in let r : Rule first s = final.1.0 in let at : get_elem? s.views id ≡ some v = final.1.1 in
+  closes made id v ws xs taken final got free all =
+      let s : St = final.0 in let r : Rule made s = final.1.0 in let at : get_elem? s.views id ≡ some v = final.1.1 in
       let gate : r.gate ≡ 0 = dite (ℕ_discrete r.gate 0) (λ e. e) (λ shut. absurd (let h = r.closed shut in let k = (r.each r.holder h.0 h.1).holds r.log h.2 in dite (ℕ_discrete r.holder id)
       (λ e. none-some r.log (sym free ∙ ap (λ (z : V). z.held) (same_at s.views id v h.0 at (subst (λ (z : ℕ). get_elem? s.views z ≡ some h.0) e h.1)) ∙ h.2))
       (λ ne. let t = shares_two s.views r.holder id h.0 v ne h.1 at in let u = r.whole in let z = k.3 in omega (arith, t, u, z, all)))) in
@@ -468,7 +557,7 @@ module _ {S E O : Type 0} (history_of : S → List E) (origin_of : S → O) (key
         (
           subst (IsPrefix v.seen) (sym home.2) live.begins,
           live.origin ∙ ap (λ (o : O). Some o) (sym home.3),
-          live.below,
+          subst (λ (l : List E). OwnsAdded v.start l v.own) (sym home.2) (subst (λ (l : List E). OwnsAdded l r.log v.own) (sym live.start) (owns_added made s r id v at all)),
           subst (λ (l : List E). OwnsKeys key_of l v.own) (sym home.2) live.keys,
         ),
       )

@@ -4,4 +4,4 @@ pub mod Lists
 -- Keeps: each step keeps the rule of the lock.
 pub mod Keeps
 -- Rows: worked rows of the definitions, over entries that are their own keys.
-mod Rows
+pub mod Rows

@@ -11,8 +11,8 @@ use mathlib.Core.Option.{some, some-injective, some-ne-none}
 use mathlib.Core.List.{IsPrefix}
 use lib.ListN.{get_elem?}
 use Rattle.turn_lock.specs.declared.view.View.{View}
-use Rattle.turn_lock.specs.History.{OwnsKeys, AddsOwnKeys, added_places, longer, shorter}
-use Rattle.turn_lock.specs.Rule.{IsDistinct, all_shares}
+use Rattle.turn_lock.specs.History.{OwnsKeys, AddsOwnKeys, AreKeysApart, IsDistinct, added_places, longer, shorter}
+use Rattle.turn_lock.specs.Rule.{all_shares}
 
 module _ {A : Type 0} where
   pub prefix_itself : (l : List A) → IsPrefix l l
@@ -106,6 +106,9 @@ module _ {E : Type 0} where
   pub longer_prefix : (a b c : List E) → IsPrefix a c → IsPrefix b c → IsPrefix (longer a b) c
   longer_prefix a b c p q = elim (leb (length b) (length a)) as (λ t. IsPrefix (cond t a b) c) [ true ↦ p | false ↦ q ]
 
+  pub prefix_longer : (a b c : List E) → IsPrefix a b → IsPrefix a c → IsPrefix a (longer b c)
+  prefix_longer a b c p q = elim (leb (length c) (length b)) as (λ t. IsPrefix a (cond t b c)) [ true ↦ p | false ↦ q ]
+
   -- of two beginnings of one list, the shorter begins the longer, which is at least as long as each
   pub both_lists : (a b c : List E) → IsPrefix a c → IsPrefix b c → IsPrefix (shorter a b) (longer a b) × (length a ≤ length (longer a b)) × (length b ≤ length (longer a b))
   both_lists a b c p q = ⊎_elim
@@ -145,6 +148,19 @@ module _ {E : Type 0} where
         (λ (l : length log ≤ j). let inside = slice_get_within new j b at_j in
         Contains-append_right own added j (range_has (length log) (length new - length log) j l (omega arith)))
         (cases_lt j (length log))
+
+    -- the keys in a beginning of the history
+    pub keys_seen : (seen log : List E) (own : List ℕ) → IsPrefix seen log → OwnsKeys key log own → ((k : ℕ) → Contains own k → k < length seen) → OwnsKeys key seen own
+    keys_seen seen log own pre owns below i j a b has at_i at_j same = owns i j a b has
+        (subst (λ (m : List E). slice_get m i ≡ Some a) pre.1 (get_longer seen pre.0 i a at_i))
+        (subst (λ (m : List E). slice_get m j ≡ Some b) pre.1 (get_longer seen pre.0 j b at_j)) same
+
+    -- two that own their keys, and no place both, have no key in common
+    pub keys_apart : (a b : List E) (own other : List ℕ) → OwnsKeys key a own → OwnsKeys key b other → ((k : ℕ) → Contains own k → Contains other k → ⊥) → AreKeysApart key (longer a b) own other
+    keys_apart a b own other mine theirs apart i j x y has also = elim (leb (length b) (length a)) as (λ t. slice_get (cond t a b) i ≡ Some x → slice_get (cond t a b) j ≡ Some y → key x ≢ key y) [
+      | true ↦ λ at_i at_j same. apart j (mine i j x y has at_i at_j (sym same)) also
+      | false ↦ λ at_i at_j same. apart i has (theirs j i y x also at_j at_i same)
+    ]
 
   pub own_keys_none : (key : E → ℕ) (log : List E) → OwnsKeys key log []
   own_keys_none key log i j a b has at_i at_j same = absurd (contains_none i has)

@@ -1,7 +1,9 @@
 -- Worked rows of the definitions, over entries that are their own keys.
-use Rattle.std.proofs.Common.{◌≡◌, ℕ, zero, suc, List, [], ◌∷◌, Some, slice_get, refl, sym, ◌∙◌, subst, inl, inr, ⊎_elim, arith}
+use Rattle.std.proofs.Common.{◌≡◌, ℕ, zero, suc, ◌<◌, ◌⊎◌, List, [], ◌∷◌, Some, get_or, slice_get, refl, sym, ◌∙◌, subst, inl, inr, ⊎_elim, arith}
+use Rattle.std.specs.List.{Contains}
+use Rattle.std.proofs.lemmas.Bool.{cases_eq}
 use Rattle.std.proofs.lemmas.Option.{same_Some, none-some}
-use Rattle.turn_lock.specs.History.{longer, shorter, added_places, OwnsKeys, AddsOwnKeys}
+use Rattle.turn_lock.specs.History.{longer, added_places, OwnsAdded, OwnsKeys, AreKeysApart, AddsOwnKeys}
 use Rattle.turn_lock.proofs.Lists.{one_place}
 
 abbrev two : List ℕ
@@ -10,27 +12,59 @@ two = 7 ∷ 8 ∷ []
 abbrev four : List ℕ
 four = 7 ∷ 8 ∷ 9 ∷ 9 ∷ []
 
-longer_of_two : longer two four ≡ four
-longer_of_two = refl
-
-shorter_of_two : shorter four two ≡ two
-shorter_of_two = refl
-
 -- of two that are equally long
 first_is_longer : longer two (1 ∷ 2 ∷ []) ≡ two
 first_is_longer = refl
 
-added : added_places two four ≡ 2 ∷ 3 ∷ []
-added = refl
-
 none_added : added_places two two ≡ []
 none_added = refl
 
+one_of_two : (a b k : ℕ) → Contains (a ∷ b ∷ []) k → (a ≡ k) ⊎ (b ≡ k)
+one_of_two a b k c = at c.0 c.1 c.2
+  where
+    at : (i : ℕ) → i < 2 → get_or (a ∷ b ∷ []) i k ≡ k → (a ≡ k) ⊎ (b ≡ k)
+    at zero l e = inl e
+    at (suc zero) l e = inr e
+    at (suc (suc i)) l e = absurd (omega (arith, l))
+
+-- in any order
+pub owns_both_added : OwnsAdded two four (3 ∷ 2 ∷ [])
+owns_both_added = record {
+  begins = (9 ∷ 9 ∷ [], refl);
+  added = λ k has. ⊎_elim (λ e. (omega (arith, e), omega (arith, e))) (λ e. (omega (arith, e), omega (arith, e))) (one_of_two 3 2 k has);
+  once = differ;
+  all = λ k from below. ⊎_elim
+      (λ (e : k ≡ 2). (1, omega arith, sym e))
+      (λ other. (0, omega arith, omega (arith, from, below, other)))
+      (cases_eq k 2);
+}
+  where
+    differ : (i j d : ℕ) → i < j → j < 2 → get_or (3 ∷ 2 ∷ []) i d ≡ get_or (3 ∷ 2 ∷ []) j d → ⊥
+    differ zero zero d l m e = omega (arith, l)
+    differ zero (suc zero) d l m e = omega (arith, e)
+    differ zero (suc (suc j)) d l m e = omega (arith, m)
+    differ (suc i) j d l m e = omega (arith, l, m)
+
+pub owns_one_added : OwnsAdded two four (2 ∷ []) → ⊥
+owns_one_added owns = let place = owns.all 3 (omega arith) (omega arith) in omega (arith, one_place 2 3 place)
+
+pub keys_apart : AreKeysApart (λ n. n) (5 ∷ 6 ∷ 5 ∷ []) (0 ∷ 2 ∷ []) (1 ∷ [])
+keys_apart i j a b has also at_i at_j same =
+    let six = same_Some 6 b (subst (λ (k : ℕ). slice_get (5 ∷ 6 ∷ 5 ∷ []) k ≡ Some b) (sym (one_place 1 j also)) at_j) in
+    ⊎_elim
+    (λ e. let five = same_Some 5 a (subst (λ (k : ℕ). slice_get (5 ∷ 6 ∷ 5 ∷ []) k ≡ Some a) (sym e) at_i) in omega (arith, five, six, same))
+    (λ e. let five = same_Some 5 a (subst (λ (k : ℕ). slice_get (5 ∷ 6 ∷ 5 ∷ []) k ≡ Some a) (sym e) at_i) in omega (arith, five, six, same))
+    (one_of_two 0 2 i has)
+
+-- both have the 5
+pub keys_not_apart : AreKeysApart (λ n. n) (5 ∷ 6 ∷ 5 ∷ []) (0 ∷ []) (2 ∷ []) → ⊥
+keys_not_apart apart = apart 0 2 5 5 (0, omega arith, refl) (0, omega arith, refl) refl refl refl
+
 -- whoever owns the first 5 owns the other 5 too
-keys_not_owned : OwnsKeys (λ n. n) (5 ∷ 6 ∷ 5 ∷ []) (0 ∷ []) → ⊥
+pub keys_not_owned : OwnsKeys (λ n. n) (5 ∷ 6 ∷ 5 ∷ []) (0 ∷ []) → ⊥
 keys_not_owned owns = let place = owns 0 2 5 5 (0, omega arith, refl) refl refl refl in omega (arith, one_place 0 2 place)
 
-adds_own_keys : AddsOwnKeys (λ n. n) (5 ∷ 6 ∷ []) (0 ∷ []) (5 ∷ 6 ∷ 5 ∷ 7 ∷ [])
+pub adds_own_keys : AddsOwnKeys (λ n. n) (5 ∷ 6 ∷ []) (0 ∷ []) (5 ∷ 6 ∷ 5 ∷ 7 ∷ [])
 adds_own_keys zero b l is = absurd (omega arith)
 adds_own_keys (suc zero) b l is = absurd (omega arith)
 adds_own_keys (suc (suc zero)) b l is = inr (0, 5, (0, omega arith, refl), refl, same_Some 5 b is)
@@ -43,7 +77,7 @@ adds_own_keys (suc (suc (suc zero))) b l is = inl (λ i a at same. new i a at (s
 adds_own_keys (suc (suc (suc (suc j)))) b l is = absurd (none-some b is)
 
 -- 6 is another's key
-adds_others_key : AddsOwnKeys (λ n. n) (5 ∷ 6 ∷ []) (0 ∷ []) (5 ∷ 6 ∷ 6 ∷ []) → ⊥
+pub adds_others_key : AddsOwnKeys (λ n. n) (5 ∷ 6 ∷ []) (0 ∷ []) (5 ∷ 6 ∷ 6 ∷ []) → ⊥
 adds_others_key adds = ⊎_elim
     (λ fresh. fresh 1 6 refl refl)
     (λ owned. owner owned.0 owned.1 (one_place 0 owned.0 owned.2) owned.3 owned.4)

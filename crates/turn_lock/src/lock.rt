@@ -3,7 +3,7 @@
 ghost use Rattle.std.specs.Prelude.{◌≡◌, ◌+◌, ◌-◌, ◌<◌, [], ◌∷◌, ◌++◌, length, None, Some, IfOk, IsSome};
 ghost use Rattle.std.specs.Option.{unwrap_or};
 ghost use mathlib.Core.List.{IsPrefix};
-ghost use Rattle.turn_lock.specs.History.{longer, added_places, AreApart, AreBelow, OwnsKeys, AddsOwnKeys};
+ghost use Rattle.turn_lock.specs.History.{longer, added_places, AreAdded, AreApart, AreKeysApart, OwnsAdded, OwnsKeys, AddsOwnKeys};
 ghost use Rattle.turn_lock.specs.Shown.{with_shares, split_off};
 ghost use Rattle.turn_lock.specs.Steps.{raised, released, IsSeized};
 
@@ -58,6 +58,7 @@ impl<S: Historied + Drop> TurnLock<S> {
         ensures seen { IfOk result (λ made. made.1.seen ≡ S.history state) }
         ensures own { IfOk result (λ made. made.1.own ≡ []) }
         ensures shares { IfOk result (λ made. made.1.shares ≡ 1024) }
+        ensures start { IfOk result (λ made. made.1.start ≡ S.history state) }
         ensures origin { IfOk result (λ made. made.1.origin ≡ Some (S.origin state)) }
     {
         let start = Snapshot::of(&state);
@@ -78,8 +79,9 @@ impl<S: Historied> TurnLock<S> {
         ensures pass { result.hold.pass ≡ pass }
         ensures history { result.hold.history ≡ S.history result.state }
         ensures seen { IsPrefix pass.seen (S.history result.state) }
+        ensures start { IsPrefix pass.start pass.seen }
         ensures origin { pass.origin ≡ Some (S.origin result.state) }
-        ensures below { AreBelow pass.own (length pass.seen) }
+        ensures added { AreAdded pass.start pass.seen pass.own }
         ensures keys { OwnsKeys S.key (S.history result.state) pass.own }
     {
         let Pass { mut seat } = pass;
@@ -91,7 +93,8 @@ impl<S: Historied> TurnLock<S> {
         }
     }
 
-    // Tries until it finds the gate open, and yields the processor after each try that fails.
+    // Tries until it finds the gate open, and yields the processor after each look or try that fails. Who waits only looks: a try would
+    // take the gate's line in the cache from the one who is to open it.
     fn close_gate<R: Wait>(&self, rt: &R, seat: &mut LockSeat<S>)
         requires lock { seat.old.table_id ≡ self.now }
         requires pass { (seat.old.me.1 ≡ []) × (seat.old.me.0.held ≡ None) × (0 < seat.old.me.0.shares) }
@@ -100,9 +103,11 @@ impl<S: Historied> TurnLock<S> {
     {
         let shared = &self.table.shared;
         for _ in rt.forever() {
-            let found = shared.compare_exchange::<Seize>(seat, GATE, OPEN, CLOSED);
-            if found == OPEN {
-                return;
+            if shared.peek(GATE) == OPEN {
+                let found = shared.compare_exchange::<Seize>(seat, GATE, OPEN, CLOSED);
+                if found == OPEN {
+                    return;
+                }
             }
             thread::yield_now();
         }
@@ -118,8 +123,10 @@ impl<S: Historied> TurnLock<S> {
         ensures lock { result.lock ≡ self.now }
         ensures seen { result.seen ≡ S.history turn.state }
         ensures own { result.own ≡ turn.hold.pass.own ++ added_places turn.hold.history (S.history turn.state) }
-        ensures below { AreBelow result.own (length result.seen) }
+        ensures added { AreAdded result.start result.seen result.own }
+        ensures keys { OwnsKeys S.key result.seen result.own }
         ensures shares { result.shares ≡ turn.hold.pass.shares }
+        ensures start { result.start ≡ turn.hold.pass.start }
         ensures origin { result.origin ≡ turn.hold.pass.origin }
     {
         let Turn { state, hold } = turn;
@@ -137,7 +144,8 @@ impl<S: Historied> TurnLock<S> {
         requires keys { AddsOwnKeys S.key (unwrap_or seat.old.me.0.held []) seat.old.me.0.own (S.history state) }
         ensures same { (seat.new.table_id ≡ seat.old.table_id) × (seat.new.id ≡ seat.old.id) }
         ensures view { seat.new.me ≡ (released (raised seat.old.me.0 (unwrap_or seat.old.me.0.held []) (S.history state)), []) }
-        ensures below { AreBelow seat.new.me.0.own (length seat.new.me.0.seen) }
+        ensures added { AreAdded seat.new.me.0.start seat.new.me.0.seen seat.new.me.0.own }
+        ensures keys { OwnsKeys S.key seat.new.me.0.seen seat.new.me.0.own }
     {
         let shared = &self.table.shared;
         let length = state.len();
@@ -163,34 +171,39 @@ impl<S: Historied> TurnLock<S> {
         (Pass { seat }, Pass { seat: other })
     }
 
-    /// Makes one pass of two. It has seen the longer list, with which both begin, and has the places and the shares of both. No place was owned by both.
+    /// Makes one pass of two. It has seen the longer list, with which both begin, and has the places and the shares of both. No place was owned by both, and no entry of the one has the key of an entry of the other. Both knew how the lock was made.
     pub fn join_pass(&self, pass: Pass<S>, other: Pass<S>) -> Pass<S>
         requires lock { (pass.lock ≡ self.now) × (other.lock ≡ self.now) }
         ensures lock { result.lock ≡ self.now }
         ensures seen { result.seen ≡ longer pass.seen other.seen }
         ensures begins { IsPrefix pass.seen result.seen × IsPrefix other.seen result.seen }
         ensures own { result.own ≡ pass.own ++ other.own }
-        ensures below { AreBelow result.own (length result.seen) }
+        ensures added { AreAdded result.start result.seen result.own }
+        ensures keys { OwnsKeys S.key result.seen result.own }
         ensures apart { AreApart pass.own other.own }
+        ensures keys_apart { AreKeysApart S.key result.seen pass.own other.own }
         ensures shares { result.shares ≡ pass.shares + other.shares }
-        ensures origin { result.origin ≡ pass.origin }
+        ensures start { (result.start ≡ pass.start) × (other.start ≡ pass.start) }
+        ensures origin { (result.origin ≡ pass.origin) × (other.origin ≡ pass.origin) }
     {
         let Pass { mut seat } = pass;
-        let Pass { seat: spent } = other;
+        let Pass { seat: mut spent } = other;
         let shared = &self.table.shared;
+        // A join tells nothing: what the rule says of the two views, and then of the joined one, is learnt by loads.
+        shared.load::<Look>(&mut seat, LENGTH);
+        shared.load::<Look>(&mut spent, LENGTH);
         shared.join_seat::<Unite>(&mut seat, spent);
-        // A join tells nothing: what the rule says of the joined view is learnt by a load.
         shared.load::<Look>(&mut seat, LENGTH);
         Pass { seat }
     }
 
-    /// Takes the lock apart, with a pass that has all its shares, so that no other turn is under way.
+    /// Takes the lock apart, with a pass that has all its shares, so that no other turn is under way. The history is that with which the lock was made, followed by entries at places that the pass owns.
     pub fn close(self, pass: Pass<S>) -> S
         requires lock { pass.lock ≡ self }
         requires whole { pass.shares ≡ 1024 }
         ensures seen { IsPrefix pass.seen (S.history result) }
         ensures origin { pass.origin ≡ Some (S.origin result) }
-        ensures below { AreBelow pass.own (length pass.seen) }
+        ensures added { OwnsAdded pass.start (S.history result) pass.own }
         ensures keys { OwnsKeys S.key (S.history result) pass.own }
     {
         let TurnLock { table } = self;

@@ -11,7 +11,7 @@ pub(crate) type LockSeat<S> = Seat<
     View<<S as Historied>::Entry, <S as Historied>::Origin>,
 >;
 
-/// Leave to take turns at one lock. It has no bytes. Contracts see which lock, the history that the pass has seen, the places in it that were added through the pass, its shares of 1,024, and the origin of the state with which the lock was made.
+/// Leave to take turns at one lock. It has no bytes. Contracts see which lock, the history that the pass has seen, the places in it that were added through the pass, its shares of 1,024, and the history and the origin of the state with which the lock was made.
 /// A pass that is dropped takes its shares with it, and the lock can't be closed any more.
 #[derive(Drop)]
 pub struct Pass<S: Historied> {
@@ -24,7 +24,7 @@ impl<S: Historied> Model for Pass<S> {
 
     ghost Value = { Known S.Entry S.Origin };
 
-    ghost view = { λ p. record { lock = p.seat.table_id; seen = p.seat.me.0.seen; own = p.seat.me.0.own; shares = p.seat.me.0.shares; origin = p.seat.me.0.origin } };
+    ghost view = { λ p. record { lock = p.seat.table_id; seen = p.seat.me.0.seen; own = p.seat.me.0.own; shares = p.seat.me.0.shares; start = p.seat.me.0.start; origin = p.seat.me.0.origin } };
 
     ghost invariant = { λ p. (p.seat.me.1 ≡ []) × (p.seat.me.0.held ≡ None) × (0 < p.seat.me.0.shares) };
 }
@@ -42,7 +42,7 @@ impl<S: Historied> Model for Hold<S> {
     ghost Value = { Holding S.Entry S.Origin };
 
     ghost view = { λ h. record {
-      pass = record { lock = h.seat.table_id; seen = h.seat.me.0.seen; own = h.seat.me.0.own; shares = h.seat.me.0.shares; origin = h.seat.me.0.origin };
+      pass = record { lock = h.seat.table_id; seen = h.seat.me.0.seen; own = h.seat.me.0.own; shares = h.seat.me.0.shares; start = h.seat.me.0.start; origin = h.seat.me.0.origin };
       history = unwrap_or h.seat.me.0.held [];
     } };
 
@@ -53,5 +53,6 @@ impl<S: Historied> Model for Hold<S> {
 pub struct Turn<S: Historied> {
     /// The state. Its history may grow.
     pub state: S,
-    pub(crate) hold: Hold<S>,
+    /// What contracts see of the turn. It changes nothing at run time.
+    pub hold: Hold<S>,
 }

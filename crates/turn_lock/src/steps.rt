@@ -11,7 +11,7 @@ use std::snapshot::Snapshot;
 pub(crate) struct TurnRule;
 
 impl<S: Historied> TableRule<Option<S>, View<S::Entry, S::Origin>, Snapshot<S>> for TurnRule {
-    ghost holds = { λ start. Turns S.history S.origin S.key (S.origin start.value) };
+    ghost holds = { λ start. Turns S.history S.origin S.key record { history = S.history start.value; origin = S.origin start.value } };
 
     ghost first = { λ start. first_view (S.history start.value) (S.origin start.value) };
 }
@@ -27,7 +27,7 @@ impl<S: Historied> Play<Option<S>, View<S::Entry, S::Origin>> for Seize {
 pub(crate) struct Raise;
 
 impl<S: Historied> Play<Option<S>, View<S::Entry, S::Origin>> for Raise {
-    ghost then = { Raises S.history };
+    ghost then = { Raises S.history S.key };
 }
 
 // Opens the gate, and brings the state home.
@@ -47,8 +47,8 @@ impl<S, E, O> Play<Option<S>, View<E, O>> for Plan {
 // Loads the length of the history.
 pub(crate) struct Look;
 
-impl<S, E, O> Play<Option<S>, View<E, O>> for Look {
-    ghost then = { Looks };
+impl<S: Historied> Play<Option<S>, View<S::Entry, S::Origin>> for Look {
+    ghost then = { Looks S.key };
 }
 
 pub(crate) struct Part;

@@ -10,6 +10,8 @@ pub struct View<E, O> {
     pub own: Numbers,
     /// How many of the lock's shares the pass has. With none it is spent.
     pub shares: u64,
+    /// The history with which the lock was made.
+    pub start: Sequence<E>,
     /// The origin of the state with which the lock was made, and none once the pass is spent.
     pub origin: Option<O>,
     /// The counted history, while the pass holds the gate.
@@ -18,4 +20,8 @@ pub struct View<E, O> {
     pub planned: u64,
     /// Of the two lists that the last join brought together, the shorter, with which `seen` begins.
     pub shorter: Sequence<E>,
+    /// What the other pass of the last join had as the history with which the lock was made.
+    pub other_start: Sequence<E>,
+    /// And as the origin.
+    pub other_origin: Option<O>,
 }

@@ -1,4 +1,6 @@
 -- A map of the proofs, by topic; what is proved of one function stands in the folder of its module.
+-- AboutAdditions: unifiers and matchers add no symbols and no variables.
+pub mod AboutAdditions
 -- AboutClasses: unifying by classes of cells.
 pub mod AboutClasses
 -- AboutEquations: unifying by equations, and what is solved.

@@ -20,4 +20,5 @@ pub mod Renaming
 pub mod Clashing
 pub mod Laws
 pub mod SharedLaws
+pub mod Additions
 pub mod Examples

@@ -11,6 +11,7 @@ ghost use Rattle.unifier.specs.Renaming.{AreRenamed, fits, is_within, renamed};
 ghost use Rattle.unifier.specs.Sizes.{stopped};
 ghost use Rattle.unifier.specs.Laws.{AreFunctionPairs, are_of_one_kind};
 ghost use Rattle.unifier.specs.SharedLaws.{IsAfterBoth};
+ghost use Rattle.unifier.specs.Additions.{IsSubtermOf, is_variable_of, stands};
 ghost use Rattle.unifier.specs.Examples.{example};
 
 /// Variables of two sides, and what is below their counts.
@@ -66,4 +67,14 @@ pub fn law_examples()
     ensures after_both { IsAfterBoth (x 0 ∷ []) (f₂ (x 0) b ∷ []) all_a 1 1 all_a (λ v. f₂ a b) }
     ensures function_pair { AreFunctionPairs is_predicate ((0, f₂ a (x 1)) ∷ []) }
     ensures predicate_pair { AreFunctionPairs is_predicate ((0, (p a).left) ∷ []) → ⊥ }
+{}
+
+/// The symbols of a tree, which are 2 for b and 4 for f; the variables of two terms; and a subterm.
+pub fn addition_examples()
+    ensures stands_there { IsTrue (stands 2 0 (f₂ (x 0) b)) }
+    ensures other_arguments { IsFalse (stands 4 1 (f₂ (x 0) b)) }
+    ensures left_variable { IsTrue (is_variable_of true (f₂ (x 0) b) (f₂ a (x 1)) 0) }
+    ensures right_variable { IsTrue (is_variable_of true (f₂ (x 0) b) (f₂ a (x 1)) 3) }
+    ensures no_variable { IsFalse (is_variable_of true (f₂ (x 0) b) (f₂ a (x 1)) 1) }
+    ensures subterm { IsSubtermOf b (f₂ (x 0) b) }
 {}

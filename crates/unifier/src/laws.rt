@@ -1,5 +1,13 @@
 // The laws of unifiers: each is the contract of a function without arguments and with an empty body.
 
+ghost use Rattle.unifier.specs.Additions.{
+  FurtherTermsAreSubterms,
+  MatchersPutSubterms,
+  SubtermsAddNothing,
+  UnifiersAddNoSymbols,
+  UnifiersAddNoVariables,
+  UnifiersApartAddNoSymbols,
+};
 ghost use Rattle.unifier.specs.Laws.{
   MatchersPutFunctionTerms,
   UnifiersApartPutFunctionTerms,
@@ -26,6 +34,25 @@ pub fn unifiers_put_function_terms()
 /// `Matched::subst`.
 pub fn matchers_put_function_terms()
     ensures { MatchersPutFunctionTerms }
+{}
+
+/// A most general unifier puts in no symbols but those of the two terms.
+pub fn unifiers_add_no_symbols()
+    ensures together { UnifiersAddNoSymbols }
+    ensures apart { UnifiersApartAddNoSymbols }
+{}
+
+/// What `unify` finds puts in, for the variables of the two terms, no variables but theirs.
+pub fn unifiers_add_no_variables()
+    ensures { UnifiersAddNoVariables }
+{}
+
+/// A matcher puts in subterms of the target for the variables of the pattern, and so do the pairs that `match_onto` and `extend` add.
+/// These have no symbols and no variables but the target's.
+pub fn matchers_put_subterms()
+    ensures variables { MatchersPutSubterms }
+    ensures pairs { FurtherTermsAreSubterms }
+    ensures nothing_added { SubtermsAddNothing }
 {}
 
 /// The terms that `Bindings::terms` gives are those of the unifier by names that can be undone; those of `Bindings::substs` are so too,

@@ -118,8 +118,7 @@ impl UnitIndex {
         ensures { IfOk result (λ numbers. HasCandidates self.now (lent_of literal.entry) numbers) }
     {
         let mut found = self.lefts.generalisations(literal.left)?.into_vec();
-        let others = self.lefts.generalisations(literal.right)?;
-        found.extend_from_slice(others.as_slice())?;
+        self.lefts.push_generalisations(literal.right, &mut found)?;
         Ok(Numbers::from_vec(found))
     }
 }

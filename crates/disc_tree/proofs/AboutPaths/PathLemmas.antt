@@ -31,7 +31,7 @@ and-assoc : (a b c : Bool) → (a && (b && c)) ≡ ((a && b) && c)
 and-assoc true b c = refl
 and-assoc false b c = refl
 
-compatible-lengths :
+pub compatible-lengths :
     (e q : Bool) (ts us : Trees) → (length (list_of ts) == length (list_of us)) ≡ false → all_compatible_by e q ts us ≡ false
 compatible-lengths e q no_trees no_trees h = absurd (let wrong : true ≡ false = grind (arith, nat_tests) in cc)
 compatible-lengths e q no_trees (tree_then u us) h = refl

@@ -8,7 +8,7 @@ use Rattle.fol_base.specs.Compatible.{compatible_by}
 use Rattle.disc_tree.specs.declared.label.Label.{Label}
 use Rattle.disc_tree.specs.declared.label.Label.TheVariants.{Star, Symbol}
 use Rattle.disc_tree.specs.Path.{head, arity, fits, same_label}
-use Rattle.disc_tree.specs.Entries.{numbers_where}
+use Rattle.disc_tree.specs.Entries.{IsBeginning, numbers_where}
 use Rattle.disc_tree.specs.Rows.{Row, Child, here, below, all_below, rows, rows_at, found_in, numbers_of, IsBefore, Rise, IsChildAt, entries_of, HavePaths}
 use Rattle.disc_tree.proofs.AboutPaths.LabelLemmas.{same-label-is, after-not-same}
 use Rattle.disc_tree.proofs.AboutPaths.SlotLemmas.{is_before-weaker}
@@ -198,12 +198,12 @@ symbol-read e q g us ts ((Symbol f n, rs) ∷ cs) b r =
     (sym (cond-false (same_label (Symbol f n) (Symbol g (length (list_of us)))) rs (rows_at (Symbol g (length (list_of us))) cs) other)))
     (cases_Bool (same_label (Symbol f n) (Symbol g (length (list_of us)))))
 
-no-star : (cs : List Child) → IsBefore Star cs → rows_at Star cs ≡ []
+pub no-star : (cs : List Child) → IsBefore Star cs → rows_at Star cs ≡ []
 no-star [] b = refl
 no-star ((Star, rs) ∷ cs) b = cc
 no-star ((Symbol f n, rs) ∷ cs) b = no-star cs b.1
 
-below-symbols : (f n : ℕ) (rs : List Row) (cs : List Child) → Rise ((Symbol f n, rs) ∷ cs) → IsBefore Star ((Symbol f n, rs) ∷ cs)
+pub below-symbols : (f n : ℕ) (rs : List Row) (cs : List Child) → Rise ((Symbol f n, rs) ∷ cs) → IsBefore Star ((Symbol f n, rs) ∷ cs)
 below-symbols f n rs cs r = (refl, is_before-weaker Star (Symbol f n) cs refl r.0)
 
 application-read-below :
@@ -363,3 +363,19 @@ found-compatible e q u (r ∷ rs) h =
 pub numbers-append : (xs ys : List (Tree × ℕ)) → numbers_of (xs ++ ys) ≡ numbers_of xs ++ numbers_of ys
 numbers-append [] ys = refl
 numbers-append (x ∷ xs) ys = ap (λ ns. x.1 ∷ ns) (numbers-append xs ys)
+
+-- ---- the list that is lent
+
+pub begins-more : (xs ys : List ℕ) → IsBeginning xs (xs ++ ys)
+begins-more [] ys = refl
+begins-more (x ∷ xs) ys = ap (λ (zs : List ℕ). x ∷ zs) (begins-more xs ys)
+
+pub begins-trans : (xs ys zs : List ℕ) → IsBeginning xs ys → IsBeginning ys zs → IsBeginning xs zs
+begins-trans [] ys zs h k = refl
+begins-trans (x ∷ xs) [] zs h k = absurd cc
+begins-trans (x ∷ xs) (y ∷ ys) [] h k = absurd cc
+begins-trans (x ∷ xs) (y ∷ ys) (z ∷ zs) h k =
+    let first : z ≡ x = cc in
+    let front : take (length xs) ys ≡ xs = cc in
+    let more : take (length ys) zs ≡ ys = cc in
+    ap₂ (λ (n : ℕ) (ns : List ℕ). n ∷ ns) first (begins-trans xs ys zs front more)

@@ -285,7 +285,7 @@ reads-least (t ∷ ts) (Symbol f n ∷ p) xs ps d all =
     ))
     (cases_Bool (same_label (Symbol f n) (head t)))
 
--- ---- the two bounds
+-- ---- the two bounds: a step each for the labels that are read and their end, and one for the entries
 
 pub all-at-length : (p : List Label) (xs : List (Tree × ℕ)) → length (all_at p xs) ≡ length xs
 all-at-length p [] = refl
@@ -293,9 +293,13 @@ all-at-length p (x ∷ xs) = ap suc (all-at-length p xs)
 
 pub tail-stays :
     (ts : List Tree) (p : List Label) (xs : List (Tree × ℕ)) (before after : ℕ)
-    → 1 ≤ length (all_at p xs) → after ≤ before + reads ts p → StaysWithin ts (all_at p xs) before after
+    → 1 ≤ length (all_at p xs) → after ≤ before + 1 + reads ts p → StaysWithin ts (all_at p xs) before after
 tail-stays ts p xs before after some h ps empty has =
-    omega (arith, h, reads-most ts p xs ps (omega (arith, some, all-at-length p xs)) empty has)
+    omega (arith, h, has-one ps empty, reads-most ts p xs ps (omega (arith, some, all-at-length p xs)) empty has)
+  where
+    has-one : (qs : List (List Label)) → IsIn [] qs → 1 ≤ length qs
+    has-one [] h = absurd h
+    has-one (q ∷ qs) h = omega arith
 
 pub tail-visits :
     (ts : List Tree) (p : List Label) (xs : List (Tree × ℕ)) (before after : ℕ)
@@ -304,11 +308,11 @@ tail-visits ts p xs before after h ps d all = omega (arith, h, reads-least ts p 
 
 pub stays-below :
     (d : Below) (t : Tail) (p : List Label) (ts : List Tree) (before after : ℕ)
-    → d ≡ Single t → p ≡ t.labels.items → 1 ≤ length (rows_below d) → after ≤ before + reads ts p → StaysWithin ts (rows_below d) before after
+    → d ≡ Single t → p ≡ t.labels.items → 1 ≤ length (rows_below d) → after ≤ before + 1 + reads ts p → StaysWithin ts (rows_below d) before after
 stays-below d t p ts before after is same some h =
     subst (λ (x : Below). StaysWithin ts (rows_below x) before after) (sym is)
     (tail-stays ts t.labels.items t.entries before after (subst (λ (x : Below). 1 ≤ length (rows_below x)) is some)
-    (subst (λ (q : List Label). after ≤ before + reads ts q) same h))
+    (subst (λ (q : List Label). after ≤ before + 1 + reads ts q) same h))
 
 pub visits-below :
     (d : Below) (t : Tail) (p : List Label) (ts : List Tree) (before after : ℕ)

@@ -12,15 +12,15 @@ abbrev symbol_of : Tree → ℕ
 symbol_of (variable v) = v
 symbol_of (application f ts) = f
 
-abbrev trees_below : Tree → Trees
+abbrev pub trees_below : Tree → Trees
 trees_below (variable v) = no_trees
 trees_below (application f ts) = ts
 
-abbrev first_of : Trees → Tree
+abbrev pub first_of : Trees → Tree
 first_of no_trees = variable 0
 first_of (tree_then t ts) = t
 
-abbrev rest_of : Trees → Trees
+abbrev pub rest_of : Trees → Trees
 rest_of no_trees = no_trees
 rest_of (tree_then t ts) = ts
 

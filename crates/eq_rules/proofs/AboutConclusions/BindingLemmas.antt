@@ -1,8 +1,8 @@
 -- What the terms of a most general unifier are like, and so what a step binds: of the kind of function terms, no larger than what is
 -- unified, and of its symbols alone.
-use Rattle.std.proofs.Common.{◌≡◌, ◌⊎◌, ℕ, suc, ◌+◌, ◌<◌, ◌≤◌, Bool, true, ◌==◌, cond, nat_le, List, [], ◌∷◌, length, map, get_or, refl, ap, ap₂, sym, ◌∙◌, inl, inr, ⊎_elim, arith}
+use Rattle.std.proofs.Common.{◌≡◌, ◌⊎◌, ℕ, suc, ◌+◌, ◌<◌, ◌≤◌, Bool, true, ◌&&◌, ◌||◌, ◌==◌, cond, nat_le, List, [], ◌∷◌, length, map, get_or, refl, ap, ap₂, sym, ◌∙◌, inl, inr, ⊎_elim, arith}
 use Rattle.std.specs.List.{list_all}
-use Rattle.std.proofs.lemmas.Bool.{and_parts, and_from, cond-true, cond-false, cases_Bool, eq-eqb, eqb-true, le-leb}
+use Rattle.std.proofs.lemmas.Bool.{and_parts, and_from, or_left, or_right, or_cases, cond-true, cond-false, cases_Bool, eq-eqb, eqb-true, le-leb, true≢false}
 use Rattle.fol_base.specs.Tree.{Tree, variable, application, Trees, no_trees, tree_then, trees_count, tree_size, trees_size}
 use Rattle.fol_base.specs.Instance.{Substitution, instance, instances, substitution}
 use Rattle.fol_base.specs.Canonical.{renaming}
@@ -12,6 +12,8 @@ use Rattle.fol_base.proofs.AboutInstances.InstanceLemmas.{trees_count-instances}
 use Rattle.fol_base.proofs.AboutTerms.KindLemmas.{is_function_term-instance}
 use Rattle.fol_base.proofs.WorkedExamples.TestLemmas.{list_all-map_from}
 use Rattle.kernel_steps.specs.Symbols.{symbols_pass, all_symbols_pass}
+use Rattle.unifier.specs.Additions.{stands, stands_in_any}
+use Rattle.unifier.proofs.AboutAdditions.SymbolLemmas.{cleaned, adds-no_symbol}
 use Rattle.eq_rules.specs.Concluding.{IsGeneralBelow}
 use Rattle.kernel_steps.specs.Lines.{is_small_term}
 use Rattle.eq_rules.proofs.AboutConclusions.WideLemmas.{renamed-size}
@@ -146,76 +148,52 @@ pub bound_symbols :
     → ((v : ℕ) → v < length terms → symbols_pass test (substitution terms v) ≡ true) → list_all (symbols_pass test) bind ≡ true
 bound_symbols test order terms bind renamed pass = bound_pass (symbols_pass test) order terms bind (renamed-passes test order) renamed pass
 
--- each subterm with a symbol at its head that doesn't pass becomes a variable
+-- a symbol of a tree that passes passes
 mutual
-  pub cleaned : SymbolTest → Tree → Tree
-  cleaned test (variable v) = variable v
-  cleaned test (application f ts) = cond (test f (trees_count ts)) (application f (all_cleaned test ts)) (variable 0)
-
-  all_cleaned : SymbolTest → Trees → Trees
-  all_cleaned test no_trees = no_trees
-  all_cleaned test (tree_then t ts) = tree_then (cleaned test t) (all_cleaned test ts)
-
-all_cleaned-count : (test : SymbolTest) (ts : Trees) → trees_count (all_cleaned test ts) ≡ trees_count ts
-unfolding all_cleaned
-all_cleaned-count test no_trees = refl
-all_cleaned-count test (tree_then t ts) = ap (λ n. 1 + n) (all_cleaned-count test ts)
-
-mutual
-  unfolding cleaned all_cleaned
-
-  pub cleaned-passes : (test : SymbolTest) (t : Tree) → symbols_pass test (cleaned test t) ≡ true
-  cleaned-passes test (variable v) = refl
-  cleaned-passes test (application f ts) =
+  symbol-passes : (test : SymbolTest) (f n : ℕ) (t : Tree) → symbols_pass test t ≡ true → stands f n t ≡ true → test f n ≡ true
+  symbol-passes test f n (variable v) h there = absurd (true≢false (sym there))
+  symbol-passes test f n (application g ts) h there =
+      let both = and_parts (test g (trees_count ts)) (all_symbols_pass test ts) h in
       ⊎_elim
-      (λ yes_.
-      ap (symbols_pass test) (cond-true (test f (trees_count ts)) (application f (all_cleaned test ts)) (variable 0) yes_)
-      ∙ and_from (test f (trees_count (all_cleaned test ts))) (all_symbols_pass test (all_cleaned test ts))
-      (ap (test f) (all_cleaned-count test ts) ∙ yes_) (all_cleaned-pass test ts))
-      (λ no_. ap (symbols_pass test) (cond-false (test f (trees_count ts)) (application f (all_cleaned test ts)) (variable 0) no_))
-      (cases_Bool (test f (trees_count ts)))
+      (λ head.
+      let same = and_parts (f == g) (n == trees_count ts) head in
+      ap₂ test (eqb-true f g same.0) (eqb-true n (trees_count ts) same.1) ∙ both.0)
+      (λ later. symbol-passes-among test f n ts both.1 later)
+      (or_cases ((f == g) && (n == trees_count ts)) (stands_in_any f n ts) there)
 
-  all_cleaned-pass : (test : SymbolTest) (ts : Trees) → all_symbols_pass test (all_cleaned test ts) ≡ true
-  all_cleaned-pass test no_trees = refl
-  all_cleaned-pass test (tree_then t ts) =
-      and_from (symbols_pass test (cleaned test t)) (all_symbols_pass test (all_cleaned test ts)) (cleaned-passes test t) (all_cleaned-pass test ts)
-
--- what is put into a tree that passes is cleaned with the instance
-mutual
-  unfolding cleaned all_cleaned
-
-  pub cleaned-instance :
-      (test : SymbolTest) (σ : Substitution) (t : Tree)
-      → symbols_pass test t ≡ true → instance (λ v. cleaned test (σ v)) t ≡ cleaned test (instance σ t)
-  cleaned-instance test σ (variable v) h = refl
-  cleaned-instance test σ (application f ts) h =
-      let both = and_parts (test f (trees_count ts)) (all_symbols_pass test ts) h in
-      ap (application f) (all_cleaned-instance test σ ts both.1)
-      ∙ sym (cond-true (test f (trees_count (instances σ ts))) (application f (all_cleaned test (instances σ ts))) (variable 0)
-      (ap (test f) (trees_count-instances σ ts) ∙ both.0))
-
-  all_cleaned-instance :
-      (test : SymbolTest) (σ : Substitution) (ts : Trees)
-      → all_symbols_pass test ts ≡ true → instances (λ v. cleaned test (σ v)) ts ≡ all_cleaned test (instances σ ts)
-  all_cleaned-instance test σ no_trees h = refl
-  all_cleaned-instance test σ (tree_then t ts) h =
+  symbol-passes-among : (test : SymbolTest) (f n : ℕ) (ts : Trees) → all_symbols_pass test ts ≡ true → stands_in_any f n ts ≡ true → test f n ≡ true
+  symbol-passes-among test f n no_trees h there = absurd (true≢false (sym there))
+  symbol-passes-among test f n (tree_then t ts) h there =
       let both = and_parts (symbols_pass test t) (all_symbols_pass test ts) h in
-      ap₂ tree_then (cleaned-instance test σ t both.0) (all_cleaned-instance test σ ts both.1)
+      ⊎_elim (λ first. symbol-passes test f n t both.0 first) (λ later. symbol-passes-among test f n ts both.1 later)
+      (or_cases (stands f n t) (stands_in_any f n ts) there)
 
--- a tree passes where an instance does
+-- a tree passes where each of its symbols does
 mutual
-  pub before-passes : (test : SymbolTest) (σ : Substitution) (t : Tree) → symbols_pass test (instance σ t) ≡ true → symbols_pass test t ≡ true
-  before-passes test σ (variable v) h = refl
-  before-passes test σ (application f ts) h =
-      let both = and_parts (test f (trees_count (instances σ ts))) (all_symbols_pass test (instances σ ts)) h in
-      and_from (test f (trees_count ts)) (all_symbols_pass test ts)
-      (ap (test f) (sym (trees_count-instances σ ts)) ∙ both.0) (all_before-pass test σ ts both.1)
+  passes-from : (test : SymbolTest) (t : Tree) → ((f n : ℕ) → stands f n t ≡ true → test f n ≡ true) → symbols_pass test t ≡ true
+  passes-from test (variable v) each = refl
+  passes-from test (application g ts) each =
+      and_from (test g (trees_count ts)) (all_symbols_pass test ts)
+      (each g (trees_count ts)
+      (or_left ((g == g) && (trees_count ts == trees_count ts)) (stands_in_any g (trees_count ts) ts)
+      (and_from (g == g) (trees_count ts == trees_count ts) (eq-eqb g g refl) (eq-eqb (trees_count ts) (trees_count ts) refl))))
+      (all-pass-from test ts (λ f n there. each f n (or_right ((f == g) && (n == trees_count ts)) (stands_in_any f n ts) there)))
 
-  all_before-pass : (test : SymbolTest) (σ : Substitution) (ts : Trees) → all_symbols_pass test (instances σ ts) ≡ true → all_symbols_pass test ts ≡ true
-  all_before-pass test σ no_trees h = refl
-  all_before-pass test σ (tree_then t ts) h =
-      let both = and_parts (symbols_pass test (instance σ t)) (all_symbols_pass test (instances σ ts)) h in
-      and_from (symbols_pass test t) (all_symbols_pass test ts) (before-passes test σ t both.0) (all_before-pass test σ ts both.1)
+  all-pass-from : (test : SymbolTest) (ts : Trees) → ((f n : ℕ) → stands_in_any f n ts ≡ true → test f n ≡ true) → all_symbols_pass test ts ≡ true
+  all-pass-from test no_trees each = refl
+  all-pass-from test (tree_then t ts) each =
+      and_from (symbols_pass test t) (all_symbols_pass test ts)
+      (passes-from test t (λ f n there. each f n (or_left (stands f n t) (stands_in_any f n ts) there)))
+      (all-pass-from test ts (λ f n there. each f n (or_right (stands f n t) (stands_in_any f n ts) there)))
+
+-- what has the symbols of two trees alone passes where both do
+pub added-passes :
+    (test : SymbolTest) (s t put : Tree) → symbols_pass test s ≡ true → symbols_pass test t ≡ true
+    → ((f n : ℕ) → stands f n put ≡ true → (stands f n s || stands f n t) ≡ true) → symbols_pass test put ≡ true
+added-passes test s t put s_passes t_passes of_them =
+    passes-from test put (λ f n there.
+    ⊎_elim (λ in_s. symbol-passes test f n s s_passes in_s) (λ in_t. symbol-passes test f n t t_passes in_t)
+    (or_cases (stands f n s) (stands f n t) (of_them f n there)))
 
 -- a most general unifier brings in no symbols
 pub unified_symbols :
@@ -224,7 +202,7 @@ pub unified_symbols :
     → (v : ℕ) → v < length terms → symbols_pass test (substitution terms v) ≡ true
 unified_symbols test s t terms general s_passes t_passes v within =
     let σ : Substitution = substitution terms in
-    let by =
-    general.is_general (λ w. cleaned test (σ w))
-    (cleaned-instance test σ s s_passes ∙ ap (cleaned test) general.unifies ∙ sym (cleaned-instance test σ t t_passes)) in
-    before-passes test by.0 (σ v) (ap (symbols_pass test) (sym (by.1 v within)) ∙ cleaned-passes test (σ v))
+    added-passes test s t (σ v) s_passes t_passes (λ f n there.
+    adds-no_symbol s t σ σ (σ v) f n general.unifies
+    (λ unifies. let by = general.is_general (λ w. cleaned f n (σ w)) unifies in (by.0, by.1 v within))
+    there)

@@ -1,13 +1,15 @@
--- Steps of loops over the literals of a clause.
-use Rattle.std.proofs.Common.{◌≡◌, ℕ, ◌+◌, ◌≤◌, Bool, true, false, ◌&&◌, ◌||◌, List, [], ◌∷◌, ◌++◌, Some, slice_get, take, refl, ap, sym, ◌∙◌, subst, ⊎_elim, arith}
-use Rattle.std.specs.Prelude.{sum_by}
+-- Steps of loops over the literals of a clause, and of its instances.
+use Rattle.std.proofs.Common.{◌≡◌, ℕ, ◌+◌, ◌≤◌, Bool, true, false, ◌&&◌, ◌||◌, List, [], ◌∷◌, ◌++◌, Some, slice_get, map, take, refl, ap, sym, ◌∙◌, subst, ⊎_elim, arith}
+use Rattle.std.specs.Prelude.{sum_by, option_map}
 use Rattle.std.specs.List.{list_any, list_all}
 use Rattle.std.proofs.lemmas.Bool.{and_from, or_from, or_left, or_right, false_from_ne_true, true≢false}
-use Rattle.std.proofs.lemmas.List.{take_more}
+use Rattle.std.proofs.lemmas.List.{take_more, map-append}
 use Rattle.std.proofs.lemmas.List.Folds.{list_all-append, list_any-append}
 use Rattle.std.proofs.lemmas.List.Sums.{sum_by-cons}
-use Rattle.std.proofs.lemmas.Option.{slice_get_within, get_or_from_slice_get}
-use Rattle.fol_base.specs.Clause.{TreeLiteral, literal_size}
+use Rattle.std.proofs.lemmas.Option.{slice_get-map, slice_get_within, get_or_from_slice_get}
+use Rattle.fol_base.specs.Instance.{Substitution}
+use Rattle.fol_base.specs.Clause.{TreeLiteral, literal_size, literal_instance}
+use Rattle.fol_base.specs.Ground.{literals_instance}
 use Rattle.fol_base.specs.Multiset.{times}
 use Rattle.fol_base.proofs.AboutClauses.CountLemmas.{times-cons, times-append}
 use Rattle.fol_base.specs.Order.{equivalent_literals, literal_greater, compare_literals}
@@ -31,25 +33,39 @@ take-more xs i x e =
 pub In-index : {X : Type 0} (xs : List X) (i : ℕ) (x : X) → slice_get xs i ≡ Some x → In x xs
 In-index xs i x e = subst (λ y. In y xs) (get_or_from_slice_get xs i x x e) (In-at xs i x (slice_get_within xs i x e))
 
+-- ---- the members of a list under a map, as the literals of a clause under a substitution
+
+pub mapped-item : {X Y : Type 0} (f : X → Y) (xs : List X) (i : ℕ) (x : X) → slice_get xs i ≡ Some x → slice_get (map f xs) i ≡ Some (f x)
+mapped-item f xs i x e = slice_get-map f xs i ∙ ap (option_map f) e
+
+mapped-more :
+    {X Y : Type 0} (f : X → Y) (xs : List X) (i : ℕ) (x : X) → slice_get xs i ≡ Some x
+    → map f (take (i + 1) xs) ≡ map f (take i xs) ++ f x ∷ []
+mapped-more f xs i x e = ap (map f) (take-more xs i x e) ∙ map-append f (take i xs) (x ∷ [])
+
+In-mapped : {X Y : Type 0} (f : X → Y) (xs : List X) (i : ℕ) (x : X) → slice_get xs i ≡ Some x → In (f x) (map f xs)
+In-mapped f xs i x e = In-index (map f xs) i (f x) (mapped-item f xs i x e)
+
 pub all-more :
-    {X : Type 0} (p : X → Bool) (xs : List X) (i : ℕ) (x : X) → slice_get xs i ≡ Some x
-    → list_all p (take i xs) ≡ true → p x ≡ true → list_all p (take (i + 1) xs) ≡ true
-all-more p xs i x e before here =
-    ap (list_all p) (take-more xs i x e)
-    ∙ list_all-append p (take i xs) (x ∷ [])
-    ∙ and_from (list_all p (take i xs)) (p x && true) before (and_from (p x) true here refl)
+    {X Y : Type 0} (p : Y → Bool) (f : X → Y) (xs : List X) (i : ℕ) (x : X) → slice_get xs i ≡ Some x
+    → list_all p (map f (take i xs)) ≡ true → p (f x) ≡ true → list_all p (map f (take (i + 1) xs)) ≡ true
+all-more p f xs i x e before here =
+    ap (list_all p) (mapped-more f xs i x e)
+    ∙ list_all-append p (map f (take i xs)) (f x ∷ [])
+    ∙ and_from (list_all p (map f (take i xs))) (p (f x) && true) before (and_from (p (f x)) true here refl)
 
 pub all-stop :
-    {X : Type 0} (p : X → Bool) (xs : List X) (i : ℕ) (x : X) → slice_get xs i ≡ Some x → p x ≡ false → false ≡ list_all p xs
-all-stop p xs i x e here = sym (some-fails p xs x (In-index xs i x e) here)
+    {X Y : Type 0} (p : Y → Bool) (f : X → Y) (xs : List X) (i : ℕ) (x : X) → slice_get xs i ≡ Some x
+    → p (f x) ≡ false → false ≡ list_all p (map f xs)
+all-stop p f xs i x e here = sym (some-fails p (map f xs) (f x) (In-mapped f xs i x e) here)
 
 pub any-more :
-    {X : Type 0} (p : X → Bool) (xs : List X) (i : ℕ) (x : X) → slice_get xs i ≡ Some x
-    → list_any p (take i xs) ≡ false → p x ≡ false → list_any p (take (i + 1) xs) ≡ false
-any-more p xs i x e before here =
-    ap (list_any p) (take-more xs i x e)
-    ∙ list_any-append p (take i xs) (x ∷ [])
-    ∙ or_from (list_any p (take i xs)) (p x || false) before (or_from (p x) false here refl)
+    {X Y : Type 0} (p : Y → Bool) (f : X → Y) (xs : List X) (i : ℕ) (x : X) → slice_get xs i ≡ Some x
+    → list_any p (map f (take i xs)) ≡ false → p (f x) ≡ false → list_any p (map f (take (i + 1) xs)) ≡ false
+any-more p f xs i x e before here =
+    ap (list_any p) (mapped-more f xs i x e)
+    ∙ list_any-append p (map f (take i xs)) (f x ∷ [])
+    ∙ or_from (list_any p (map f (take i xs))) (p (f x) || false) before (or_from (p (f x)) false here refl)
 
 In-any : {X : Type 0} (p : X → Bool) (xs : List X) (x : X) → In x xs → p x ≡ true → list_any p xs ≡ true
 In-any p [] x there h = absurd there
@@ -60,18 +76,19 @@ In-any p (y ∷ ys) x there h =
     there
 
 pub any-stop :
-    {X : Type 0} (p : X → Bool) (xs : List X) (i : ℕ) (x : X) → slice_get xs i ≡ Some x → p x ≡ true → true ≡ list_any p xs
-any-stop p xs i x e here = sym (In-any p xs x (In-index xs i x e) here)
+    {X Y : Type 0} (p : Y → Bool) (f : X → Y) (xs : List X) (i : ℕ) (x : X) → slice_get xs i ≡ Some x
+    → p (f x) ≡ true → true ≡ list_any p (map f xs)
+any-stop p f xs i x e here = sym (In-any p (map f xs) (f x) (In-mapped f xs i x e) here)
 
 pub times-more :
-    {X : Type 0} (same : X → X → Bool) (z : X) (xs : List X) (i : ℕ) (x : X) → slice_get xs i ≡ Some x
-    → times same z (take (i + 1) xs) ≡ times same z (take i xs) + bit (same z x)
-times-more same z xs i x e =
+    {X Y : Type 0} (same : Y → Y → Bool) (z : Y) (f : X → Y) (xs : List X) (i : ℕ) (x : X) → slice_get xs i ≡ Some x
+    → times same z (map f (take (i + 1) xs)) ≡ times same z (map f (take i xs)) + bit (same z (f x))
+times-more same z f xs i x e =
     omega (
       arith,
-      ap (times same z) (take-more xs i x e),
-      times-append same z (take i xs) (x ∷ []),
-      times-cons same z x [],
+      ap (times same z) (mapped-more f xs i x e),
+      times-append same z (map f (take i xs)) (f x ∷ []),
+      times-cons same z (f x) [],
     )
 
 -- a literal is no larger than its clause
@@ -85,6 +102,12 @@ In-size (m ∷ ls) l there =
 
 pub item-size : (ls : List TreeLiteral) (i : ℕ) (l : TreeLiteral) → slice_get ls i ≡ Some l → literal_size l ≤ sum_by literal_size ls
 item-size ls i l e = In-size ls l (In-index ls i l e)
+
+pub mapped-size :
+    (σ : Substitution) (ls : List TreeLiteral) (i : ℕ) (l : TreeLiteral) → slice_get ls i ≡ Some l
+    → literal_size (literal_instance σ l) ≤ sum_by literal_size (literals_instance σ ls)
+mapped-size σ ls i l e =
+    item-size (literals_instance σ ls) i (literal_instance σ l) (mapped-item (literal_instance σ) ls i l e)
 
 pub and-swap : (a b : Bool) → (a && b) ≡ (b && a)
 and-swap true true = refl

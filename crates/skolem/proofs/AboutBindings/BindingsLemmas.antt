@@ -97,6 +97,12 @@ pub found-place :
     → IsChained es heads → place ≡ place_in heads x → 0 < place → place - 1 < length es
 found-place es heads x place c p h = omega (arith, innermost-under x es (length es), c.innermost x, p, h)
 
+pub place-under :
+    (es : List Entry) (heads : List (VariableName × ℕ)) (bs : List Binding) (x : List ℕ) (place : ℕ)
+    → IsChained es heads → bindings_of es ≡ bs → place ≡ place_in heads x → place ≤ length bs
+place-under es heads bs x place c v p =
+    omega (arith, innermost-under x es (length es), c.innermost x, p, bindings-length es, ap length v)
+
 pub found-some :
     (es : List Entry) (heads : List (VariableName × ℕ)) (bs : List Binding) (x : List ℕ) (place : ℕ) (e : Entry)
     → IsChained es heads → bindings_of es ≡ bs → place ≡ place_in heads x → 0 < place → e ≡ get_or es (place - 1) no_entry

@@ -52,7 +52,7 @@ length-last [] x = omega arith
 length-last (y ∷ ys) x = omega (arith, length-last ys x)
 
 -- a list that begins with another keeps what that begins with
-take-take : {X : Type 0} (n m : ℕ) (xs : List X) → n ≤ m → take n (take m xs) ≡ take n xs
+pub take-take : {X : Type 0} (n m : ℕ) (xs : List X) → n ≤ m → take n (take m xs) ≡ take n xs
 take-take zero m xs h = refl
 take-take (suc n) zero xs h = absurd (omega (arith, h))
 take-take (suc n) (suc m) [] h = refl

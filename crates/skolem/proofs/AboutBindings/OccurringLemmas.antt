@@ -93,11 +93,11 @@ closed-then names i x b bs new all h e t n a m =
 
 -- ---- the variables of a formula are those in the terms of its free variables
 
-any-flat_map : {X Y : Type 0} (p : Y → Bool) (g : X → List Y) (xs : List X) → list_any p (flat_map g xs) ≡ list_any (λ x. list_any p (g x)) xs
+pub any-flat_map : {X Y : Type 0} (p : Y → Bool) (g : X → List Y) (xs : List X) → list_any p (flat_map g xs) ≡ list_any (λ x. list_any p (g x)) xs
 any-flat_map p g [] = refl
 any-flat_map p g (x ∷ xs) = list_any-append p (g x) (flat_map g xs) ∙ ap (λ t. list_any p (g x) || t) (any-flat_map p g xs)
 
-any-filter : {X : Type 0} (p r : X → Bool) (xs : List X) → list_any p (filter r xs) ≡ list_any (λ x. r x && p x) xs
+pub any-filter : {X : Type 0} (p r : X → Bool) (xs : List X) → list_any p (filter r xs) ≡ list_any (λ x. r x && p x) xs
 any-filter p r [] = refl
 any-filter p r (x ∷ xs) = by (r x) (any-filter p r xs)
   where
@@ -185,8 +185,8 @@ mutual
 
 pub arguments-found :
     (xs : List (List ℕ)) (f : FormulaTree) (env : Environment) (m : Made) (found occurs : List ℕ)
-    → occurs ≡ occurring f (with_closed xs env) → found ≡ made_in_order m.variables occurs
+    → ((v : ℕ) → list_any (λ w. v == w) occurs ≡ list_any (λ w. v == w) (occurring f (with_closed xs env)))
+    → found ≡ made_in_order m.variables occurs
     → found ≡ skolem_arguments (without_names xs (free_names f)) env m
 arguments-found xs f env m found occurs h e =
-    e ∙ ap (made_in_order m.variables) h
-    ∙ filter_agree _ _ (λ v. occurring-same v (quantified exists_some xs f) env) (numbers_from 0 m.variables)
+    e ∙ filter_agree _ _ (λ v. h v ∙ occurring-same v (quantified exists_some xs f) env) (numbers_from 0 m.variables)

@@ -91,7 +91,7 @@ steps-done n arguments names i p all h m =
 
 -- ---- the Skolem terms of one quantifier have the same arguments
 
-any-mono : {X : Type 0} (p q : X → Bool) (xs : List X) → ((x : X) → p x ≡ true → q x ≡ true) → list_any p xs ≡ true → list_any q xs ≡ true
+pub any-mono : {X : Type 0} (p q : X → Bool) (xs : List X) → ((x : X) → p x ≡ true → q x ≡ true) → list_any p xs ≡ true → list_any q xs ≡ true
 any-mono p q [] h k = cc
 any-mono p q (x ∷ xs) h k = by (p x) (q x) (h x) k (any-mono p q xs h)
   where

@@ -45,7 +45,7 @@ has-in_parts j (part ∷ parts) (suc p) h there =
     list_any-append (λ w. j == w) part (flat_map (λ ks. ks) parts)
     ∙ or_right (has_number j part) (has_number j (flat_map (λ ks. ks) parts)) (has-in_parts j parts p (omega (arith, h)) there)
 
-all-below : (n : ℕ) (ks : List ℕ) → ((j : ℕ) → j < n → has_number j ks ≡ true) → has_all_below n ks ≡ true
+pub all-below : (n : ℕ) (ks : List ℕ) → ((j : ℕ) → j < n → has_number j ks ≡ true) → has_all_below n ks ≡ true
 all-below zero ks each = refl
 all-below (suc n) ks each =
     and_from (has_number n ks) (has_all_below n ks) (each n (omega arith)) (all-below n ks (λ j h. each j (omega (arith, h))))
@@ -71,7 +71,7 @@ same-says true false e = absurd (true≢false e)
 same-says false true e = absurd (true≢false (sym e))
 same-says false false e = refl
 
-constant : (f : ℕ → Bool) (part : List ℕ) → ((j : ℕ) → has_number j part ≡ true → f j ≡ f (slice_index part 0)) → is_constant_on f part ≡ true
+pub constant : (f : ℕ → Bool) (part : List ℕ) → ((j : ℕ) → has_number j part ≡ true → f j ≡ f (slice_index part 0)) → is_constant_on f part ≡ true
 constant f [] same = refl
 constant f (k ∷ ks) same = all-pass (λ j. beq (f j) (f k)) ks (λ j h. same-says (f j) (f k) (same j (or_right (j == k) (has_number j ks) h)))
 

@@ -8,7 +8,8 @@ use Rattle.fol_base.specs.Instance.{Substitution, instance, substitution}
 use Rattle.fol_base.specs.Place.{argument, subterm}
 use Rattle.kernel_steps.specs.Symbols.{symbols_pass}
 use Rattle.kernel_steps.proofs.AboutCalls.SymbolLemmas.{passes-argument}
-use Rattle.eq_rules.proofs.AboutConclusions.BindingLemmas.{SymbolTest, changed, changed_there, smaller_or_same, variable_size, cleaned, cleaned-passes, cleaned-instance, before-passes}
+use Rattle.unifier.proofs.AboutAdditions.SymbolLemmas.{cleaned, adds-no_symbol}
+use Rattle.eq_rules.proofs.AboutConclusions.BindingLemmas.{SymbolTest, changed, changed_there, smaller_or_same, variable_size, added-passes}
 use Rattle.superpose.proofs.AboutSteps.ApartLemmas.{IsGeneralApart}
 
 -- of the two lists that a step binds
@@ -57,16 +58,16 @@ module _ (s t : Tree) (left right : List Tree) (general : IsGeneralApart s t lef
   -- ---- symbols
 
   module _ (test : SymbolTest) (s_passes : symbols_pass test s ≡ true) (t_passes : symbols_pass test t ≡ true) where
-    cleaned_unify : instance (λ v. cleaned test (σ v)) s ≡ instance (λ v. cleaned test (τ v)) t
-    cleaned_unify =
-        cleaned-instance test σ s s_passes ∙ ap (cleaned test) general.unifies ∙ sym (cleaned-instance test τ t t_passes)
-
     pub left_terms_pass : (v : ℕ) → v < length left → symbols_pass test (substitution left v) ≡ true
     left_terms_pass v within =
-        let by = general.is_general (λ w. cleaned test (σ w)) (λ w. cleaned test (τ w)) cleaned_unify in
-        before-passes test by.0 (σ v) (ap (symbols_pass test) (sym (by.1 v within)) ∙ cleaned-passes test (σ v))
+        added-passes test s t (σ v) s_passes t_passes (λ f n there.
+        adds-no_symbol s t σ τ (σ v) f n general.unifies
+        (λ unify. let by = general.is_general (λ w. cleaned f n (σ w)) (λ w. cleaned f n (τ w)) unify in (by.0, by.1 v within))
+        there)
 
     pub right_terms_pass : (v : ℕ) → v < length right → symbols_pass test (substitution right v) ≡ true
     right_terms_pass v within =
-        let by = general.is_general (λ w. cleaned test (σ w)) (λ w. cleaned test (τ w)) cleaned_unify in
-        before-passes test by.0 (τ v) (ap (symbols_pass test) (sym (by.2 v within)) ∙ cleaned-passes test (τ v))
+        added-passes test s t (τ v) s_passes t_passes (λ f n there.
+        adds-no_symbol s t σ τ (τ v) f n general.unifies
+        (λ unify. let by = general.is_general (λ w. cleaned f n (σ w)) (λ w. cleaned f n (τ w)) unify in (by.0, by.2 v within))
+        there)

@@ -11,7 +11,7 @@ use Rattle.tptp_tree.specs.Printing.{is_joined, is_bare}
 use Rattle.tptp_tree.specs.Causes.{Refusal, free_variable, too_deep, Scope, every_variable, bound_ones, scope_with, Surroundings, deeper, binding, begun, variable_cause, term_causes, arguments_causes, more_arguments_causes, more_variables_causes, unit_causes, units_causes, phrase_causes}
 use Rattle.tptp_tree.proofs.CanonicalLemmas.{WellFormula, WellFormulas, term_phrase, term_phrases, phrase_of, units_of, unit_of, negated_unit}
 use Rattle.signature.specs.Environment.{term_names, terms_names, without_names, free_names, all_free_names}
-use Rattle.tstp_writer.specs.Levels.{term_levels, arguments_levels, terms_levels, with_parentheses, formula_levels, operands_levels}
+use Rattle.tptp_tree.specs.Levels.{term_levels, arguments_levels, terms_levels, with_parentheses, formula_levels, operands_levels}
 use Rattle.tstp_writer.proofs.AboutPrinted.NoteLemmas.{AllNone}
 
 -- ---- variables that may stand

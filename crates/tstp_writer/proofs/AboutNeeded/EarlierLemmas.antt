@@ -20,7 +20,7 @@ use Rattle.tstp_writer.specs.Cone.{has_number, needs}
 use Rattle.tstp_writer.specs.ConeLaws.{DerivationsNeedEarlier}
 
 -- each number of a list that is looked up whole is there
-looked-up :
+pub looked-up :
     {X : Type 0} (look : ℕ → Option X) (ns : List ℕ) (xs : List X) (k : ℕ)
     → all_there (map look ns) ≡ Some xs → IsTrue (has_number ns k) → (x : X) × (look k ≡ Some x)
 looked-up look [] xs k there has = absurd (false≢true has)
@@ -78,7 +78,7 @@ take-take (suc n) (suc m) [] low = refl
 take-take (suc n) (suc m) (x ∷ xs) low = ap (λ ys. x ∷ ys) (take-take n m xs (omega (arith, low)))
 
 -- the name of a component line
-component-named : (name : ℕ) (step : Step) → IsTrue (is_component_of name step) → step ≡ Component name
+pub component-named : (name : ℕ) (step : Step) → IsTrue (is_component_of name step) → step ≡ Component name
 component-named name (Component k) is_one = ap Component (eqb-true k name is_one)
 component-named name _ is_one = absurd (false≢true is_one)
 

@@ -31,7 +31,7 @@ use Rattle.clausal_form.specs.DerivationLine.{LineTree}
 use Rattle.clausal_form.specs.DerivationTexts.{IsLineOf, AreLinesOf, phrases_lexemes, SpellsDerivation}
 use Rattle.tstp_writer.specs.SourceTexts.{is_number_name, name_term, source_term, source_text}
 use Rattle.tstp_writer.specs.LineTexts.{formula_name_text, line_text, lines_text}
-use Rattle.tstp_writer.specs.Levels.{formula_levels}
+use Rattle.tptp_tree.specs.Levels.{formula_levels}
 use Rattle.tstp_writer.specs.Printable.{IsShown, IsWritable, IsFormOf, IsPrintable}
 use Rattle.tstp_writer.proofs.AboutPrinted.TermTexts.{part_of, part-meant, part-front, comma, round, closer-ends, term-lexes}
 use Rattle.tstp_writer.proofs.AboutPrinted.NoteLemmas.{AllNone, Fine, term-fine}

@@ -181,10 +181,10 @@ abbrev pub AllPlaced : List ℕ → ℕ → List ℕ → Type 0
 AllPlaced all k [] = ⊤
 AllPlaced all k (p ∷ ps) = (place_in p all ≡ k) × AllPlaced all (k + 1) ps
 
-place-first : (p : ℕ) (ps : List ℕ) → place_in p (p ∷ ps) ≡ 0
+pub place-first : (p : ℕ) (ps : List ℕ) → place_in p (p ∷ ps) ≡ 0
 place-first p ps = ap (λ t. cond (not t) (1 + place_in p ps) 0) (eq-eqb p p refl)
 
-place-later : (n p : ℕ) (ps : List ℕ) → (n ≡ p → ⊥) → place_in p (n ∷ ps) ≡ 1 + place_in p ps
+pub place-later : (n p : ℕ) (ps : List ℕ) → (n ≡ p → ⊥) → place_in p (n ∷ ps) ≡ 1 + place_in p ps
 place-later n p ps apart = ap (λ t. cond (not t) (1 + place_in p ps) 0) (ne_eqb n p apart)
 
 placed-later : (n : ℕ) (all : List ℕ) (k : ℕ) (ps : List ℕ) → IsAbove n ps → AllPlaced all k ps → AllPlaced (n ∷ all) (k + 1) ps
@@ -198,7 +198,7 @@ pub rising-placed : (ns : List ℕ) → IsRising ns → AllPlaced ns 0 ns
 rising-placed [] h = tt
 rising-placed (n ∷ ns) h = (place-first n ns, placed-later n ns 0 ns h.0 (rising-placed ns h.1))
 
-above-has : (n : ℕ) (ms : List ℕ) (m : ℕ) → IsAbove n ms → has_number ms m ≡ true → n < m
+pub above-has : (n : ℕ) (ms : List ℕ) (m : ℕ) → IsAbove n ms → has_number ms m ≡ true → n < m
 above-has n [] m h has = absurd (false≢true has)
 above-has n (k ∷ ks) m h has =
     let low : n < k = h.0 in

@@ -1,4 +1,4 @@
--- The formula as which a clause without names is written is read as that clause, each variable as what its name stands for.
+-- The literals of a clause are read as they were written, each variable as what its name stands for.
 use mathlib.Core.Bool.{beq}
 use Rattle.std.proofs.Common.{◌≡◌, ℕ, zero, suc, ◌+◌, Bool, true, false, not, ◌==◌, List, [], ◌∷◌, ◌++◌, map, Option, Some, None, cond, refl, ap, ap₂, sym, ◌∙◌, subst, arith}
 use Rattle.std.specs.Prelude.{filter, filter_map, flat_map, slice_get, unwrap_or, option_map, is_none, is_some, if◌then◌else◌}
@@ -31,12 +31,12 @@ use Rattle.tstp_writer.proofs.AboutPrinted.VariableNames.{IsReadBy, AreReadBy, a
 
 -- ---- symbols by their numbers
 
-item-passes : {X : Type 0} (p : X → Bool) (xs : List X) (k : ℕ) (x : X) → slice_get xs k ≡ Some x → p x ≡ true → list_any p xs ≡ true
+pub item-passes : {X : Type 0} (p : X → Bool) (xs : List X) (k : ℕ) (x : X) → slice_get xs k ≡ Some x → p x ≡ true → list_any p xs ≡ true
 item-passes p [] k x at h = absurd (none-some x at)
 item-passes p (y ∷ ys) zero x at h = or_left (p y) (list_any p ys) (ap p (same_Some y x at) ∙ h)
 item-passes p (y ∷ ys) (suc k) x at h = or_right (p y) (list_any p ys) (item-passes p ys k x at h)
 
-symbol-there : (symbols : List Symbol) (f : ℕ) (s : Symbol) → slice_get symbols f ≡ Some s → has_symbol s symbols ≡ true
+pub symbol-there : (symbols : List Symbol) (f : ℕ) (s : Symbol) → slice_get symbols f ≡ Some s → has_symbol s symbols ≡ true
 symbol-there symbols f s at = item-passes (same_symbol s) symbols f s at (same_symbol-refl s)
 
 number-back : (symbols : List Symbol) (f : ℕ) (s : Symbol) → are_different symbols ≡ true → slice_get symbols f ≡ Some s → number_of symbols s ≡ f
@@ -72,39 +72,9 @@ symbol-at symbols f n kind there kind_is = by (slice_get symbols f) there kind_i
         let arity_same : s.arity ≡ n = eqb-true s.arity n h in
         λ i. Some (record { kind = kind_same i; name = s.name; arity = arity_same i })
 
--- ---- formulas where nothing is a name
+-- ---- lists of formulas
 
-no-atom_name : (f : FormulaTree) → atom_name [] f ≡ None
-no-atom_name truth = refl
-no-atom_name falsity = refl
-no-atom_name (predicate p no_terms) = refl
-no-atom_name (predicate p (term_then t ts)) = refl
-no-atom_name (equation positive s t) = refl
-no-atom_name (negation f) = refl
-no-atom_name (conjunction fs) = refl
-no-atom_name (disjunction fs) = refl
-no-atom_name (connected c f g) = refl
-no-atom_name (quantified q xs f) = refl
-
-no-literal_name : (f : FormulaTree) → literal_name [] f ≡ None
-no-literal_name f = ap (option_map (signed (is_positive f))) (no-atom_name (atom_of f))
-
-all-ordinary : (fs : List FormulaTree) → filter (λ l. is_none (literal_name [] l)) fs ≡ fs
-all-ordinary [] = refl
-all-ordinary (f ∷ fs) =
-    ap (λ o. if is_none o then f ∷ filter (λ l. is_none (literal_name [] l)) fs else filter (λ l. is_none (literal_name [] l)) fs) (no-literal_name f)
-    ∙ ap (λ gs. f ∷ gs) (all-ordinary fs)
-
-no-clause_names : (fs : List FormulaTree) → filter_map (literal_name []) fs ≡ []
-no-clause_names [] = refl
-no-clause_names (f ∷ fs) = search (no-literal_name f, no-clause_names fs)
-
-names-last : (fs : List FormulaTree) → names_come_last [] fs ≡ true
-names-last [] = refl
-names-last (f ∷ fs) =
-    ap (λ o. if is_some o then list_all (λ k. is_some (literal_name [] k)) fs else names_come_last [] fs) (no-literal_name f) ∙ names-last fs
-
-listed-formulas : (fs : List FormulaTree) → list_of_formulas (formulas_of fs) ≡ fs
+pub listed-formulas : (fs : List FormulaTree) → list_of_formulas (formulas_of fs) ≡ fs
 listed-formulas [] = refl
 listed-formulas (f ∷ fs) = ap (λ gs. f ∷ gs) (listed-formulas fs)
 
@@ -131,7 +101,7 @@ mutual
 
 module _ (symbols : List Symbol) where
   -- the symbol at the head of a term or an atom
-  head-there :
+  pub head-there :
       (f : ℕ) (ts : Trees) (kind : SymbolKind) → IsHeadOver symbols f ts (is_predicate_kind kind)
       → slice_get symbols f ≡ Some (record { kind = kind; name = symbol_name symbols f; arity = terms_count (term_trees symbols ts) })
   head-there f ts kind h =
@@ -165,7 +135,7 @@ module _ (symbols : List Symbol) where
   truth-written false = record { written = refl; alone = refl; names = refl; known = refl }
 
   -- a predicate isn't written as `$true` is
-  apart-false : (f : ℕ) → not (f == 0) ≡ true → (f == 0) ≡ false
+  pub apart-false : (f : ℕ) → not (f == 0) ≡ true → (f == 0) ≡ false
   apart-false f h = not-true (f == 0) h
 
   predicate-written :
@@ -217,19 +187,19 @@ module _ (symbols : List Symbol) where
   abbrev pub written_literals : List TreeLiteral → List FormulaTree
   written_literals ls = map (literal_formula symbols) ls
 
-  abbrev AreOver : List TreeLiteral → Type 0
+  abbrev pub AreOver : List TreeLiteral → Type 0
   AreOver ls = list_all (is_literal_over symbols) ls ≡ true
 
-  first-over : (l : TreeLiteral) (ls : List TreeLiteral) → AreOver (l ∷ ls) → is_literal_over symbols l ≡ true
+  pub first-over : (l : TreeLiteral) (ls : List TreeLiteral) → AreOver (l ∷ ls) → is_literal_over symbols l ≡ true
   first-over l ls h = (and_parts (is_literal_over symbols l) (list_all (is_literal_over symbols) ls) h).0
 
-  more-over : (l : TreeLiteral) (ls : List TreeLiteral) → AreOver (l ∷ ls) → AreOver ls
+  pub more-over : (l : TreeLiteral) (ls : List TreeLiteral) → AreOver (l ∷ ls) → AreOver ls
   more-over l ls h = (and_parts (is_literal_over symbols l) (list_all (is_literal_over symbols) ls) h).1
 
-  first-written : (l : TreeLiteral) (ls : List TreeLiteral) → AreOver (l ∷ ls) → IsWrittenAs (literal_formula symbols l) l
+  pub first-written : (l : TreeLiteral) (ls : List TreeLiteral) → AreOver (l ∷ ls) → IsWrittenAs (literal_formula symbols l) l
   first-written l ls h = literal-written l (first-over l ls h)
 
-  all-written : (ls : List TreeLiteral) → AreOver ls → list_all is_literal_formula (written_literals ls) ≡ true
+  pub all-written : (ls : List TreeLiteral) → AreOver ls → list_all is_literal_formula (written_literals ls) ≡ true
   all-written [] h = refl
   all-written (l ∷ ls) h =
       and_from (is_literal_formula (literal_formula symbols l)) _ (first-written l ls h).written (all-written ls (more-over l ls h))
@@ -246,39 +216,6 @@ module _ (symbols : List Symbol) where
   all-names (l ∷ ls) h =
       ap₂ ◌++◌ (first-written l ls h).names (all-names ls (more-over l ls h))
       ∙ sym (map-append variable_name (literal_variables l) (flat_map literal_variables ls))
-
-  literals-back : (ls : List TreeLiteral) → AreOver ls → literals_of (one_of (written_literals ls)) ≡ written_literals ls
-  literals-back [] h = refl
-  literals-back (l ∷ []) h = (first-written l [] h).alone
-  literals-back (l ∷ m ∷ ls) h = listed-formulas (written_literals (l ∷ m ∷ ls))
-
-  -- ---- the formula of a clause
-
-  pub record IsClauseFormula (f : FormulaTree) (c : TreeClause) : Type 0 where
-    pub written : is_written_clause [] f ≡ true
-    pub ordinary : ordinary_literals [] f ≡ written_literals c.literals
-
-  pub clause-formula :
-      (prefix : List ℕ) (c : TreeClause) → c.names ≡ [] → AreOver c.literals → IsClauseFormula (clause_formula symbols prefix c) c
-  clause-formula prefix c no_names h =
-      record {
-        written =
-            and_from (list_all is_literal_formula (literals_of f)) _
-            (ap (list_all is_literal_formula) literals_are ∙ all-written c.literals h)
-            (and_from (names_come_last [] (literals_of f)) _ (names-last (literals_of f)) (ap are_sorted (no-clause_names (literals_of f))));
-        ordinary = all-ordinary (literals_of f) ∙ literals_are;
-      }
-    where
-      f : FormulaTree
-      f = clause_formula symbols prefix c
-
-      formula_is : f ≡ one_of (written_literals c.literals)
-      formula_is =
-          ap (λ ns. one_of (written_literals c.literals ++ map (signed_name_formula prefix) ns)) no_names
-          ∙ ap one_of (append-nil (written_literals c.literals))
-
-      literals_are : literals_of f ≡ written_literals c.literals
-      literals_are = ap literals_of formula_is ∙ literals-back c.literals h
 
   -- ---- what is read again, where the variables are read by a substitution
 
@@ -356,7 +293,7 @@ module _ (symbols : List Symbol) where
     literal-back : (l : TreeLiteral) → is_literal_over symbols l ≡ true → IsBack l
     literal-back = by-kind symbols IsBack truth-back predicate-back equation-back
 
-    literals-again :
+    pub literals-again :
         (ls : List TreeLiteral) → AreOver ls → AreReadBy environment σ (flat_map literal_variables ls)
         → map (literal_by numbered) (written_literals ls) ≡ map (literal_instance σ) ls
     literals-again [] h read = refl
@@ -365,13 +302,3 @@ module _ (symbols : List Symbol) where
         (literal-back l (first-over l ls h)
         (all-front (IsReadBy environment σ) (literal_variables l) (flat_map literal_variables ls) read))
         (literals-again ls (more-over l ls h) (all-back (IsReadBy environment σ) (literal_variables l) (flat_map literal_variables ls) read))
-
-    pub clause-back :
-        (f : FormulaTree) (c : TreeClause) → IsClauseFormula f c → c.names ≡ [] → AreOver c.literals
-        → AreReadBy environment σ (clause_variables c) → clause_by numbered [] f ≡ clause_instance σ c
-    clause-back f c formula no_names h read =
-        ap₂ make (ap (map (literal_by numbered)) formula.ordinary ∙ literals-again c.literals h read)
-        (no-clause_names (literals_of f) ∙ sym no_names)
-      where
-        make : List TreeLiteral → List NameLit → TreeClause
-        make ls ns = record { literals = ls; names = ns }

@@ -9,7 +9,7 @@ use Rattle.tptp_tree.specs.Spelling.{TermPhrase, variable_word, word_with, TermP
 use Rattle.tptp_tree.specs.Entries.{atom_of, LiteralPhrase, positive_literal, negated_literal, negated_in_brackets, ClausePhrase, literals, clause_in_brackets, literal_meant, literals_meant, clause_meant, Body, formula_body, clause_body, body_meant}
 use Rattle.tptp_tree.specs.Causes.{Refusal, too_deep, Surroundings, deeper, binding, begun, term_causes, arguments_causes, more_arguments_causes, atom_causes, more_variables_causes, unit_causes, units_causes, phrase_causes, literal_causes, more_literals_causes, clause_causes, outermost, body_causes}
 use Rattle.tptp_reader.specs.Answers.{AreFaultless}
-use Rattle.tstp_writer.specs.Levels.{term_levels, arguments_levels, terms_levels, with_parentheses, formula_levels, operands_levels}
+use Rattle.tptp_tree.specs.Levels.{term_levels, arguments_levels, terms_levels, with_parentheses, formula_levels, operands_levels}
 
 -- ---- levels that are left
 

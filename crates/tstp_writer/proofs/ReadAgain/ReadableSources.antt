@@ -3,8 +3,9 @@ use Rattle.std.proofs.Common.{◌≡◌, ℕ, zero, suc, ◌/◌, ◌%◌, ◌<�
 use Rattle.std.specs.Prelude.{max, if◌then◌else◌}
 use Rattle.std.specs.Fmt.{digits, digits_onto, digit_glyph, decimal}
 use Rattle.std.specs.List.{list_all, AllByRecursion}
-use Rattle.std.proofs.lemmas.Bool.{and_parts}
+use Rattle.std.proofs.lemmas.Bool.{and_parts, false≢true}
 use Rattle.std.proofs.Math.Nat.{max-le}
+use Rattle.plain_types.specs.declared.sequence.NameLit.{NameLit}
 use Rattle.fol_base.specs.Tree.{Tree, tree_size}
 use Rattle.fol_base.specs.declared.clause.Side.{Side}
 use Rattle.fol_base.specs.declared.clause.Side.TheVariants.{Left, Right}
@@ -14,21 +15,23 @@ use Rattle.tptp_tree.specs.Term.{TermTree, variable as named_variable, applicati
 use Rattle.tptp_tree.proofs.CanonicalLemmas.{WellTerm, WellTerms}
 use Rattle.signature.specs.declared.symbol.Symbol.{Symbol}
 use Rattle.kernel_steps.specs.Keys.{side_word}
+use Rattle.kernel_steps.specs.Derivation.{is_clause_step}
 use Rattle.kernel_steps.specs.Soundness.{binds_each}
 use Rattle.kernel_steps.specs.declared.step.Step.{Step}
 use Rattle.kernel_steps.specs.declared.step.Step.TheVariants.{Input, Negate, Clausify, Para, Refl, Factor, Merge, Component, Opposite, Split, Chain}
 use Rattle.tptp_source.specs.General.{GeneralTree, GeneralTrees, trees_of}
-use Rattle.tptp_source.specs.Sources.{inference_source, word_of}
-use Rattle.tstp_writer.specs.ClauseTrees.{term_tree}
+use Rattle.tptp_source.specs.Sources.{inference_source, word_of, list_of, definition_by}
+use Rattle.tstp_writer.specs.ClauseTrees.{term_tree, introduced_name}
 use Rattle.tstp_writer.specs.SourceTexts.{is_number_name, name_term, source_term}
-use Rattle.tstp_writer.specs.Levels.{term_levels, arguments_levels, terms_levels, general_levels, general_arguments_levels, all_general_levels}
-use Rattle.tstp_writer.specs.LineTrees.{Script, Layout, named, number_item, term_item, term_items, status_item, bind_item, literal_item, side_of_literal_item, from_item, into_item, derived_name, origin, origin_name, is_conjecture_at, negated_name, cited_name, step_source}
+use Rattle.tptp_tree.specs.Levels.{term_levels, arguments_levels, terms_levels}
+use Rattle.tstp_writer.specs.Levels.{general_levels, general_arguments_levels, all_general_levels}
+use Rattle.tstp_writer.specs.LineTrees.{Script, Layout, named, number_item, numbers_item, pivot_name, pivot_item, term_item, term_items, status_item, bind_item, literal_item, side_of_literal_item, from_item, into_item, derived_name, origin, origin_name, is_conjecture_at, negated_name, cited_name, step_source}
 use Rattle.kernel_steps.specs.Lines.{is_small_term}
-use Rattle.tstp_writer.specs.ReadableLines.{is_nameless_step, is_term_over}
+use Rattle.tstp_writer.specs.ReadableLines.{is_term_over}
 use Rattle.tstp_writer.specs.Printable.{IsShown, IsWritable, AreWritable}
 use Rattle.tstp_writer.specs.WrittenTexts.{AreShownSymbols}
 use Rattle.tstp_writer.proofs.ReadAgain.LiteralKinds.{term-over}
-use Rattle.tstp_writer.proofs.ReadAgain.ReadableTexts.{term-well, term-few}
+use Rattle.tstp_writer.proofs.ReadAgain.ReadableTexts.{term-well, term-few, AreShownNames}
 use Rattle.tstp_writer.proofs.AboutPrinted.PieceTexts.{decimal-digits}
 use Rattle.tstp_writer.proofs.ReadAgain.ProblemLemmas.{line_name-shown, name-writable, name-levels}
 
@@ -227,7 +230,79 @@ side-small i z =
       levels = omega arith;
     }
 
--- what is bound by all steps without names
+-- ---- parts, pivots and definitions of names
+
+parts-writable : (parts : List (List ℕ)) → AreWritable (trees_of (map numbers_item parts))
+parts-writable [] = tt
+parts-writable (ns ∷ parts) = (numbers-writable ns, parts-writable parts)
+
+parts-levels : (parts : List (List ℕ)) → all_general_levels (trees_of (map numbers_item parts)) ≤ 1
+parts-levels [] = omega arith
+parts-levels (ns ∷ parts) =
+    let one : general_levels (numbers_item ns) ≤ 1 = let flat = numbers-flat ns in omega (arith, flat) in
+    max-le one (parts-levels parts)
+
+-- a list of what is writable, in an item with that word
+list-small :
+    (w : List ℕ) (ts : List GeneralTree) → IsShown w → AreWritable (trees_of ts) → all_general_levels (trees_of ts) ≤ 1
+    → IsSmallItem (word_of w (list_of ts ∷ []))
+list-small w ts shown writable low =
+    let list : suc (all_general_levels (trees_of ts)) ≤ 2 = omega (arith, low) in
+    let inner : max (suc (all_general_levels (trees_of ts))) 0 ≤ 2 = max-le list (omega arith) in
+    record { writable = (shown, (writable, tt)); levels = omega (arith, inner) }
+
+parts-small : (parts : List (List ℕ)) → IsSmallItem (word_of (codes "parts") (list_of (map numbers_item parts) ∷ []))
+parts-small parts =
+    list-small (codes "parts") (map numbers_item parts) (record { printable = refl; some = omega arith }) (parts-writable parts) (parts-levels parts)
+
+-- an item without levels
+record IsFlat (t : GeneralTree) : Type 0 where
+  writable : IsWritable t
+  levels : general_levels t ≡ 0
+
+pivot-flat : (prefix : List ℕ) (n : NameLit) → AreShownNames prefix → IsFlat (pivot_item prefix n)
+pivot-flat prefix n shown = by n.positive
+  where
+    by : (b : Bool) → IsFlat (pivot_name b (introduced_name prefix n.name))
+    by true = record { writable = (shown n.name, tt); levels = refl }
+    by false = record { writable = shown n.name; levels = refl }
+
+pivots-writable : (prefix : List ℕ) (ns : List NameLit) → AreShownNames prefix → AreWritable (trees_of (map (pivot_item prefix) ns))
+pivots-writable prefix [] shown = tt
+pivots-writable prefix (n ∷ ns) shown = ((pivot-flat prefix n shown).writable, pivots-writable prefix ns shown)
+
+pivots-levels : (prefix : List ℕ) (ns : List NameLit) → AreShownNames prefix → all_general_levels (trees_of (map (pivot_item prefix) ns)) ≤ 1
+pivots-levels prefix [] shown = omega arith
+pivots-levels prefix (n ∷ ns) shown =
+    let flat = (pivot-flat prefix n shown).levels in
+    let one : general_levels (pivot_item prefix n) ≤ 1 = omega (arith, flat) in
+    max-le one (pivots-levels prefix ns shown)
+
+pivots-small : (prefix : List ℕ) (ns : List NameLit) → AreShownNames prefix → IsSmallItem (word_of (codes "pivots") (list_of (map (pivot_item prefix) ns) ∷ []))
+pivots-small prefix ns shown =
+    list-small (codes "pivots") (map (pivot_item prefix) ns) (record { printable = refl; some = omega arith }) (pivots-writable prefix ns shown)
+    (pivots-levels prefix ns shown)
+
+definition-small : (way name : List ℕ) → IsShown way → IsShown name → IsSmallSource (definition_by way (name_term name))
+definition-small way name way_shown shown =
+    let flat = name-levels name in
+    let inner : max (suc (max (suc (max (general_levels (name_term name)) 0)) 0)) 0 ≤ 2 =
+    max-le (let it : suc (max (suc (max (general_levels (name_term name)) 0)) 0) ≤ 2 = omega (arith, flat) in it) (omega arith) in
+    record {
+      writable = (
+        record { printable = refl; some = omega arith },
+        ((record { printable = refl; some = omega arith }, tt), (((way_shown, (name-writable name shown, tt)), tt), tt)),
+      );
+      levels = omega (arith, flat);
+    }
+
+derived-shown : (layout : Layout) (ns : List ℕ) → AllByRecursion IsShown (map (derived_name layout) ns)
+derived-shown layout [] = tt
+derived-shown layout (n ∷ ns) = (line_name-shown _, derived-shown layout ns)
+
+-- ---- what is bound
+
+-- what is bound by all steps
 pub record IsBoundOver (symbols : List Symbol) (bs : List (List Tree)) : Type 0 where
   pub over : list_all (list_all (is_term_over symbols)) bs ≡ true
   pub small : list_all (list_all is_small_term) bs ≡ true
@@ -245,11 +320,6 @@ more-bound symbols b bs h = record {
   small = (and_parts (list_all is_small_term b) (list_all (list_all is_small_term) bs) h.small).1;
 }
 
--- no input
-abbrev pub IsWrittenStep : Step → Type 0
-IsWrittenStep (Input place) = ⊥
-IsWrittenStep _ = Unit {0}
-
 -- a rule of one parent
 rule-small :
     (rule : List ℕ) (items : List GeneralTree) (layout : Layout) (parent : ℕ)
@@ -261,17 +331,17 @@ rule-small rule items layout parent h each =
 
 pub source-small :
     (script : Script) (layout : Layout) (step : Step)
-    → AreShownSymbols script.symbols → IsWrittenStep step → is_nameless_step step ≡ true
+    → AreShownSymbols script.symbols → AreShownNames script.prefix → is_clause_step step ≡ true
     → binds_each (is_term_over script.symbols) step ≡ true → binds_each is_small_term step ≡ true
     → IsSmallSource (source_term (step_source script layout step))
-source-small script layout (Input place) each w h over small = absurd w
-source-small script layout (Negate place) each w h over small = absurd (let e : false ≡ true = h in cc)
-source-small script layout (Clausify i) each w h over small =
+source-small script layout (Input place) each names clause over small = absurd (false≢true clause)
+source-small script layout (Negate place) each names clause over small = absurd (false≢true clause)
+source-small script layout (Clausify i) each names clause over small =
     inference-small (codes "clausify") (status_item (codes "esa") ∷ word_of (codes "index") (number_item i ∷ []) ∷ [])
     (origin_name script layout (origin script i) ∷ []) (record { printable = refl; some = omega arith })
     (status-small (codes "esa") (record { printable = refl; some = omega arith }), (index-small i, tt))
     (origin-shown script layout (origin script i), tt)
-source-small script layout (Para first second from from_side into into_side place x y) each w h over small =
+source-small script layout (Para first second from from_side into into_side place x y) each names clause over small =
     let bound : IsBoundOver script.symbols (x ∷ y ∷ []) = record { over = over; small = small } in
     inference-small (codes "para")
     (status_item (codes "thm") ∷ from_item from from_side ∷ into_item into into_side place
@@ -290,22 +360,32 @@ source-small script layout (Para first second from from_side into into_side plac
       ),
     )
     (line_name-shown _, (line_name-shown _, tt))
-source-small script layout (Refl parent literal bind) each w h over small =
+source-small script layout (Refl parent literal bind) each names clause over small =
     rule-small (codes "refl") (literal_item literal ∷ bind_item script.symbols bind ∷ []) layout parent
     (record { printable = refl; some = omega arith })
     (literal-small literal, (first-bound script.symbols bind [] each (record { over = over; small = small }), tt))
-source-small script layout (Factor parent becomes becomes_side other other_side bind) each w h over small =
+source-small script layout (Factor parent becomes becomes_side other other_side bind) each names clause over small =
     rule-small (codes "factor")
     (side_of_literal_item becomes becomes_side ∷ side_of_literal_item other other_side ∷ bind_item script.symbols bind ∷ []) layout parent
     (record { printable = refl; some = omega arith }) (
       side-small becomes becomes_side,
       (side-small other other_side, (first-bound script.symbols bind [] each (record { over = over; small = small }), tt)),
     )
-source-small script layout (Merge parent stays goes bind) each w h over small =
+source-small script layout (Merge parent stays goes bind) each names clause over small =
     rule-small (codes "merge") (literal_item stays ∷ literal_item goes ∷ bind_item script.symbols bind ∷ []) layout parent
     (record { printable = refl; some = omega arith })
     (literal-small stays, (literal-small goes, (first-bound script.symbols bind [] each (record { over = over; small = small }), tt)))
-source-small script layout (Component name) each w h over small = absurd (let e : false ≡ true = h in cc)
-source-small script layout (Opposite name) each w h over small = absurd (let e : false ≡ true = h in cc)
-source-small script layout (Split parent definitions parts) each w h over small = absurd (let e : false ≡ true = h in cc)
-source-small script layout (Chain parents pivots) each w h over small = absurd (let e : false ≡ true = h in cc)
+source-small script layout (Component name) each names clause over small =
+    definition-small (codes "component") (introduced_name script.prefix name) (record { printable = refl; some = omega arith }) (names name)
+source-small script layout (Opposite name) each names clause over small =
+    definition-small (codes "opposite") (introduced_name script.prefix name) (record { printable = refl; some = omega arith }) (names name)
+source-small script layout (Split parent definitions parts) each names clause over small =
+    inference-small (codes "split") (status_item (codes "esa") ∷ word_of (codes "parts") (list_of (map numbers_item parts) ∷ []) ∷ [])
+    (derived_name layout parent ∷ map (derived_name layout) definitions) (record { printable = refl; some = omega arith })
+    (status-small (codes "esa") (record { printable = refl; some = omega arith }), (parts-small parts, tt))
+    (derived-shown layout (parent ∷ definitions))
+source-small script layout (Chain parents pivots) each names clause over small =
+    inference-small (codes "chain")
+    (status_item (codes "thm") ∷ word_of (codes "pivots") (list_of (map (pivot_item script.prefix) pivots) ∷ []) ∷ [])
+    (map (derived_name layout) parents) (record { printable = refl; some = omega arith })
+    (status-small (codes "thm") thm-shown, (pivots-small script.prefix pivots names, tt)) (derived-shown layout parents)

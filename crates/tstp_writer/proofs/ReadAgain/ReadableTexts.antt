@@ -4,13 +4,14 @@ use Rattle.std.specs.Prelude.{max, option_map, unwrap_or, slice_get, if◌then�
 use Rattle.std.specs.List.{list_all, AllByRecursion}
 use Rattle.std.proofs.lemmas.Bool.{and_parts, and_from, not-true}
 use Rattle.std.proofs.Math.Nat.{max-le}
+use Rattle.plain_types.specs.declared.sequence.NameLit.{NameLit}
 use Rattle.fol_base.specs.Tree.{Tree, variable, application, Trees, no_trees, tree_then, trees_count, tree_size, trees_size}
 use Rattle.fol_base.specs.Clause.{TreeLiteral, TreeClause}
 use Rattle.fol_base.specs.declared.limits.TheConstants.{MOST_SYMBOLS}
 use Rattle.tptp_token.specs.Lexemes.{IsLexedAs}
 use Rattle.tptp_token.proofs.AboutLexemes.LexemeLemmas.{lexes-whole, lexes-nothing}
 use Rattle.tptp_tree.specs.declared.limits.TheConstants.{MOST_DERIVATION_NESTING}
-use Rattle.tptp_tree.specs.Term.{TermTrees}
+use Rattle.tptp_tree.specs.Term.{TermTrees, no_terms}
 use Rattle.tptp_tree.specs.Formula.{FormulaTree, truth, falsity, predicate, equation, negation, conjunction, disjunction, connected, quantified, formulas_of, list_of_formulas}
 use Rattle.tptp_tree.specs.Printing.{is_joined, formula_text}
 use Rattle.tptp_tree.specs.Spelling.{phrase_lexemes, SpellsFormula}
@@ -18,8 +19,8 @@ use Rattle.tptp_tree.proofs.CanonicalLemmas.{WellTerm, WellTerms, WellFormula, W
 use Rattle.tptp_tree.proofs.LexingLemmas.{formula-lexes}
 use Rattle.signature.specs.declared.symbol.Symbol.{Symbol}
 use Rattle.signature.specs.Clausal.{atom_literal}
-use Rattle.tstp_writer.specs.Levels.{term_levels, arguments_levels, terms_levels, with_parentheses, formula_levels, operands_levels}
-use Rattle.tstp_writer.specs.ClauseTrees.{symbol_name, term_tree, term_trees, with_sign, atom_formula, literal_formula, signed_name_formula, one_of, clause_formula}
+use Rattle.tptp_tree.specs.Levels.{term_levels, arguments_levels, terms_levels, with_parentheses, formula_levels, operands_levels}
+use Rattle.tstp_writer.specs.ClauseTrees.{symbol_name, term_tree, term_trees, with_sign, atom_formula, literal_formula, introduced_name, signed_name_formula, one_of, clause_formula}
 use Rattle.kernel_steps.specs.Lines.{is_small_term, has_small_sides}
 use Rattle.tstp_writer.specs.ReadableLines.{is_symbol_in, is_literal_over}
 use Rattle.tstp_writer.specs.Printable.{IsShown, is_literal_formula, is_clause_formula}
@@ -201,15 +202,30 @@ one-printable (f ∷ g ∷ fs) h =
       levels = all-levels (f ∷ g ∷ fs) h;
     }
 
+-- literals, and names behind them
+both-printable :
+    (fs gs : List FormulaTree) → AllByRecursion IsPrintableLiteral fs → AllByRecursion IsPrintableLiteral gs
+    → AllByRecursion IsPrintableLiteral (fs ++ gs)
+both-printable [] gs h k = k
+both-printable (f ∷ fs) gs h k = (h.0, both-printable fs gs h.1 k)
+
+-- names that are introduced are shown
+abbrev pub AreShownNames : List ℕ → Type 0
+AreShownNames prefix = (n : ℕ) → IsShown (introduced_name prefix n)
+
+names-printable : (prefix : List ℕ) (ns : List NameLit) → AreShownNames prefix → AllByRecursion IsPrintableLiteral (map (signed_name_formula prefix) ns)
+names-printable prefix [] shown = tt
+names-printable prefix (n ∷ ns) shown =
+    (signed-predicate n.positive (introduced_name prefix n.name) no_terms (shown n.name) tt (omega arith), names-printable prefix ns shown)
+
 pub clause-printable :
     (symbols : List Symbol) (prefix : List ℕ) (c : TreeClause)
-    → AreShownSymbols symbols → c.names ≡ [] → list_all (is_literal_over symbols) c.literals ≡ true → list_all has_small_sides c.literals ≡ true
-    → IsPrintableFormula (clause_formula symbols prefix c)
-clause-printable symbols prefix c each names over small =
-    let fs : List FormulaTree = map (literal_formula symbols) c.literals in
-    subst IsPrintableFormula
-    (sym (ap (λ ns. one_of (fs ++ map (signed_name_formula prefix) ns)) names ∙ ap one_of (append-nil fs)))
-    (one-printable fs (literals-printable symbols c.literals each over small))
+    → AreShownSymbols symbols → AreShownNames prefix → list_all (is_literal_over symbols) c.literals ≡ true
+    → list_all has_small_sides c.literals ≡ true → IsPrintableFormula (clause_formula symbols prefix c)
+clause-printable symbols prefix c each shown over small =
+    one-printable (map (literal_formula symbols) c.literals ++ map (signed_name_formula prefix) c.names)
+    (both-printable (map (literal_formula symbols) c.literals) (map (signed_name_formula prefix) c.names)
+    (literals-printable symbols c.literals each over small) (names-printable prefix c.names shown))
 
 -- ---- their texts
 

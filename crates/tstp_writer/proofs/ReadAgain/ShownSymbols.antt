@@ -115,7 +115,7 @@ underscores-printable : (n : ℕ) → list_all is_printable (underscores n) ≡ 
 underscores-printable zero = refl
 underscores-printable (suc n) = and_from (is_printable 95) (list_all is_printable (underscores n)) refl (underscores-printable n)
 
-made-shown : (base : List ℕ) → IsShown base → (symbols : List Symbol) (k : ℕ) → IsShown (fresh_prefix_of symbols base ++ decimal k)
+pub made-shown : (base : List ℕ) → IsShown base → (symbols : List Symbol) (k : ℕ) → IsShown (fresh_prefix_of symbols base ++ decimal k)
 made-shown base h symbols k =
     let low : List ℕ = underscores (needed symbols base) in
     let prefix : list_all is_printable (base ++ low) ≡ true =

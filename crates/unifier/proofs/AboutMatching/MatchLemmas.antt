@@ -34,7 +34,7 @@ all-front : (σ : Substitution) (ps qs : Pairs) → HasPairs (ps ++ qs) σ → H
 all-front σ [] qs h = tt
 all-front σ (p ∷ ps) qs h = (h.0, all-front σ ps qs h.1)
 
-all-back : (σ : Substitution) (ps qs : Pairs) → HasPairs (ps ++ qs) σ → HasPairs qs σ
+pub all-back : (σ : Substitution) (ps qs : Pairs) → HasPairs (ps ++ qs) σ → HasPairs qs σ
 all-back σ [] qs h = h
 all-back σ (p ∷ ps) qs h = all-back σ ps qs h.1
 
@@ -73,7 +73,7 @@ there-listed v t (p ∷ ps) e =
     ∙ there-listed v t ps (sym (cond-false (v == p.0) (Some p.1) (term_for v ps) other) ∙ e))
     (cases_Bool (v == p.0))
 
-variables-append : (ps qs : Pairs) → variables_of (ps ++ qs) ≡ variables_of ps ++ variables_of qs
+pub variables-append : (ps qs : Pairs) → variables_of (ps ++ qs) ≡ variables_of ps ++ variables_of qs
 variables-append [] qs = refl
 variables-append (p ∷ ps) qs = ap (λ vs. p.0 ∷ vs) (variables-append ps qs)
 
@@ -456,6 +456,9 @@ own-terms (p ∷ ps) σ n h = (
       (λ other. h v t (cond-false (v == p.0) (Some p.1) (term_for v ps) other ∙ e))
       (cases_Bool (v == p.0))),
 )
+
+pub HasPairs-own : (ps : Pairs) → NoVariableTwice ps → HasPairs ps (by_pairs ps)
+HasPairs-own ps twice = own-terms ps (by_pairs ps) twice (λ v t found. unwrapped v (term_for v ps) t found)
 
 pub HasPairs-subst :
     (n : ℕ) (ps : Pairs) (terms : List Tree)

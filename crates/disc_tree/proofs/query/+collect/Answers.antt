@@ -8,10 +8,10 @@ use Rattle.disc_tree.specs.declared.node.Below.{Below}
 use Rattle.disc_tree.specs.Path.{head, arity, fits}
 use Rattle.disc_tree.specs.Work.{trees_left, terms_left}
 use Rattle.disc_tree.specs.Rows.{rows, rows_at, weight, found_in, all_below, all_at, numbers_of}
-use Rattle.disc_tree.specs.Children.{rows_below}
+use Rattle.disc_tree.specs.Children.{labels_left, rows_below}
 use Rattle.disc_tree.specs.Prefixes.{VisitsEach}
 use Rattle.disc_tree.proofs.AboutQueries.TailLemmas.{all-found, none-found, stays-below, visits-below}
-use Rattle.disc_tree.proofs.AboutQueries.FoundLemmas.{if_ok-map, end-step, variable-step, star-step, application-step, children-more, found-passing}
+use Rattle.disc_tree.proofs.AboutQueries.FoundLemmas.{if_ok-map, end-step, variable-step, star-step, application-step, children-more, found-passing, begins-trans}
 use Rattle.disc_tree.proofs.AboutPaths.PrefixLemmas.{application-is, stays-star, stays-application, follows-child}
 use Rattle.disc_tree.proofs.AboutQueries.VisitLemmas.{visits-application, visits-end, follows-each, follows-none}
 use Rattle.disc_tree.proofs.query.+collect.Goals as goal
@@ -23,7 +23,7 @@ collect-returns-in_default-rest-clause-found g t c =
     (ap numbers_of c.entries.ensures.entries
     ∙ sym (end-step c.args.varying.entry c.args.varying.query (terms_left c.args.skipped.now) (trees_left c.args.rest.now) c.args.node.now.0
     c.args.node.now.1 (ap terms_left c.in_default.is) (ap trees_left c.in_default-rest.is))))
-    c.push_numbers.ensures
+    c.push_numbers.ensures.found
 
 pub collect-returns-then-varying-clause-found : goal.collect-returns-then-varying-clause-found
 collect-returns-then-varying-clause-found g t c =
@@ -102,7 +102,7 @@ collect-returns-in_default-rest-clause-visits g t c =
     (λ e entry none ground.
     visits-end (trees_left c.args.rest.now) (rows c.args.node.now) c.args.steps.now c.entries.new.steps
     (ap trees_left c.in_default-rest.is) c.entries.ensures.step)
-    c.push_numbers.ensures
+    c.push_numbers.ensures.found
 
 pub collect-returns-in_ok-collect_child-in-App-clause-visits : goal.collect-returns-in_ok-collect_child-in-App-clause-visits
 collect-returns-in_ok-collect_child-in-App-clause-visits g t c entry none ground =
@@ -158,6 +158,7 @@ collect_children-loop-index-preserved g t c =
           (sym (children-more e q k ts c.args.node.now.1 c.loop-index.index c.child_at-label.result.0 (rows_below c.child_at-label.result.1.now)
           (omega (arith, c.loop-index-test.true, c.width-index-end.ensures)) c.child_at-label.ensures.child)),
       omega (arith, c.loop-index.invariant.1, c.child_at-label.ensures.step, c.in_ok-collect_below.ensures.counter),
+      begins-trans c.args.found.now.items c.loop-index.found.items c.collect_below.new.found.items c.loop-index.invariant.2 c.in_ok-collect_below.ensures.kept,
     )
 
 pub collect_children-returns-clause-found : goal.collect_children-returns-clause-found
@@ -181,10 +182,10 @@ collect_below-returns-in_ok-push_numbers-in-Single-clause-found g t c =
     let labels : List Label = c.in-Single.tail.labels.items in
     let is : rows_below c.args.below.now ≡ all_at labels c.in-Single.tail.entries = ap rows_below c.in-Single.is in
     let fit : fits e q k ts labels ≡ true =
-    sym (c.fits.ensures.fits ∙ ap (fits e q k ts) c.deref.ensures.value) ∙ c.if-fits.true in
-    c.in_ok-push_numbers-in-Single.ensures
+    sym (c.fits.ensures.fits ∙ ap (fits e q k ts) c.labels.ensures) ∙ c.if-fits.true in
+    c.in_ok-push_numbers-in-Single.ensures.found
     ∙ ap (λ ns. c.args.found.now.items ++ ns)
-    (ap numbers_of c.as_slice.ensures ∙ sym (all-found e q k ts labels c.in-Single.tail.entries fit) ∙ ap (found_in e q k ts) (sym is))
+    (ap numbers_of c.entries.ensures.entries ∙ sym (all-found e q k ts labels c.in-Single.tail.entries fit) ∙ ap (found_in e q k ts) (sym is))
 
 pub collect_below-returns-else-fits-clause-found : goal.collect_below-returns-else-fits-clause-found
 collect_below-returns-else-fits-clause-found g t c =
@@ -195,35 +196,35 @@ collect_below-returns-else-fits-clause-found g t c =
     let labels : List Label = c.in-Single.tail.labels.items in
     let is : rows_below c.args.below.now ≡ all_at labels c.in-Single.tail.entries = ap rows_below c.in-Single.is in
     let fit : fits e q k ts labels ≡ false =
-    sym (c.fits.ensures.fits ∙ ap (fits e q k ts) c.deref.ensures.value) ∙ c.if-fits.false in
+    sym (c.fits.ensures.fits ∙ ap (fits e q k ts) c.labels.ensures) ∙ c.if-fits.false in
     sym (append-nil c.args.found.now.items)
     ∙ ap (λ ns. c.args.found.now.items ++ ns)
     (sym (none-found e q k ts labels c.in-Single.tail.entries fit) ∙ ap (found_in e q k ts) (sym is))
 
 pub collect_below-returns-in_err-push_numbers-in-Single-clause-steps : goal.collect_below-returns-in_err-push_numbers-in-Single-clause-steps
 collect_below-returns-in_err-push_numbers-in-Single-clause-steps g t c none ground =
-    stays-below c.args.below.now c.in-Single.tail c.deref.result.now (trees_left c.args.rest.now) c.args.steps.now c.fits.new.steps
-    c.in-Single.is c.deref.ensures.value c.requires (c.fits.ensures.steps none ground)
+    stays-below c.args.below.now c.in-Single.tail (labels_left c.labels.result) (trees_left c.args.rest.now) c.args.steps.now c.entries.new.steps
+    c.in-Single.is c.labels.ensures c.requires (omega (arith, c.entries.ensures.step, c.fits.ensures.steps none ground))
 
 pub collect_below-returns-in_ok-push_numbers-in-Single-clause-steps : goal.collect_below-returns-in_ok-push_numbers-in-Single-clause-steps
 collect_below-returns-in_ok-push_numbers-in-Single-clause-steps g t c none ground =
-    stays-below c.args.below.now c.in-Single.tail c.deref.result.now (trees_left c.args.rest.now) c.args.steps.now c.fits.new.steps
-    c.in-Single.is c.deref.ensures.value c.requires (c.fits.ensures.steps none ground)
+    stays-below c.args.below.now c.in-Single.tail (labels_left c.labels.result) (trees_left c.args.rest.now) c.args.steps.now c.entries.new.steps
+    c.in-Single.is c.labels.ensures c.requires (omega (arith, c.entries.ensures.step, c.fits.ensures.steps none ground))
 
 pub collect_below-returns-else-fits-clause-steps : goal.collect_below-returns-else-fits-clause-steps
 collect_below-returns-else-fits-clause-steps g t c none ground =
-    stays-below c.args.below.now c.in-Single.tail c.deref.result.now (trees_left c.args.rest.now) c.args.steps.now c.fits.new.steps
-    c.in-Single.is c.deref.ensures.value c.requires (c.fits.ensures.steps none ground)
+    stays-below c.args.below.now c.in-Single.tail (labels_left c.labels.result) (trees_left c.args.rest.now) c.args.steps.now c.fits.new.steps
+    c.in-Single.is c.labels.ensures c.requires (omega (arith, c.fits.ensures.steps none ground))
 
 pub collect_below-returns-in_ok-push_numbers-in-Single-clause-visits : goal.collect_below-returns-in_ok-push_numbers-in-Single-clause-visits
 collect_below-returns-in_ok-push_numbers-in-Single-clause-visits g t c entry none ground =
-    visits-below c.args.below.now c.in-Single.tail c.deref.result.now (trees_left c.args.rest.now) c.args.steps.now c.fits.new.steps
-    c.in-Single.is c.deref.ensures.value (c.fits.ensures.visits entry none ground)
+    visits-below c.args.below.now c.in-Single.tail (labels_left c.labels.result) (trees_left c.args.rest.now) c.args.steps.now c.entries.new.steps
+    c.in-Single.is c.labels.ensures (omega (arith, c.entries.ensures.step, c.fits.ensures.visits entry none ground))
 
 pub collect_below-returns-else-fits-clause-visits : goal.collect_below-returns-else-fits-clause-visits
 collect_below-returns-else-fits-clause-visits g t c entry none ground =
-    visits-below c.args.below.now c.in-Single.tail c.deref.result.now (trees_left c.args.rest.now) c.args.steps.now c.fits.new.steps
-    c.in-Single.is c.deref.ensures.value (c.fits.ensures.visits entry none ground)
+    visits-below c.args.below.now c.in-Single.tail (labels_left c.labels.result) (trees_left c.args.rest.now) c.args.steps.now c.fits.new.steps
+    c.in-Single.is c.labels.ensures (c.fits.ensures.visits entry none ground)
 
 pub collect_below-returns-in-Branching-clause-visits : goal.collect_below-returns-in-Branching-clause-visits
 collect_below-returns-in-Branching-clause-visits g t c =

@@ -1,4 +1,5 @@
 use Rattle.std.proofs.Common.{◌≡◌, ◌≤◌, ◌+◌, ◌*◌, ◌++◌, suc, take}
+use Rattle.disc_tree.specs.Entries.{IsBeginning}
 use Rattle.disc_tree.specs.Rows.{rows, weight, all_below, found_in}
 use Rattle.disc_tree.specs.Children.{rows_below}
 use Rattle.disc_tree.specs.Work.{trees_left, terms_left}
@@ -24,4 +25,4 @@ invariant-collect_children-loop-index g l =
     (l.found.items
     ≡ l.initial.found.items
     ++ found_in l.varying.entry l.varying.query (suc (terms_left l.skipped)) (trees_left l.rest) (all_below (take l.index l.node.1)))
-    × (l.initial.steps ≤ l.steps)
+    × (l.initial.steps ≤ l.steps) × IsBeginning l.initial.found.items l.found.items

@@ -1,22 +1,18 @@
-use Rattle.std.proofs.Common.{false, true, not, ap, sym, ◌∙◌}
-use Rattle.std.specs.List.{list_all}
-use Rattle.std.proofs.lemmas.Bool.{and_from, and_right}
-use Rattle.fol_base.specs.Multiset.{outdone}
-use Rattle.fol_base.specs.Order.{equivalent_literals, literal_greater, equivalent_clauses, clause_greater}
-use Rattle.fol_base.proofs.AboutOrders.OrderLemmas.{clauses_equivalence}
-use Rattle.kbo_order.proofs.AboutReading.FurtherLemmas.{tests-agree}
+use Rattle.std.proofs.Common.{ap, ap₂, ◌∙◌, arith}
+use Rattle.std.specs.Prelude.{sum_by}
+use Rattle.fol_base.specs.Clause.{literal_size}
+use Rattle.fol_base.specs.Order.{compare_clauses}
+use Rattle.kbo_order.proofs.AboutMultisets.LiteralLemmas.{literals-themselves}
 use Rattle.kbo_order.proofs.clauses.compare_clauses.Goals as goal
 
-pub returns-then-outdoes-2 : goal.returns-then-outdoes-2
-returns-then-outdoes-2 g c =
-    let left = g.L.LendsLiterals.meaning c.args.left.now in
-    let right = g.M.LendsLiterals.meaning c.args.right.now in
-    let apart = sym c.are_equivalent.ensures ∙ c.if-are_equivalent.false in
-    let not_above =
-    and_right (not (equivalent_clauses left right)) (list_all (outdone equivalent_literals literal_greater left right) right)
-    (sym c.outdoes.ensures ∙ c.if-outdoes.false) in
-    let below =
-    and_from (not (equivalent_clauses right left)) (list_all (outdone equivalent_literals literal_greater right left) left)
-    (ap not (clauses_equivalence.symm right left ∙ apart))
-    (sym c.outdoes-2.ensures ∙ c.if-outdoes-2.true) in
-    sym (tests-agree (equivalent_clauses left right) (clause_greater left right) (clause_greater right left) false false true apart not_above below)
+pub compare_clauses_under-requires : goal.compare_clauses_under-requires
+compare_clauses_under-requires g c = record {
+  left_size = omega (arith, ap (sum_by literal_size) (literals-themselves (g.L.LendsLiterals.meaning c.args.left.now)), c.requires.left_size);
+  right_size = omega (arith, ap (sum_by literal_size) (literals-themselves (g.M.LendsLiterals.meaning c.args.right.now)), c.requires.right_size);
+}
+
+pub returns : goal.returns
+returns g c =
+    c.compare_clauses_under.ensures
+    ∙ ap₂ compare_clauses
+    (literals-themselves (g.L.LendsLiterals.meaning c.args.left.now)) (literals-themselves (g.M.LendsLiterals.meaning c.args.right.now))

@@ -1,10 +1,7 @@
 use Rattle.std.proofs.Common.{ℕ, ◌-◌, map, sym, subst, arith}
-use Rattle.std.specs.List.{AllByRecursion}
 use Rattle.std.proofs.lemmas.Result.{IfOk-weaker}
 use Rattle.fol_base.specs.Literal.{clause_of}
-use Rattle.kernel_steps.specs.declared.step.Line.{Line}
 use Rattle.clausal_form.specs.DerivationTexts.{IsAcceptedDerivation}
-use Rattle.tstp_writer.specs.ReadableLines.{Fits, line_variables}
 use Rattle.tstp_writer.specs.Written.{IsAcceptedWhereReadable}
 use Rattle.tstp_writer.proofs.AboutNeeded.EarlierLemmas.{need-earlier}
 use Rattle.pool_core.specs.Replay.{replay}
@@ -32,6 +29,5 @@ returns-clause-accepted c =
     (is-readable c.args.problem.now.formulas (map clause_of c.args.form.now.clauses) (replay c.args.pool.now.origin c.args.pool.now.history).lines
     c.prove_refuted.ensures c.in_ok-lines.lines c.in_ok-lines.ensures.refutes
     (subst (λ steps. IsRetracing (map clause_of c.args.form.now.clauses) steps c.in_ok-lines.lines) c.derivation.ensures c.in_ok-lines.ensures.retraced)
-    (subst (AllByRecursion (λ (l : Line). AllByRecursion Fits (line_variables l.step (clause_of l.clause)))) c.as_slice.ensures c.prove_lines_fit.ensures)
     last (omega (arith, c.len.ensures))))
     c.write_lines.ensures.accepted

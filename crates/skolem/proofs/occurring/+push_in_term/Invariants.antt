@@ -2,7 +2,7 @@ use Rattle.std.proofs.Common.{◌≡◌, ◌++◌, ◌+◌, ◌*◌, map, drop}
 use Rattle.tptp_tree.specs.Term.{term_size, terms_size, terms_of}
 use Rattle.tptp_tree.specs.Shape.{term_of}
 use Rattle.signature.specs.Environment.{terms_names}
-use Rattle.skolem.specs.Progress.{environment_of, occurring_in}
+use Rattle.skolem.specs.Progress.{environment_of, occurring_in, outer_variables}
 use Rattle.skolem.proofs.occurring.+push_in_term.Given as goal
 
 abbrev pub decreases-push_in_term : goal.decreases-push_in_term
@@ -13,5 +13,5 @@ decreases-push_in_terms l = 2 * terms_size (terms_of (map term_of l.terms.now)) 
 
 abbrev pub invariant-push_in_terms-loop-term : goal.invariant-push_in_terms-loop-term
 invariant-push_in_terms-loop-term l =
-    l.found.items ++ occurring_in (environment_of l.bindings) (terms_names (terms_of (map term_of (drop l.term-index l.terms))))
-    ≡ l.initial.found.items ++ occurring_in (environment_of l.bindings) (terms_names (terms_of (map term_of l.terms)))
+    outer_variables l.outer l.bindings l.places.items ++ occurring_in (environment_of l.bindings) (terms_names (terms_of (map term_of (drop l.term-index l.terms))))
+    ≡ outer_variables l.outer l.bindings l.initial.places.items ++ occurring_in (environment_of l.bindings) (terms_names (terms_of (map term_of l.terms)))

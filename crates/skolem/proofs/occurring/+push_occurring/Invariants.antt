@@ -1,7 +1,7 @@
 use Rattle.std.proofs.Common.{◌≡◌, ◌++◌, ◌+◌, ◌*◌, map, drop}
 use Rattle.tptp_tree.specs.Formula.{formula_size, formulas_size, formulas_of}
 use Rattle.formula_nnf.specs.Shape.{nnf_tree}
-use Rattle.skolem.specs.Progress.{environment_of, all_occurring}
+use Rattle.skolem.specs.Progress.{environment_of, all_occurring, outer_variables}
 use Rattle.skolem.proofs.occurring.+push_occurring.Given as goal
 
 abbrev pub decreases-push_occurring : goal.decreases-push_occurring
@@ -15,6 +15,6 @@ decreases-push_occurring_under l = 2 * formula_size l.body.now + 1
 
 abbrev pub invariant-push_all_occurring-loop-form : goal.invariant-push_all_occurring-loop-form
 invariant-push_all_occurring-loop-form l =
-    (l.found.items ++ all_occurring (formulas_of (map nnf_tree (drop l.form-index l.forms))) (environment_of l.bindings)
-    ≡ l.initial.found.items ++ all_occurring (formulas_of (map nnf_tree l.forms)) (environment_of l.initial.bindings))
+    (outer_variables l.outer l.initial.bindings l.places.items ++ all_occurring (formulas_of (map nnf_tree (drop l.form-index l.forms))) (environment_of l.initial.bindings)
+    ≡ outer_variables l.outer l.initial.bindings l.initial.places.items ++ all_occurring (formulas_of (map nnf_tree l.forms)) (environment_of l.initial.bindings))
     × (l.bindings ≡ l.initial.bindings)

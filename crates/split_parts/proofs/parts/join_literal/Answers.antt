@@ -22,7 +22,7 @@ loop-variable-preserved c =
     let v : ℕ = get_or items t 0 in
     let read : variables_at ls place ≡ items =
     variables_at-read c.args.literals.now place c.index-literals-place.result c.requires.within c.index-literals-place.is
-    ∙ sym c.in_ok-variables_of.ensures ∙ sym c.deref-variable-items.ensures.value in
+    ∙ sym c.in_ok-read_variables.ensures ∙ sym c.deref-variable-items.ensures.value in
     let within : t < length (variables_at ls place) = omega (arith, ap length read, c.loop-variable-test.true) in
     let its : v ≡ get_or (variables_at ls place) t 0 = ap (λ vs. get_or vs t 0) (sym read) in
     let found = sym c.get.ensures.value ∙ sym c.copied.ensures in
@@ -52,6 +52,6 @@ returns-clause-joined c =
     let ls = map literal_of c.args.literals.now in
     let read : variables_at ls c.args.place ≡ c.deref-variable-items.result.now =
     variables_at-read c.args.literals.now c.args.place c.index-literals-place.result c.requires.within c.index-literals-place.is
-    ∙ sym c.in_ok-variables_of.ensures ∙ sym c.deref-variable-items.ensures.value in
+    ∙ sym c.in_ok-read_variables.ensures ∙ sym c.deref-variable-items.ensures.value in
     joined-next ls c.args.place c.loop-variable.variable-index c.loop-variable.links c.loop-variable.places c.loop-variable.invariant.joined
     (omega (arith, ap length read, c.loop-variable-test.false))

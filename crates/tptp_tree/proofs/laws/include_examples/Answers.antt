@@ -11,8 +11,8 @@ use Rattle.tptp_tree.specs.Formula.{predicate}
 use Rattle.tptp_token.specs.Words.{bare, quoted}
 use Rattle.tptp_tree.specs.Spelling.{no_phrases, predicate_atom}
 use Rattle.tptp_tree.specs.Entries.{NamePhrase, word_name, digits_name, name_lexeme, positive_literal, literals, is_clause_body, clause_body, EntryPhrase, annotated_entry, whole_include, selected_include, entry_lexemes, problem_lexemes}
-use Rattle.tptp_tree.proofs.UniqueAtoms.{head-same, tail-same, first_is}
-use Rattle.tptp_tree.proofs.UniqueEntries.{no-include}
+use Rattle.tptp_tree.proofs.AboutUniqueness.UniqueAtoms.{head-same, tail-same, first_is}
+use Rattle.tptp_tree.proofs.AboutUniqueness.UniqueEntries.{no-include}
 use Rattle.tptp_tree.proofs.laws.include_examples.Goals as goal
 
 -- `include(f,[]` and what follows it

@@ -1,4 +1,4 @@
-use Rattle.tptp_tree.proofs.AgainLemmas.{one_annotated}
+use Rattle.tptp_tree.proofs.AboutPrinting.AgainLemmas.{one_annotated}
 use Rattle.tptp_tree.proofs.laws.one_annotated.Goals as goal
 
 pub returns : goal.returns

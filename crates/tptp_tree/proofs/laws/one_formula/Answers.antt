@@ -1,4 +1,4 @@
-use Rattle.tptp_tree.proofs.AgainLemmas.{one_formula}
+use Rattle.tptp_tree.proofs.AboutPrinting.AgainLemmas.{one_formula}
 use Rattle.tptp_tree.proofs.laws.one_formula.Goals as goal
 
 pub returns : goal.returns

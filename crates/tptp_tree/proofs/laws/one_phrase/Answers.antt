@@ -1,4 +1,4 @@
-use Rattle.tptp_tree.proofs.UniqueEntries.{annotated-same}
+use Rattle.tptp_tree.proofs.AboutUniqueness.UniqueEntries.{annotated-same}
 use Rattle.tptp_tree.proofs.laws.one_phrase.Goals as goal
 
 pub returns : goal.returns

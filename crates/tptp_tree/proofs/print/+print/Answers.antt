@@ -1,5 +1,5 @@
 use Rattle.std.proofs.Common.{arith}
-use Rattle.tptp_tree.proofs.SizeLemmas.{formula-item-is}
+use Rattle.tptp_tree.proofs.AboutTrees.SizeLemmas.{formula-item-is}
 use Rattle.tptp_tree.proofs.print.+print.Goals as goal
 
 pub push_more_operands-push_wrapped-requires : goal.push_more_operands-push_wrapped-requires

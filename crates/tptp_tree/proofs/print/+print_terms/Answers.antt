@@ -1,5 +1,5 @@
 use Rattle.std.proofs.Common.{arith}
-use Rattle.tptp_tree.proofs.SizeLemmas.{term-item-is}
+use Rattle.tptp_tree.proofs.AboutTrees.SizeLemmas.{term-item-is}
 use Rattle.tptp_tree.proofs.print.+print_terms.Goals as goal
 
 pub push_more_arguments-push_term-requires : goal.push_more_arguments-push_term-requires

@@ -1,5 +1,5 @@
 use Rattle.std.proofs.Common.{rules}
-use Rattle.tptp_tree.proofs.AgainLemmas.{name-again}
+use Rattle.tptp_tree.proofs.AboutPrinting.AgainLemmas.{name-again}
 use Rattle.tptp_tree.proofs.print.print_name.Goals as goal
 
 pub returns-clause-read_again : goal.returns-clause-read_again

@@ -1,4 +1,4 @@
-use Rattle.tstp_writer.proofs.AboutNeeded.DerivedLemmas.{derived-taken}
+use Rattle.tstp_writer.proofs.AboutNeeded.DerivedNames.{derived-taken}
 use Rattle.tstp_writer.proofs.laws.derived_lines_are_taken.Goals as goal
 
 pub returns : goal.returns

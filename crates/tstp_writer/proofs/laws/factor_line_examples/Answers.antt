@@ -7,13 +7,11 @@ unfolding digits
 returns c = record {
   text = refl;
   readable = record {
-    nameless = refl;
-    names = refl;
     literals = refl;
     sides = refl;
     binds = refl;
     small = refl;
     canonical = refl;
-    variables = (omega arith, (omega arith, (omega arith, tt)));
   };
+  numbers = record { variables = (omega arith, (omega arith, (omega arith, tt))); numbers = tt };
 }

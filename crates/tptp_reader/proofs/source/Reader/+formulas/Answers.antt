@@ -1,5 +1,7 @@
-use Rattle.std.proofs.Common.{refl, sym, ap, take, arith, ◌∙◌}
+use Rattle.std.proofs.Common.{refl, sym, ap, take, subst, ◌∙◌}
+use Rattle.tptp_tree.specs.Shape.{formula_of}
 use Rattle.tptp_reader.specs.Machine.{a_unit, maybe_more_units}
+use Rattle.tptp_reader.specs.Telling.{ReadsUnits}
 use Rattle.tptp_reader.proofs.AboutRuns.LoopLemmas.{passed, first-halts, kept-reads, kept-halts}
 use Rattle.tptp_reader.proofs.AboutSteps.FormulaSteps.{quantifier-is}
 use Rattle.tptp_reader.proofs.AboutReads.FormulaReads.{negation-read, negation-halted, negation-too_deep, quantifier-read, quantifier-halted, quantifier-too_deep, brackets-too_deep, brackets-halted, brackets-open, brackets-read, atom_unit-read, atom_unit-halted, units-first, units-more, units-read, units-cut_off, units-halted, unit_first-halted, formula-cut_off, alone-read, conjunction-read, conjunction-halted, disjunction-read, disjunction-halted, connected-read, connected-halted}
@@ -85,8 +87,11 @@ operands-returns-in_err-token-clause-halted t c =
 
 pub operands-returns-then-not-is_connective-clause-read : goal.operands-returns-then-not-is_connective-clause-read
 operands-returns-then-not-is_connective-clause-read t c =
-    units-read _ _ _ _ _ _ _ _ _ c.loop-operands.invariant.read c.in_ok-token.ensures.found
-    (sym c.is_connective.ensures ∙ c.if-not-is_connective.true)
+    subst
+    (λ fs. ReadsUnits c.args.sign.now (formula_of c.args.first) c.args.self.now c.args.bound.now c.args.level c.args.at c.loop-operands.next fs)
+    (sym c.fitted_formulas.ensures)
+    (units-read _ _ _ _ _ _ _ _ _ c.loop-operands.invariant.read c.in_ok-token.ensures.found
+    (sym c.is_connective.ensures ∙ c.if-not-is_connective.true))
 
 pub operands-returns-in_err-operand-clause-halted : goal.operands-returns-in_err-operand-clause-halted
 operands-returns-in_err-operand-clause-halted t c =
@@ -132,13 +137,13 @@ unit-returns-in_err-plain-clause-halted t c =
     passed _ _ _ c.from_residual-in_err-plain.ensures.1
     (atom_unit-halted _ _ _ _ _ _ c.in_ok-token.ensures.found (sym c.is_connective.ensures ∙ c.if-is_connective.false)
     (sym c.is_quantifier.ensures ∙ c.if-is_quantifier.false) (sym c.is_mark.ensures ∙ c.if-is_mark.false)
-    (kept-halts _ _ _ _ _ _ _ c.as_slice.ensures.value c.in_err-plain.ensures.halted))
+    c.in_err-plain.ensures.halted)
 
 pub unit-returns-clause-read : goal.unit-returns-clause-read
 unit-returns-clause-read t c =
     atom_unit-read _ _ _ _ _ _ _ c.in_ok-token.ensures.found (sym c.is_connective.ensures ∙ c.if-is_connective.false)
     (sym c.is_quantifier.ensures ∙ c.if-is_quantifier.false) (sym c.is_mark.ensures ∙ c.if-is_mark.false)
-    (kept-reads _ _ _ _ _ _ _ _ _ _ c.as_slice.ensures.value c.in_ok-plain.ensures.read)
+    c.in_ok-plain.ensures.read
 
 -- ---- negated
 
@@ -206,6 +211,6 @@ quantified-returns-clause-read t c =
 
 pub quantified-returns-clause-kept : goal.quantified-returns-clause-kept
 quantified-returns-clause-kept t c =
-    c.truncate.ensures.items
-    ∙ ap (λ n. take n c.unit.new.bound.items) (omega (arith, c.len-outer.ensures, c.args.bound.now.ok.0))
+    c.truncate.ensures
+    ∙ ap (λ n. take n c.unit.new.bound) c.len-outer.ensures
     ∙ cut_back _ _ _ _ c.in_ok-variables.ensures.binds c.in_ok-inner.ensures.kept

@@ -1,6 +1,6 @@
-use Rattle.std.proofs.Common.{sym, ◌∙◌, subst}
+use Rattle.std.proofs.Common.{◌+◌, sym, ◌∙◌, subst}
 use Rattle.tptp_reader.specs.Machine.{a_term, more_arguments}
-use Rattle.tptp_reader.specs.Telling.{one, Halts}
+use Rattle.tptp_reader.specs.Telling.{one, Halts, ReadsBracketed}
 use Rattle.tptp_reader.specs.declared.cause.Halt.TheVariants.{At}
 use Rattle.tptp_reader.specs.declared.cause.Refusal.{Refusal as ToldRefusal}
 use Rattle.tptp_reader.proofs.AboutReads.TermReads.{no_arguments-read, arguments-read, arguments-halted, arguments-too_deep, terms-first, terms-more, terms-closed, terms-refused, terms-cut_off, terms-halted, word-read, word-halted, variable-read, variable-halted, other-halted}
@@ -45,7 +45,8 @@ bracketed-returns-in_err-token-clause-halted t c =
 
 pub bracketed-returns-then-is_mark-clause-read : goal.bracketed-returns-then-is_mark-clause-read
 bracketed-returns-then-is_mark-clause-read t c =
-    terms-closed _ _ _ _ _ _ _ c.loop-terms.invariant c.in_ok-token.ensures.found (sym c.is_mark.ensures ∙ c.if-is_mark.true)
+    subst (λ ts. ReadsBracketed c.args.self.now c.args.bound.now c.args.level c.args.at (c.loop-terms.next + 1) ts) (sym c.fitted_terms.ensures)
+    (terms-closed _ _ _ _ _ _ _ c.loop-terms.invariant c.in_ok-token.ensures.found (sym c.is_mark.ensures ∙ c.if-is_mark.true))
 
 pub bracketed-returns-then-not-is_mark-clause-halted : goal.bracketed-returns-then-not-is_mark-clause-halted
 bracketed-returns-then-not-is_mark-clause-halted t c =

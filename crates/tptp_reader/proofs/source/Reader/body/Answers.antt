@@ -15,8 +15,8 @@ returns-then-clause-clause-read c =
 pub returns-in_err-formula-clause-halted : goal.returns-in_err-formula-clause-halted
 returns-in_err-formula-clause-halted c =
     passed _ _ _ c.from_residual-in_err-formula.ensures.1
-    (formula_body-halted _ _ _ _ _ _ refl refl refl c.if-clause.false c.new-bound.ensures.items c.in_err-formula.ensures.halted)
+    (formula_body-halted _ _ _ _ _ _ refl refl refl c.if-clause.false c.new-bound.ensures c.in_err-formula.ensures.halted)
 
 pub returns-clause-read : goal.returns-clause-read
 returns-clause-read c =
-    formula_body-read _ _ _ _ _ _ _ refl refl refl c.if-clause.false c.new-bound.ensures.items c.in_ok-formula.ensures.read
+    formula_body-read _ _ _ _ _ _ _ refl refl refl c.if-clause.false c.new-bound.ensures c.in_ok-formula.ensures.read

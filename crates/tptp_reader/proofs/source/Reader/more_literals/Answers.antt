@@ -1,5 +1,7 @@
-use Rattle.std.proofs.Common.{sym, ◌∙◌}
+use Rattle.std.proofs.Common.{sym, subst, ◌∙◌}
+use Rattle.tptp_tree.specs.Shape.{formula_of}
 use Rattle.tptp_reader.specs.Machine.{a_literal, maybe_more_literals}
+use Rattle.tptp_reader.specs.Telling.{ReadsLiterals}
 use Rattle.tptp_reader.proofs.AboutRuns.LoopLemmas.{passed, first-halts}
 use Rattle.tptp_reader.proofs.AboutReads.ClauseReads.{literals-first, literals-more, literals-read, literals-cut_off, literals-halted}
 use Rattle.tptp_reader.proofs.source.Reader.more_literals.Goals as goal
@@ -19,8 +21,10 @@ returns-in_err-token-clause-halted c =
 
 pub returns-then-not-is_connective-clause-read : goal.returns-then-not-is_connective-clause-read
 returns-then-not-is_connective-clause-read c =
-    literals-read _ _ _ _ _ _ _ _ c.loop-literals.invariant c.in_ok-token.ensures.found
-    (sym c.is_connective.ensures ∙ c.if-not-is_connective.true)
+    subst (λ fs. ReadsLiterals (formula_of c.args.first) c.args.self.now c.args.bound.now c.args.level c.args.at c.loop-literals.next fs)
+    (sym c.fitted_formulas.ensures)
+    (literals-read _ _ _ _ _ _ _ _ c.loop-literals.invariant c.in_ok-token.ensures.found
+    (sym c.is_connective.ensures ∙ c.if-not-is_connective.true))
 
 pub returns-in_err-literal-clause-halted : goal.returns-in_err-literal-clause-halted
 returns-in_err-literal-clause-halted c =

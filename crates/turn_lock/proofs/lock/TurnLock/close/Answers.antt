@@ -1,6 +1,6 @@
-use Rattle.std.proofs.Common.{◌≡◌, length, Some, IsSome, sym, refl, ap, ◌∙◌, subst}
+use Rattle.std.proofs.Common.{◌≡◌, Some, IsSome, sym, refl, ap, ◌∙◌, subst}
 use mathlib.Core.List.{IsPrefix}
-use Rattle.turn_lock.specs.History.{AreBelow, OwnsKeys}
+use Rattle.turn_lock.specs.History.{OwnsAdded, OwnsKeys}
 use Rattle.turn_lock.specs.Shown.{Known}
 use Rattle.turn_lock.proofs.Keeps.{closes, closes_as, IsLast}
 use Rattle.turn_lock.proofs.lock.TurnLock.close.Given.{Over}
@@ -25,9 +25,9 @@ pub returns-clause-origin : goal.returns-clause-origin
 returns-clause-origin g c = let P = Known g.row.S-Entry.Denot g.row.S-Origin.Denot in
     subst (λ (p : P). p.origin ≡ Some (g.S.Historied.origin c.unwrap-state.result)) c.pass.view_is (last g c).1
 
-pub returns-clause-below : goal.returns-clause-below
-returns-clause-below g c = let P = Known g.row.S-Entry.Denot g.row.S-Origin.Denot in
-    subst (λ (p : P). AreBelow p.own (length p.seen)) c.pass.view_is (last g c).2
+pub returns-clause-added : goal.returns-clause-added
+returns-clause-added g c = let P = Known g.row.S-Entry.Denot g.row.S-Origin.Denot in
+    subst (λ (p : P). OwnsAdded p.start (g.S.Historied.history c.unwrap-state.result) p.own) c.pass.view_is (last g c).2
 
 pub returns-clause-keys : goal.returns-clause-keys
 returns-clause-keys g c = let P = Known g.row.S-Entry.Denot g.row.S-Origin.Denot in

@@ -1,7 +1,7 @@
-use Rattle.std.proofs.Common.{rules, ◌≡◌, [], ◌∷◌, length, Option, Some, ap, sym, subst, ◌∙◌, refl, unwrap_or}
+use Rattle.std.proofs.Common.{rules, ◌≡◌, [], ◌∷◌, Option, Some, ap, sym, subst, ◌∙◌, refl, unwrap_or}
 use Rattle.atomic_table.specs.Table.{Me}
 use Rattle.turn_lock.specs.declared.view.View.{View}
-use Rattle.turn_lock.specs.History.{AreBelow}
+use Rattle.turn_lock.specs.History.{AreAdded, OwnsKeys}
 use Rattle.turn_lock.specs.Steps.{raised, released}
 use Rattle.turn_lock.proofs.Lists.{some_held}
 use Rattle.turn_lock.proofs.Keeps.{filled, raises_at, raised_at, releases_at}
@@ -30,7 +30,7 @@ store-requires-2 g c = let seat = c.args.seat.now in (
 
 -- the seat, once the length is raised
 counted : (g : Over) (c : goal.After-store-2 g) → (c.store.new.seat.me ≡ (raised c.args.seat.now.me.0 (unwrap_or c.args.seat.now.me.0.held []) (g.S.Historied.history c.args.state), (0, Some c.args.state) ∷ []))
-    × AreBelow c.store.new.seat.me.0.own (length c.store.new.seat.me.0.seen)
+    × AreAdded c.store.new.seat.me.0.start c.store.new.seat.me.0.seen c.store.new.seat.me.0.own × OwnsKeys g.S.Historied.key c.store.new.seat.me.0.seen c.store.new.seat.me.0.own
 counted g c = let seat = c.args.seat.now in
     raised_at g.S.Historied.history g.S.Historied.origin g.S.Historied.key c.self.inside.table.shared.table_id.slots c.exchange-left.new.seat.me c.store.new.seat.me seat.me.0 c.args.state (unwrap_or seat.me.0.held []) c.len-length.result
     (filled g.S.Historied.history g.S.Historied.origin g.S.Historied.key seat.me c.exchange-left.new.seat.me c.args.state c.requires.hold.0 c.exchange-left.ensures.3)
@@ -39,6 +39,10 @@ counted g c = let seat = c.args.seat.now in
 pub returns-clause-view : goal.returns-clause-view
 returns-clause-view g c = c.store-2.ensures.2 ∙ ap (λ m. (released m.0, [])) (counted g c).0
 
-pub returns-clause-below : goal.returns-clause-below
-returns-clause-below g c = let M = Me (Option g.row.S.Denot) (View g.row.S-Entry.Denot g.row.S-Origin.Denot) in
-    subst (λ (m : M). AreBelow m.0.own (length m.0.seen)) (sym c.store-2.ensures.2) (counted g c).1
+pub returns-clause-added : goal.returns-clause-added
+returns-clause-added g c = let M = Me (Option g.row.S.Denot) (View g.row.S-Entry.Denot g.row.S-Origin.Denot) in
+    subst (λ (m : M). AreAdded m.0.start m.0.seen m.0.own) (sym c.store-2.ensures.2) (counted g c).1
+
+pub returns-clause-keys : goal.returns-clause-keys
+returns-clause-keys g c = let M = Me (Option g.row.S.Denot) (View g.row.S-Entry.Denot g.row.S-Origin.Denot) in
+    subst (λ (m : M). OwnsKeys g.S.Historied.key m.0.seen m.0.own) (sym c.store-2.ensures.2) (counted g c).2

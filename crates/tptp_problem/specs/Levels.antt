@@ -1,0 +1,13 @@
+-- How deep the formulas of a problem are nested.
+use Rattle.std.specs.Prelude.{ℕ, List, Option, map}
+use Rattle.std.specs.List.{AllByRecursion}
+use Rattle.outside.specs.Library.{Holdings}
+use Rattle.tptp_tree.specs.declared.limits.TheConstants.{MOST_NESTING, MOST_PRINTED_NESTING}
+use Rattle.tptp_tree.specs.Formula.{FormulaTree}
+use Rattle.tptp_tree.specs.Levels.{IsWrittenWithin, SpellsFormulaWithin}
+use Rattle.tptp_tree.specs.Printing.{formula_text}
+
+-- A formula or a clause of at most 500 levels says it, and its printed text spells it within 1,000.
+pub record HasFewLevels (f : FormulaTree) : Type 0 where
+  pub written : IsWrittenWithin MOST_NESTING f
+  pub printed : SpellsFormulaWithin MOST_PRINTED_NESTING (formula_text f) f
