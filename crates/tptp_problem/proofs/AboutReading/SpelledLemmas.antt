@@ -63,7 +63,7 @@ formula-spelled base gives file first progress s h = record {
   given = ap (map from_file) h.formulas_are;
 }
 
-include-entry : Word → List NamePhrase → EntryTree
+abbrev include-entry : Word → List NamePhrase → EntryTree
 include-entry file [] = include_tree (name_of file) None
 include-entry file (n ∷ ns) = include_tree (name_of file) (Some (names_meant (n ∷ ns)))
 
@@ -125,7 +125,10 @@ steps-spelled base reads gives file first progress (s ∷ ss) each are end =
       entries = one.entry ∷ more.entries;
       says = (one.says, more.says);
       given = (
-        map from_file s.formulas, map from_file (formulas_along ss), one.given, more.given,
+        map from_file s.formulas,
+        map from_file (formulas_along ss),
+        one.given,
+        more.given,
         map-append from_file s.formulas (formulas_along ss),
       );
     }

@@ -128,7 +128,7 @@ returns c = record {
                   reading =
                       record {
                         phrase = phrase (codes "a") (codes "p");
-                        spelled = record { right = refl; spelled = refl; faultless = (refl, refl, refl, refl, refl, refl, refl, refl, refl, tt) };
+                        spelled = record { right = refl; spelled = refl; faultless = (refl, (refl, (refl, (refl, (refl, (refl, (refl, (refl, (refl, tt))))))))) };
                         meant = says (codes "a") (codes "p");
                         within = omega arith;
                         notes = refl;
