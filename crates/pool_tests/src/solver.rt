@@ -245,6 +245,56 @@ fn learns_at_the_first_unique_implication_point(rt: HostRuntime) {
     assert!(rt; learns_middle(rt.alloc()).expect(&rt, "memory"));
 }
 
+fn is_cited(log: &Log, number: u64) -> bool {
+    log.iter().any(|chain| {
+        chain.start == number || chain.links.iter().any(|link| link.number == number)
+    })
+}
+
+/// Whether the clauses are refuted by a log in which each chain but the last is cited.
+fn is_refuted_by_need(alloc: Global, clauses: &PropClauses, names: u32) -> Mem<bool> {
+    if !names_are_below(clauses, names) {
+        return Ok(false);
+    }
+    let Answer::Refuted(log) = solve(alloc, clauses, names)? else {
+        return Ok(false);
+    };
+    let first = clauses.len() as u64;
+    let last = first.wrapping_add(log.len() as u64).wrapping_sub(1);
+    Ok((first..last).all(|number| is_cited(&log, number)))
+}
+
+#[test]
+fn leaves_out_what_the_last_chain_does_not_need(rt: HostRuntime) {
+    let alloc = rt.alloc();
+    let clauses = pigeons(alloc, 6, 5).expect(&rt, "memory");
+    assert!(rt; is_refuted_by_need(alloc, &clauses, 30).expect(&rt, "memory"));
+}
+
+/// Two of its models are all true, and all true but the second name.
+const TWO_MODELS: &[&[i8]] = &[&[1, 2, 3], &[-2, 3], &[1, -3]];
+
+/// Whether the answer is the values that are tried first.
+fn answers_with(alloc: Global, table: &[&[i8]], values: &[bool]) -> Mem<bool> {
+    let clauses = clauses_of(alloc, table)?;
+    if !names_are_below(&clauses, 3) {
+        return Ok(false);
+    }
+    match solve_from(alloc, &clauses, 3, values)? {
+        Answer::Model(truths) => Ok(truths.as_slice() == values),
+        Answer::Refuted(_) => Ok(false),
+    }
+}
+
+#[test]
+fn answers_with_the_model_that_is_tried_first(rt: HostRuntime) {
+    let alloc = rt.alloc();
+    for values in [[true, true, true], [true, false, true]] {
+        assert!(rt; answers_with(alloc, TWO_MODELS, &values).expect(&rt, "memory"));
+    }
+    assert!(rt; !answers_with(alloc, TWO_MODELS, &[false, false, false]).expect(&rt, "memory"));
+}
+
 fn random_literal(random: &mut Random, names: u32) -> NameLit
     requires { 0 < names }
 {

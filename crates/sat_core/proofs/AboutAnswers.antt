@@ -1,3 +1,4 @@
 -- Right answers.
 pub mod SolverLemmas
 pub mod SoundLemmas
+pub mod TrimLemmas

@@ -6,7 +6,6 @@ use Rattle.sat_core.specs.declared.answer.Link.{Link}
 use Rattle.sat_core.specs.declared.trail.Assigned.{Assigned}
 use Rattle.sat_core.specs.declared.trail.Slot.{Slot}
 use Rattle.sat_core.specs.declared.analysis.Turn.{Turn}
-use Rattle.sat_core.specs.declared.analysis.Analysis.{Analysis}
 use Rattle.sat_core.specs.Clause.{PropClause}
 use Rattle.sat_core.specs.Resolution.{links_clause}
 use Rattle.sat_core.specs.Trail.{entry_at, place_of, is_false, is_false_within}
@@ -86,9 +85,8 @@ pub record IsTurn (entries : List Assigned) (slots : List Slot) (clause : PropCl
   pub others : (k : NameLit) → IsTrue (has_name k clause) → IsFalse (same_name turn.literal k) → IsTrue (is_false_within slots turn.cut k)
 
 -- a clause derived from a false one by the links: it turns a decision, or is empty
-pub record IsAnalysis (clauses : List PropClause) (entries : List Assigned) (slots : List Slot) (start : ℕ) (analysis : Analysis) : Type 0 where
+pub record IsAnalysis (clauses : List PropClause) (entries : List Assigned) (slots : List Slot) (start : ℕ) (links : List Link) (clause : PropClause) (turn : Option Turn) : Type 0 where
   pub made : PropClause
-  pub starts : analysis.chain.start ≡ start
-  pub lawful : links_clause clauses (clause_at clauses start) analysis.chain.links ≡ Some made
-  pub same : SameLiterals analysis.clause made
-  pub turn : MatchOption analysis.turn (analysis.clause ≡ []) (IsTurn entries slots analysis.clause)
+  pub lawful : links_clause clauses (clause_at clauses start) links ≡ Some made
+  pub same : SameLiterals clause made
+  pub turns : MatchOption turn (clause ≡ []) (IsTurn entries slots clause)

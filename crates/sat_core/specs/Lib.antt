@@ -4,6 +4,9 @@ pub mod Answer
 pub mod Examples
 pub mod Trail
 pub mod State
+pub mod Spans
+pub mod Known
+pub mod Trimming
 pub mod Conflict
 pub mod Search
 pub mod Solver

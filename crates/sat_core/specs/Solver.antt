@@ -1,22 +1,22 @@
 -- The state of the solver, and its steps.
-use Rattle.std.specs.Prelude.{◌≡◌, ℕ, ◌*◌, ◌<◌, ◌≤◌, List, [], length, take, Option, None, Some, IsTrue}
-use Rattle.sat_core.specs.declared.answer.Chain.{Chain}
+use Rattle.std.specs.Prelude.{◌≡◌, ℕ, ◌+◌, ◌*◌, ◌^◌, ◌<◌, ◌≤◌, List, [], length, IsTrue}
 use Rattle.sat_core.specs.declared.solver.Solver.{Solver}
 use Rattle.sat_core.specs.declared.solver.Step.{Step}
 use Rattle.sat_core.specs.declared.solver.Step.TheVariants.{Going, Satisfied, Refuted}
 use Rattle.sat_core.specs.Clause.{PropClause, clauses_true, valuation_of}
-use Rattle.sat_core.specs.State.{AreDerived, AreCovered, IsSound, Derives}
+use Rattle.sat_core.specs.State.{AreCovered, IsSound, Derives}
+use Rattle.sat_core.specs.Known.{known, IsKnown}
 use Rattle.sat_core.specs.Search.{remaining, values_of}
 
 pub record IsState (s : Solver) : Type 0 where
-  pub derived : AreDerived s.clauses.inputs s.clauses.all.items s.clauses.log.items
-  pub sound : IsSound s.clauses.all.items s.trail.entries.items s.trail.slots.items
+  pub derived : IsKnown s.clauses
+  pub sound : IsSound (known s.clauses) s.trail.entries.items s.trail.slots.items
   pub marks : AreCovered s.marks.marked.items s.marks.literals.items
   pub marked_names : length s.marks.marked.items ≡ length s.trail.slots.items
   pub lists : length s.watches.lists.items ≡ 2 * length s.trail.slots.items
 
 abbrev pub inputs_of : Solver → List PropClause
-inputs_of s = take s.clauses.inputs s.clauses.all.items
+inputs_of s = s.clauses.inputs.now
 
 -- the state over the inputs and so many names
 pub record IsBegun (names : ℕ) (inputs : List PropClause) (s : Solver) : Type 0 where
@@ -24,29 +24,32 @@ pub record IsBegun (names : ℕ) (inputs : List PropClause) (s : Solver) : Type 
   pub inputs_are : inputs_of s ≡ inputs
   pub names_are : length s.trail.slots.items ≡ names
 
+-- What is left to try over so many names. A restart that is left counts more than any trail.
+abbrev pub left_to_try : ℕ → Solver → ℕ
+left_to_try names s = s.restarts.left * 3 ^ names + remaining names s.trail.entries.items
+
 -- another state over the same inputs and names, with less left to try
 pub record Advances (old new : Solver) : Type 0 where
   pub state : IsState new
   pub inputs : inputs_of new ≡ inputs_of old
   pub names : length new.trail.slots.items ≡ length old.trail.slots.items
-  pub fewer : remaining (length old.trail.slots.items) new.trail.entries.items < remaining (length old.trail.slots.items) old.trail.entries.items
+  pub fewer : left_to_try (length old.trail.slots.items) new < left_to_try (length old.trail.slots.items) old
 
 -- the same, but for what is left to try
 pub record Keeps (old new : Solver) : Type 0 where
   pub state : IsState new
   pub inputs : inputs_of new ≡ inputs_of old
   pub names : length new.trail.slots.items ≡ length old.trail.slots.items
-  pub no_more : remaining (length old.trail.slots.items) new.trail.entries.items ≤ remaining (length old.trail.slots.items) old.trail.entries.items
+  pub no_more : left_to_try (length old.trail.slots.items) new ≤ left_to_try (length old.trail.slots.items) old
 
--- the chain derives the empty clause
-pub record Refutes (old new : Solver) (chain : Chain) : Type 0 where
+-- the conflict's chain derives the empty clause
+pub record IsRefuted (s : Solver) : Type 0 where
+  pub derived : IsKnown s.clauses
+  pub derives : Derives (known s.clauses) (record { start = s.conflict.start; links = s.conflict.links.items }) []
+
+pub record Refutes (old new : Solver) : Type 0 where
+  pub refuted : IsRefuted new
   pub inputs : inputs_of new ≡ inputs_of old
-  pub derived : AreDerived new.clauses.inputs new.clauses.all.items new.clauses.log.items
-  pub derives : Derives new.clauses.all.items chain []
-
-abbrev pub Turns : Solver → Solver → Option Chain → Type 0
-Turns old new None = Advances old new
-Turns old new (Some chain) = Refutes old new chain
 
 -- the values of the trail make each input clause true
 pub record Satisfies (old new : Solver) : Type 0 where
@@ -56,4 +59,4 @@ pub record Satisfies (old new : Solver) : Type 0 where
 abbrev pub Steps : Solver → Solver → Step → Type 0
 Steps old new Going = Advances old new
 Steps old new Satisfied = Satisfies old new
-Steps old new (Refuted chain) = Refutes old new chain
+Steps old new Refuted = Refutes old new

@@ -1,5 +1,5 @@
 -- What the solver keeps: clauses that are derived, a trail whose entries are decisions or implied, and marks.
-use Rattle.std.specs.Prelude.{◌≡◌, ℕ, ◌<◌, ◌≤◌, Bool, false, ◌==◌, List, [], ◌++◌, length, take, Some, slice_index_or, IsTrue, IsFalse}
+use Rattle.std.specs.Prelude.{◌≡◌, ℕ, ◌<◌, Bool, false, ◌==◌, List, [], length, Some, slice_index_or, IsTrue, IsFalse}
 use Rattle.std.specs.List.{list_any}
 use Rattle.plain_types.specs.declared.sequence.NameLit.{NameLit}
 use Rattle.plain_types.specs.Names.{same_name, has_name}
@@ -24,12 +24,11 @@ pub record SameClauses (cs ds : List PropClause) : Type 0 where
 
 -- ---- clauses
 
--- the clauses after the first so many are, as sets, those of the log over these
-pub record AreDerived (inputs : ℕ) (clauses : List PropClause) (log : List Chain) : Type 0 where
-  pub within : inputs ≤ length clauses
+-- the learned clauses are, as sets, those of the log over the inputs
+pub record AreDerived (inputs learned : List PropClause) (log : List Chain) : Type 0 where
   pub made : List PropClause
-  pub lawful : log_clauses (take inputs clauses) log ≡ Some made
-  pub same : SameClauses clauses (take inputs clauses ++ made)
+  pub lawful : log_clauses inputs log ≡ Some made
+  pub same : SameClauses learned made
 
 -- the chain's clause is, as a set, the clause
 pub record Derives (clauses : List PropClause) (chain : Chain) (clause : PropClause) : Type 0 where

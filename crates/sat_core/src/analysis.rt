@@ -6,15 +6,16 @@ ghost use Rattle.plain_types.specs.declared.sequence.NameLit.{NameLit as Literal
 ghost use Rattle.plain_types.specs.Names.{has_name};
 ghost use Rattle.sat_core.specs.Trail.{IsTrail, entry_at, place_of};
 ghost use Rattle.sat_core.specs.State.{IsSound, AreMarks, AreCovered, AreFalse, clause_at};
+ghost use Rattle.sat_core.specs.Known.{known};
 ghost use Rattle.sat_core.specs.Conflict.{AddsOthers, OthersAreFalse, AreWithin, IsAnalysis, IsResolving, TurnsAt, IsTurnOf};
 
-use crate::answer::{Chain, Link, Links};
+use crate::answer::Link;
 use crate::clauses::Clauses;
 use crate::literals::{is_other, opposite};
 use crate::marks::Marks;
-use crate::minimise::marked_within;
+use crate::minimise::list_marked;
 use crate::trail::{Assigned, Trail};
-use plain_types::{Mem, NameLit, Names};
+use plain_types::{Mem, NameLit};
 use std::alloc::Global;
 
 /// A decision that is to be turned.
@@ -26,22 +27,14 @@ pub struct Turn {
     pub cut: usize,
 }
 
-/// What a false clause comes to.
-#[derive(Drop)]
-pub struct Analysis {
-    /// The resolutions that begin with the false clause.
-    pub chain: Chain,
-    /// The clause that they derive.
-    pub clause: Names,
-    /// The decision that it turns; none where it is empty.
-    pub turn: Option<Turn>,
-}
-
-/// A false clause, and the resolutions so far. The last two fields are hints, on which no answer rests.
+/// A false clause, the resolutions so far, and the clause that they come to. The same room serves all conflicts. `level`
+/// and `lowest` are hints, on which no answer rests.
 #[derive(Drop)]
 pub struct Conflict {
     pub start: usize,
     pub links: Vec<Link>,
+    /// The clause that is learned.
+    pub clause: Vec<NameLit>,
     /// The index of the last decision before the conflict.
     pub level: usize,
     /// The least place above it of a marked literal.
@@ -91,7 +84,7 @@ fn highest_place(trail: &Trail, literals: &[NameLit], bound: usize) -> usize
 }
 
 /// The first decision from an index on, below a bound.
-fn decision_from(trail: &Trail, low: usize, bound: usize) -> Option<usize>
+pub fn decision_from(trail: &Trail, low: usize, bound: usize) -> Option<usize>
     requires { bound ≤ length trail.now.entries.items }
     ensures some { IfSome result (λ i. (low ≤ i) × (i < bound) × ((entry_at trail.now.entries.items i).reason ≡ None)) }
     ensures none { IfNone result ((i : ℕ) → low ≤ i → i < bound → IsSome (entry_at trail.now.entries.items i).reason) }
@@ -117,50 +110,44 @@ fn last_decision(trail: &Trail, bound: usize) -> usize
 }
 
 impl Conflict {
-    /// The false clause, with its literals marked.
-    fn of(
-        alloc: Global,
-        clauses: &Clauses,
+    /// No conflict.
+    pub fn new(alloc: Global) -> Conflict {
+        Conflict {
+            start: 0,
+            links: Vec::new(alloc),
+            clause: Vec::new(alloc),
+            level: 0,
+            lowest: 0,
+        }
+    }
+
+    /// Begins with a false clause, and marks its literals.
+    fn begin(
+        &mut self,
+        clauses: &Clauses<'_>,
         trail: &Trail,
         marks: &mut Marks,
         start: usize,
-    ) -> Mem<Conflict>
-        requires sound { IsSound clauses.now.all.items trail.now.entries.items trail.now.slots.items }
+    ) -> Mem<()>
+        requires sound { IsSound (known clauses.now) trail.now.entries.items trail.now.slots.items }
         requires marks { AreCovered marks.old.marked.items marks.old.literals.items }
         requires names { length marks.old.marked.items ≡ length trail.now.slots.items }
-        requires start { start < length clauses.now.all.items }
-        requires false_clause { AreFalse trail.now.slots.items (clause_at clauses.now.all.items start) }
-        ensures start { IfOk result (λ conflict. conflict.start ≡ start) }
-        ensures resolving { IfOk result (λ conflict. IsResolving clauses.now.all.items trail.now.slots.items start conflict.links.items
+        requires start { start < length (known clauses.now) }
+        requires false_clause { AreFalse trail.now.slots.items (clause_at (known clauses.now) start) }
+        ensures start { IfOk result (λ _. self.new.start ≡ start) }
+        ensures resolving { IfOk result (λ _. IsResolving (known clauses.now) trail.now.slots.items start self.new.links.items
             marks.new.marked.items marks.new.literals.items (length trail.now.entries.items)) }
     {
         marks.clear();
         let literals = clauses.literals(start);
         mark_others(marks, trail, literals, None)?;
         let top = highest_place(trail, literals, trail.entries.len() + 1);
-        let mut conflict = Conflict {
-            start,
-            links: Vec::new(alloc),
-            level: last_decision(trail, top),
-            lowest: usize::MAX,
-        };
-        conflict.see(trail, literals);
-        Ok(conflict)
-    }
-
-    /// The chain so far, with its clause and the decision that it turns.
-    fn into_analysis(self, clause: Names, turn: Option<Turn>) -> Analysis
-        ensures chain { (result.chain.start ≡ self.start) × (result.chain.links ≡ self.links.items) }
-        ensures clause { result.clause ≡ clause }
-        ensures turn { result.turn ≡ turn }
-    {
-        let start = self.start as u64;
-        let links = Links::from_vec(self.links);
-        Analysis {
-            chain: Chain { start, links },
-            clause,
-            turn,
-        }
+        self.start = start;
+        self.links.clear();
+        self.level = last_decision(trail, top);
+        self.lowest = usize::MAX;
+        self.see(trail, literals);
+        Ok(())
     }
 
     /// Sees the places of literals, for the hint.
@@ -208,19 +195,19 @@ impl Conflict {
     fn step_back(
         &mut self,
         marks: &mut Marks,
-        clauses: &Clauses,
+        clauses: &Clauses<'_>,
         trail: &Trail,
         bound: usize,
     ) -> Mem<Option<Turn>>
-        requires sound { IsSound clauses.now.all.items trail.now.entries.items trail.now.slots.items }
+        requires sound { IsSound (known clauses.now) trail.now.entries.items trail.now.slots.items }
         requires some { 0 < bound }
         requires bound { bound ≤ length trail.now.entries.items }
-        requires resolving { IsResolving clauses.now.all.items trail.now.slots.items self.old.start self.old.links.items
+        requires resolving { IsResolving (known clauses.now) trail.now.slots.items self.old.start self.old.links.items
             marks.old.marked.items marks.old.literals.items bound }
         ensures start { IfOk result (λ _. self.new.start ≡ self.old.start) }
-        ensures none { IfOk result (λ turn. IfNone turn (IsResolving clauses.now.all.items trail.now.slots.items self.new.start self.new.links.items
+        ensures none { IfOk result (λ turn. IfNone turn (IsResolving (known clauses.now) trail.now.slots.items self.new.start self.new.links.items
             marks.new.marked.items marks.new.literals.items (bound - 1))) }
-        ensures some { IfOk result (λ turn. IfSome turn (λ t. IsResolving clauses.now.all.items trail.now.slots.items self.new.start self.new.links.items
+        ensures some { IfOk result (λ turn. IfSome turn (λ t. IsResolving (known clauses.now) trail.now.slots.items self.new.start self.new.links.items
             marks.new.marked.items marks.new.literals.items bound × IsTurnOf trail.now.entries.items trail.now.slots.items marks.new.literals.items bound t)) }
     {
         let entry = trail.entries[bound - 1];
@@ -243,32 +230,37 @@ impl Conflict {
 }
 
 /// Resolves a false clause backwards along the trail, until a decision can be turned or nothing is left, and
-/// makes the clause that turns a decision smaller.
+/// makes the clause that turns a decision smaller. The clause is left in `conflict`; the decision that it turns is
+/// answered, none where the clause is empty. `indices` is room.
 pub fn analyse(
-    alloc: Global,
-    clauses: &Clauses,
+    conflict: &mut Conflict,
+    indices: &mut Vec<usize>,
+    clauses: &Clauses<'_>,
     trail: &Trail,
     marks: &mut Marks,
     start: usize,
-) -> Mem<Analysis>
-    requires sound { IsSound clauses.now.all.items trail.now.entries.items trail.now.slots.items }
+) -> Mem<Option<Turn>>
+    requires sound { IsSound (known clauses.now) trail.now.entries.items trail.now.slots.items }
     requires marks { AreCovered marks.old.marked.items marks.old.literals.items }
     requires names { length marks.old.marked.items ≡ length trail.now.slots.items }
-    requires start { start < length clauses.now.all.items }
-    requires false_clause { AreFalse trail.now.slots.items (clause_at clauses.now.all.items start) }
+    requires start { start < length (known clauses.now) }
+    requires false_clause { AreFalse trail.now.slots.items (clause_at (known clauses.now) start) }
     ensures marks { IfOk result (λ _. AreCovered marks.new.marked.items marks.new.literals.items) }
     ensures names { IfOk result (λ _. length marks.new.marked.items ≡ length marks.old.marked.items) }
-    ensures analysis { IfOk result (IsAnalysis clauses.now.all.items trail.now.entries.items trail.now.slots.items start) }
+    ensures start { IfOk result (λ _. conflict.new.start ≡ start) }
+    ensures analysis { IfOk result (IsAnalysis (known clauses.now) trail.now.entries.items trail.now.slots.items start
+        conflict.new.links.items conflict.new.clause.items) }
 {
-    let mut conflict = Conflict::of(alloc, clauses, trail, marks, start)?;
+    conflict.begin(clauses, trail, marks, start)?;
     let mut bound = trail.entries.len();
     while bound > 0 {
         if let Some(turn) = conflict.step_back(marks, clauses, trail, bound)? {
-            conflict.minimise(alloc, marks, clauses, trail, bound)?;
-            let clause = marked_within(alloc, trail, marks, bound)?;
-            return Ok(conflict.into_analysis(clause, Some(turn)));
+            conflict.minimise(indices, marks, clauses, trail, bound)?;
+            list_marked(&mut conflict.clause, trail, marks, bound)?;
+            return Ok(Some(turn));
         }
         bound -= 1;
     }
-    Ok(conflict.into_analysis(Names::new(alloc), None))
+    conflict.clause.clear();
+    Ok(None)
 }

@@ -1,69 +1,84 @@
-// The clauses that are known: those handed in, and those derived from them.
+// The clauses that are known: those that were handed in, which are borrowed, and those derived from them.
 
-ghost use Rattle.std.specs.Prelude.{◌≡◌, ℕ, ◌+◌, ◌<◌, ◌≤◌, [], ◌∷◌, ◌++◌, length, take, IfOk};
+ghost use Rattle.std.specs.Prelude.{◌≡◌, ℕ, ◌<◌, ◌∷◌, ◌++◌, [], length, IfOk};
 ghost use Rattle.sat_core.specs.Answer.{IsRightLog};
-ghost use Rattle.sat_core.specs.State.{AreDerived, Derives, clause_at, SameLiterals};
+ghost use Rattle.sat_core.specs.State.{Derives, clause_at};
+ghost use Rattle.sat_core.specs.Known.{known, IsKnown};
 
-use crate::answer::{Chain, Log, PropClauses};
+use crate::answer::{Link, Log};
+use crate::lists::Lists;
+use crate::trimming::trimmed;
 use plain_types::{Mem, NameLit, Names};
 use std::alloc::Global;
 
-/// The clauses that were handed in, then one for each chain of the log.
+/// The clauses that were handed in, then those that were learned, one for each chain of the log.
 #[derive(Drop)]
-pub struct Clauses {
-    /// How many were handed in.
-    pub inputs: usize,
-    pub all: Vec<Names>,
-    pub log: Vec<Chain>,
+pub struct Clauses<'a> {
+    pub inputs: &'a [Names],
+    pub learned: Lists<NameLit>,
+    /// For each learned clause the number of the clause with which its chain begins.
+    pub starts: Vec<u64>,
+    /// And the links of its chain.
+    pub links: Lists<Link>,
 }
 
-impl Clauses {
+impl<'a> Clauses<'a> {
     /// The clauses that are handed in.
-    pub fn new(alloc: Global, inputs: &PropClauses) -> Mem<Clauses>
-        ensures all { IfOk result (λ clauses. clauses.all.items ≡ inputs.now) }
-        ensures log { IfOk result (λ clauses. clauses.log.items ≡ []) }
-        ensures inputs { IfOk result (λ clauses. clauses.inputs ≡ length inputs.now) }
+    pub fn new(alloc: Global, inputs: &'a [Names]) -> Clauses<'a>
+        ensures inputs { result.inputs.now ≡ inputs.now }
+        ensures learned { result.learned ≡ [] }
+        ensures starts { result.starts.items ≡ [] }
+        ensures links { result.links ≡ [] }
     {
-        let mut all = Vec::with_capacity(alloc, inputs.len())?;
-        for clause in inputs.as_slice() {
-            all.push(clause.copy(alloc)?)?;
+        Clauses {
+            inputs,
+            learned: Lists::new(alloc),
+            starts: Vec::new(alloc),
+            links: Lists::new(alloc),
         }
-        Ok(Clauses {
-            inputs: inputs.len(),
-            all,
-            log: Vec::new(alloc),
-        })
+    }
+
+    /// How many there are.
+    pub fn len(&self) -> usize
+        ensures { result ≡ length (known self.now) }
+    {
+        self.inputs.len() + self.learned.len()
     }
 
     /// The literals of a clause.
     pub fn literals(&self, number: usize) -> &[NameLit]
-        requires { number < length self.now.all.items }
-        ensures { result.now ≡ clause_at self.now.all.items number }
+        requires { number < length (known self.now) }
+        ensures { result.now ≡ clause_at (known self.now) number }
     {
-        self.all[number].as_slice()
+        if number < self.inputs.len() {
+            self.inputs[number].as_slice()
+        } else {
+            self.learned.get(number - self.inputs.len())
+        }
     }
 
-    /// Adds a chain and the clause that it derives.
-    pub fn learn(&mut self, chain: Chain, clause: Names) -> Mem<()>
-        requires derived { AreDerived self.old.inputs self.old.all.items self.old.log.items }
-        requires chain { Derives self.old.all.items chain clause }
-        ensures derived { IfOk result (λ _. AreDerived self.new.inputs self.new.all.items self.new.log.items) }
-        ensures all { IfOk result (λ _. self.new.all.items ≡ self.old.all.items ++ clause ∷ []) }
-        ensures inputs { IfOk result (λ _. self.new.inputs ≡ self.old.inputs) }
+    /// Adds a clause and the chain that derives it.
+    pub fn learn(&mut self, start: usize, links: &[Link], clause: &[NameLit]) -> Mem<()>
+        requires known { IsKnown self.old }
+        requires chain { Derives (known self.old) (record { start = start; links = links.now }) clause.now }
+        ensures known { IfOk result (λ _. IsKnown self.new) }
+        ensures more { IfOk result (λ _. self.new.learned ≡ self.old.learned ++ clause.now ∷ []) }
+        ensures inputs { IfOk result (λ _. self.new.inputs.now ≡ self.old.inputs.now) }
     {
-        self.all.push(clause)?;
-        self.log.push(chain)?;
+        self.learned.push(clause)?;
+        self.starts.push(start as u64)?;
+        self.links.push(links)?;
         Ok(())
     }
 
-    /// The log, ended by a chain that derives the empty clause.
-    pub fn into_log(self, chain: Chain) -> Mem<Log>
-        requires derived { AreDerived self.inputs self.all.items self.log.items }
-        requires chain { Derives self.all.items chain [] }
-        ensures { IfOk result (IsRightLog (take self.inputs self.all.items)) }
+    /// The log of what the chain of the empty clause needs, that chain last.
+    pub fn refutation(&mut self, alloc: Global, start: usize, links: &[Link]) -> Mem<Log>
+        requires known { IsKnown self.old }
+        requires chain { Derives (known self.old) (record { start = start; links = links.now }) [] }
+        ensures { IfOk result (IsRightLog self.old.inputs.now) }
     {
-        let mut chains = self.log;
-        chains.push(chain)?;
-        Ok(Log::from_vec(chains))
+        let empty = [];
+        self.learn(start, links, &empty)?;
+        trimmed(alloc, self)
     }
 }

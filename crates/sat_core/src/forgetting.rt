@@ -3,16 +3,16 @@
 
 ghost use Rattle.std.specs.Prelude.{◌≡◌, length, IfOk};
 
-use crate::answer::Chain;
+use crate::answer::Link;
 use crate::clauses::Clauses;
 use crate::watches::Watches;
 use plain_types::Mem;
 use std::alloc::Global;
 
 /// So many learned clauses are watched before half of them are forgotten.
-const FIRST_LIMIT: usize = 2000;
+const FIRST_LIMIT: usize = 500;
 /// What the limit grows by each time.
-const LIMIT_STEP: usize = 300;
+const LIMIT_STEP: usize = 100;
 /// Clauses of so many literals are never forgotten.
 const SHORT: usize = 2;
 
@@ -41,17 +41,18 @@ impl Forgetting {
     pub fn note(
         &mut self,
         alloc: Global,
-        clauses: &Clauses,
+        clauses: &Clauses<'_>,
         watches: &mut Watches,
-        chain: &Chain,
+        start: usize,
+        links: &[Link],
     ) -> Mem<()>
         ensures { IfOk result (λ _. length watches.new.lists.items ≡ length watches.old.lists.items) }
     {
         let number = self.uses.len();
         self.uses.push(number)?;
         self.watched.push(number)?;
-        self.note_use(chain.start as usize, number);
-        for link in chain.links.as_slice() {
+        self.note_use(start, number);
+        for link in links {
             self.note_use(link.number as usize, number);
         }
         if self.watched.len() < self.limit {
@@ -72,11 +73,13 @@ impl Forgetting {
     }
 
     /// For each clause whether it is watched on.
-    fn kept(&self, alloc: Global, clauses: &Clauses) -> Mem<Vec<bool>> {
+    fn kept(&self, alloc: Global, clauses: &Clauses<'_>) -> Mem<Vec<bool>> {
         let since = self.middle_use(alloc)?;
         let mut kept = Vec::with_capacity(alloc, self.uses.len())?;
         for (number, used) in self.uses.iter().enumerate() {
-            kept.push(number < clauses.inputs || *used >= since || is_short(clauses, number))?;
+            kept.push(
+                number < clauses.inputs.len() || *used >= since || is_short(clauses, number),
+            )?;
         }
         Ok(kept)
     }
@@ -97,6 +100,6 @@ pub fn is_kept(kept: &[bool], number: usize) -> bool {
     kept.get(number).copied().unwrap_or(true)
 }
 
-fn is_short(clauses: &Clauses, number: usize) -> bool {
-    number < clauses.all.len() && clauses.all[number].len() <= SHORT
+fn is_short(clauses: &Clauses<'_>, number: usize) -> bool {
+    number < clauses.len() && clauses.literals(number).len() <= SHORT
 }

@@ -5,15 +5,18 @@ mod analysis;
 mod answer;
 mod clauses;
 mod forgetting;
+mod lists;
 mod literals;
 mod marks;
 mod minimise;
 mod order;
+mod restarts;
 mod solver;
 mod trail;
+mod trimming;
 mod watches;
 
 pub use answer::{Answer, Chain, Link, Links, Log, PropClauses, Truths, names_are_below};
-pub use solver::solve;
+pub use solver::{solve, solve_from};
 
 pub mod laws;

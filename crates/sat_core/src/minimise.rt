@@ -6,6 +6,7 @@ ghost use Rattle.plain_types.specs.declared.sequence.NameLit.{NameLit as Literal
 ghost use Rattle.plain_types.specs.Names.{has_name};
 ghost use Rattle.sat_core.specs.Trail.{entry_at};
 ghost use Rattle.sat_core.specs.State.{IsSound};
+ghost use Rattle.sat_core.specs.Known.{known};
 ghost use Rattle.sat_core.specs.Conflict.{AreWithin, IsResolving, IsReduced, is_left};
 
 use crate::analysis::Conflict;
@@ -14,8 +15,7 @@ use crate::clauses::Clauses;
 use crate::literals::opposite;
 use crate::marks::Marks;
 use crate::trail::Trail;
-use plain_types::{Mem, NameLit, Names};
-use std::alloc::Global;
+use plain_types::{Mem, NameLit};
 
 /// Whether the literal is marked and its place within a bound.
 fn is_left(trail: &Trail, marks: &Marks, literal: NameLit, bound: usize) -> bool
@@ -26,32 +26,32 @@ fn is_left(trail: &Trail, marks: &Marks, literal: NameLit, bound: usize) -> bool
     marks.marked[literal.name as usize] && trail.place(literal) <= bound
 }
 
-/// The literals that are still marked, of those whose places are within a bound.
-pub fn marked_within(alloc: Global, trail: &Trail, marks: &Marks, bound: usize) -> Mem<Names>
+/// Lists the literals that are still marked, of those whose places are within a bound.
+pub fn list_marked(list: &mut Vec<NameLit>, trail: &Trail, marks: &Marks, bound: usize) -> Mem<()>
     requires within { AreWithin (length trail.now.slots.items) marks.now.literals.items }
     requires names { length marks.now.marked.items ≡ length trail.now.slots.items }
-    ensures { IfOk result (λ kept. (l : Literal) → has_name l kept
+    ensures { IfOk result (λ _. (l : Literal) → has_name l list.new.items
         ≡ (has_name l marks.now.literals.items && is_left trail.now.slots.items marks.now.marked.items bound l)) }
 {
-    let mut kept = Vec::new(alloc);
+    list.clear();
     for literal in &marks.literals {
         if is_left(trail, marks, *literal, bound) {
-            kept.push(*literal)?;
+            list.push(*literal)?;
         }
     }
-    Ok(Names::from_vec(kept))
+    Ok(())
 }
 
-/// The trail's indices of the literals whose places are below a bound, the latest last.
-fn indices_below(
-    alloc: Global,
+/// Lists the trail's indices of the literals whose places are below a bound, the latest last.
+fn list_below(
+    indices: &mut Vec<usize>,
     trail: &Trail,
     literals: &[NameLit],
     bound: usize,
-) -> Mem<Vec<usize>>
+) -> Mem<()>
     requires { AreWithin (length trail.now.slots.items) literals.now }
 {
-    let mut indices = Vec::new(alloc);
+    indices.clear();
     for literal in literals {
         let place = trail.place(*literal);
         if 0 < place && place < bound {
@@ -59,7 +59,7 @@ fn indices_below(
         }
     }
     indices.sort_unstable();
-    Ok(indices)
+    Ok(())
 }
 
 impl Conflict {
@@ -67,24 +67,24 @@ impl Conflict {
     /// reason's other literals have not been resolved away before.
     pub fn minimise(
         &mut self,
-        alloc: Global,
+        indices: &mut Vec<usize>,
         marks: &mut Marks,
-        clauses: &Clauses,
+        clauses: &Clauses<'_>,
         trail: &Trail,
         bound: usize,
     ) -> Mem<()>
-        requires sound { IsSound clauses.now.all.items trail.now.entries.items trail.now.slots.items }
+        requires sound { IsSound (known clauses.now) trail.now.entries.items trail.now.slots.items }
         requires some { 0 < bound }
         requires bound { bound ≤ length trail.now.entries.items }
-        requires resolving { IsResolving clauses.now.all.items trail.now.slots.items self.old.start self.old.links.items
+        requires resolving { IsResolving (known clauses.now) trail.now.slots.items self.old.start self.old.links.items
             marks.old.marked.items marks.old.literals.items bound }
         requires last { IsTrue (slice_index_or marks.old.marked.items (entry_at trail.now.entries.items (bound - 1)).literal.name false) }
         ensures start { IfOk result (λ _. self.new.start ≡ self.old.start) }
         ensures literals { IfOk result (λ _. marks.new.literals.items ≡ marks.old.literals.items) }
-        ensures reduced { IfOk result (λ _. IsReduced clauses.now.all.items trail.now.entries.items trail.now.slots.items self.new.start self.new.links.items
+        ensures reduced { IfOk result (λ _. IsReduced (known clauses.now) trail.now.entries.items trail.now.slots.items self.new.start self.new.links.items
             marks.new.marked.items marks.new.literals.items bound) }
     {
-        let indices = indices_below(alloc, trail, marks.literals.as_slice(), bound)?;
+        list_below(indices, trail, marks.literals.as_slice(), bound)?;
         for index in indices.iter().rev() {
             if *index < bound - 1 {
                 self.resolve_implied(marks, clauses, trail, *index, bound)?;
@@ -97,19 +97,19 @@ impl Conflict {
     fn resolve_implied(
         &mut self,
         marks: &mut Marks,
-        clauses: &Clauses,
+        clauses: &Clauses<'_>,
         trail: &Trail,
         index: usize,
         bound: usize,
     ) -> Mem<()>
-        requires sound { IsSound clauses.now.all.items trail.now.entries.items trail.now.slots.items }
+        requires sound { IsSound (known clauses.now) trail.now.entries.items trail.now.slots.items }
         requires index { index + 1 < bound }
         requires bound { bound ≤ length trail.now.entries.items }
-        requires reduced { IsReduced clauses.now.all.items trail.now.entries.items trail.now.slots.items self.old.start self.old.links.items
+        requires reduced { IsReduced (known clauses.now) trail.now.entries.items trail.now.slots.items self.old.start self.old.links.items
             marks.old.marked.items marks.old.literals.items bound }
         ensures start { IfOk result (λ _. self.new.start ≡ self.old.start) }
         ensures literals { IfOk result (λ _. marks.new.literals.items ≡ marks.old.literals.items) }
-        ensures reduced { IfOk result (λ _. IsReduced clauses.now.all.items trail.now.entries.items trail.now.slots.items self.new.start self.new.links.items
+        ensures reduced { IfOk result (λ _. IsReduced (known clauses.now) trail.now.entries.items trail.now.slots.items self.new.start self.new.links.items
             marks.new.marked.items marks.new.literals.items bound) }
     {
         let entry = trail.entries[index];

@@ -3,22 +3,24 @@
 ghost use Rattle.std.specs.Prelude.{◌≡◌, ◌*◌, ◌<◌, ◌≤◌, [], length, map, take, IfOk, IfSome, IfNone, MatchOption, IsTrue};
 ghost use Rattle.std.specs.List.{list_any};
 ghost use Rattle.sat_core.specs.Clause.{names_below, clauses_true, valuation_of};
-ghost use Rattle.sat_core.specs.Answer.{IsRightAnswer};
+ghost use Rattle.sat_core.specs.Answer.{IsRightAnswer, IsRightLog};
 ghost use Rattle.sat_core.specs.Trail.{is_true, place_of};
 ghost use Rattle.sat_core.specs.State.{clause_at};
+ghost use Rattle.sat_core.specs.Known.{known};
 ghost use Rattle.sat_core.specs.Conflict.{AreWithin};
 ghost use Rattle.sat_core.specs.Search.{IsConflict, HasNoTrue, AreAssigned, values_of};
-ghost use Rattle.sat_core.specs.Solver.{IsState, Turns, Keeps, Advances, Steps, IsBegun, inputs_of};
+ghost use Rattle.sat_core.specs.Solver.{IsState, IsRefuted, Keeps, Advances, Steps, IsBegun, inputs_of};
 
-use crate::analysis::analyse;
-use crate::answer::{Answer, Chain, PropClauses, Truths};
+use crate::analysis::{Conflict, analyse, decision_from};
+use crate::answer::{Answer, Log, PropClauses, Truths};
 use crate::clauses::Clauses;
 use crate::forgetting::Forgetting;
 use crate::marks::Marks;
 use crate::order::Order;
+use crate::restarts::Restarts;
 use crate::trail::{Assigned, Trail};
 use crate::watches::Watches;
-use plain_types::{Mem, NameLit};
+use plain_types::{Mem, NameLit, Names};
 use std::alloc::Global;
 
 /// What the solver has come to.
@@ -28,71 +30,82 @@ pub enum Step {
     Going,
     /// Each clause has a true literal.
     Satisfied,
-    /// The chain derives the empty clause.
-    Refuted(Chain),
+    /// The conflict's chain derives the empty clause.
+    Refuted,
 }
 
 /// The state of the search.
 #[derive(Drop)]
-pub struct Solver {
-    pub clauses: Clauses,
+pub struct Solver<'a> {
+    pub clauses: Clauses<'a>,
     pub trail: Trail,
     pub marks: Marks,
+    pub conflict: Conflict,
+    /// Room for the analysis of conflicts.
+    pub indices: Vec<usize>,
     pub watches: Watches,
     pub order: Order,
     pub forgetting: Forgetting,
+    pub restarts: Restarts,
 }
 
-impl Solver {
+impl<'a> Solver<'a> {
     /// Nothing is decided yet.
-    fn new(alloc: Global, inputs: &PropClauses, names: u32) -> Mem<Solver>
+    fn new(alloc: Global, inputs: &'a [Names], names: u32, first: &[bool]) -> Mem<Solver<'a>>
         requires { IsTrue (names_below names inputs.now) }
         ensures { IfOk result (IsBegun names inputs.now) }
     {
         let mut watches = Watches::new(alloc, names)?;
-        for clause in inputs.as_slice() {
+        for clause in inputs {
             watches.add_input(clause.as_slice())?;
         }
         Ok(Solver {
-            clauses: Clauses::new(alloc, inputs)?,
-            trail: Trail::new(alloc, names as usize)?,
+            clauses: Clauses::new(alloc, inputs),
+            trail: Trail::new(alloc, names as usize, first)?,
             marks: Marks::new(alloc, names as usize)?,
+            conflict: Conflict::new(alloc),
+            indices: Vec::new(alloc),
             watches,
             order: Order::new(alloc, names)?,
             forgetting: Forgetting::new(alloc, inputs.len())?,
+            restarts: Restarts::new(),
         })
     }
 
-    /// Turns a decision by what a false clause comes to, or gives a chain that derives the empty clause.
-    fn turn(&mut self, alloc: Global, conflict: usize) -> Mem<Option<Chain>>
+    /// Turns a decision by what a false clause comes to, or ends where that is the empty clause.
+    fn turn(&mut self, alloc: Global, number: usize) -> Mem<Step>
         requires state { IsState self.old }
-        requires conflict { IsConflict self.old.clauses.all.items self.old.trail.slots.items conflict }
-        ensures { IfOk result (Turns self.old self.new) }
+        requires conflict { IsConflict (known self.old.clauses) self.old.trail.slots.items number }
+        ensures { IfOk result (Steps self.old self.new) }
     {
-        let analysis = analyse(alloc, &self.clauses, &self.trail, &mut self.marks, conflict)?;
-        let Some(turn) = analysis.turn else {
-            return Ok(Some(analysis.chain));
+        let (conflict, indices) = (&mut self.conflict, &mut self.indices);
+        let (clauses, trail, marks) = (&self.clauses, &self.trail, &mut self.marks);
+        let Some(turn) = analyse(conflict, indices, clauses, trail, marks, number)? else {
+            return Ok(Step::Refuted);
         };
         self.order.bump(self.marks.literals.as_slice());
         self.order.put_back(&self.trail.entries[turn.cut..])?;
         self.trail.cut(turn.cut);
         self.watches.cut(turn.cut);
-        let number = self.clauses.all.len();
-        self.watches
-            .add_learned(&self.trail, analysis.clause.as_slice(), turn.literal)?;
+        let reason = Some(self.clauses.len());
+        let (links, clause) = (
+            self.conflict.links.as_slice(),
+            self.conflict.clause.as_slice(),
+        );
+        self.watches.add_learned(&self.trail, clause, turn.literal)?;
         self.forgetting
-            .note(alloc, &self.clauses, &mut self.watches, &analysis.chain)?;
-        self.clauses.learn(analysis.chain, analysis.clause)?;
-        let (literal, reason) = (turn.literal, Some(number));
+            .note(alloc, &self.clauses, &mut self.watches, number, links)?;
+        self.clauses.learn(number, links, clause)?;
+        let literal = turn.literal;
         self.trail.push(Assigned { literal, reason })?;
-        Ok(None)
+        Ok(Step::Going)
     }
 
     /// Makes true what is implied; gives a clause all of whose literals are false, where there is one.
     fn propagate(&mut self) -> Mem<Option<usize>>
         requires { IsState self.old }
         ensures keeps { IfOk result (λ _. Keeps self.old self.new) }
-        ensures conflict { IfOk result (λ found. IfSome found (IsConflict self.new.clauses.all.items self.new.trail.slots.items)) }
+        ensures conflict { IfOk result (λ found. IfSome found (IsConflict (known self.new.clauses) self.new.trail.slots.items)) }
     {
         self.watches.propagate(&self.clauses, &mut self.trail)
     }
@@ -113,10 +126,10 @@ impl Solver {
     fn unsatisfied(&self) -> Option<usize>
         requires { IsState self.now }
         ensures none { IfNone result (IsTrue (clauses_true (valuation_of (values_of self.now.trail.slots.items)) (inputs_of self.now))) }
-        ensures within { IfSome result (λ n. n < length self.now.clauses.all.items) }
-        ensures no_true { IfSome result (λ n. HasNoTrue self.now.trail.slots.items (clause_at self.now.clauses.all.items n)) }
+        ensures within { IfSome result (λ n. n < length (known self.now.clauses)) }
+        ensures no_true { IfSome result (λ n. HasNoTrue self.now.trail.slots.items (clause_at (known self.now.clauses) n)) }
     {
-        for number in 0..self.clauses.inputs {
+        for number in 0..self.clauses.inputs.len() {
             if !has_true_literal(&self.trail, self.clauses.literals(number)) {
                 return Some(number);
             }
@@ -128,8 +141,8 @@ impl Solver {
     /// of them are false.
     fn resume(&mut self, alloc: Global, number: usize) -> Mem<Step>
         requires state { IsState self.old }
-        requires within { number < length self.old.clauses.all.items }
-        requires no_true { HasNoTrue self.old.trail.slots.items (clause_at self.old.clauses.all.items number) }
+        requires within { number < length (known self.old.clauses) }
+        requires no_true { HasNoTrue self.old.trail.slots.items (clause_at (known self.old.clauses) number) }
         ensures { IfOk result (Steps self.old self.new) }
     {
         match free_literal(&self.trail, self.clauses.literals(number)) {
@@ -137,18 +150,7 @@ impl Solver {
                 self.decide(literal)?;
                 Ok(Step::Going)
             }
-            None => self.turn_step(alloc, number),
-        }
-    }
-
-    fn turn_step(&mut self, alloc: Global, conflict: usize) -> Mem<Step>
-        requires state { IsState self.old }
-        requires conflict { IsConflict self.old.clauses.all.items self.old.trail.slots.items conflict }
-        ensures { IfOk result (Steps self.old self.new) }
-    {
-        match self.turn(alloc, conflict)? {
-            Some(chain) => Ok(Step::Refuted(chain)),
-            None => Ok(Step::Going),
+            None => self.turn(alloc, number),
         }
     }
 
@@ -162,11 +164,31 @@ impl Solver {
         self.order.next(&self.trail)
     }
 
-    /// Decides the next literal; where none is left, looks whether each input clause is true.
+    /// Takes all decisions back.
+    fn restart(&mut self) -> Mem<()>
+        requires state { IsState self.old }
+        requires left { 0 < self.old.restarts.left }
+        ensures { IfOk result (λ _. Advances self.old self.new) }
+    {
+        let count = self.trail.entries.len();
+        let cut = decision_from(&self.trail, 0, count).unwrap_or(count);
+        self.order.put_back(&self.trail.entries[cut..])?;
+        self.trail.cut(cut);
+        self.watches.cut(cut);
+        self.restarts.count(self.clauses.learned.len());
+        Ok(())
+    }
+
+    /// Decides the next literal; where none is left, looks whether each input clause is true. Begins again where it is
+    /// time to.
     fn choose(&mut self, alloc: Global) -> Mem<Step>
         requires { IsState self.old }
         ensures { IfOk result (Steps self.old self.new) }
     {
+        if self.restarts.is_due(self.clauses.learned.len()) {
+            self.restart()?;
+            return Ok(Step::Going);
+        }
         if let Some(literal) = self.next() {
             self.decide(literal)?;
             return Ok(Step::Going);
@@ -183,7 +205,7 @@ impl Solver {
         ensures { IfOk result (Steps self.old self.new) }
     {
         match self.propagate()? {
-            Some(conflict) => self.turn_step(alloc, conflict),
+            Some(conflict) => self.turn(alloc, conflict),
             None => self.choose(alloc),
         }
     }
@@ -197,6 +219,15 @@ impl Solver {
             truths.push(slot.place > 0 && slot.positive)?;
         }
         Ok(Truths::from_vec(truths))
+    }
+
+    /// The log of what the empty clause needs.
+    fn log(&mut self, alloc: Global) -> Mem<Log>
+        requires { IsRefuted self.old }
+        ensures { IfOk result (IsRightLog (inputs_of self.old)) }
+    {
+        let (start, links) = (self.conflict.start, self.conflict.links.as_slice());
+        self.clauses.refutation(alloc, start, links)
     }
 }
 
@@ -231,19 +262,27 @@ fn free_literal(trail: &Trail, literals: &[NameLit]) -> Option<NameLit>
 /// Finds truth values that make every clause true, or a log of resolutions that derives the empty clause. It
 /// learns clauses (Marques-Silva and Sakallah 1996) at the first unique implication point (Zhang and others
 /// 2001) and makes them smaller (Sörensson and Biere 2009), watches two literals of each clause, forgets learned
-/// clauses that it hasn't used for long, doesn't restart, and always ends.
+/// clauses that it hasn't used for long, restarts (Luby, Sinclair and Zuckerman 1993), and always ends. The clauses are borrowed.
 pub fn solve(alloc: Global, clauses: &PropClauses, names: u32) -> Mem<Answer>
     requires { IsTrue (names_below names clauses.now) }
     ensures { IfOk result (IsRightAnswer names clauses.now) }
 {
-    let mut solver = Solver::new(alloc, clauses, names)?;
+    let no_values = [];
+    solve_from(alloc, clauses, names, &no_values)
+}
+
+/// As `solve`, with the value that each name is to be tried with first, as those of an earlier model: what isn't given
+/// is false. This is a hint, on which only the time and the choice among right answers rest.
+pub fn solve_from(alloc: Global, clauses: &PropClauses, names: u32, first: &[bool]) -> Mem<Answer>
+    requires { IsTrue (names_below names clauses.now) }
+    ensures { IfOk result (IsRightAnswer names clauses.now) }
+{
+    let mut solver = Solver::new(alloc, clauses.as_slice(), names, first)?;
     loop {
         match solver.step(alloc)? {
             Step::Going => {}
             Step::Satisfied => return Ok(Answer::Model(solver.truths(alloc)?)),
-            Step::Refuted(chain) => {
-                return Ok(Answer::Refuted(solver.clauses.into_log(chain)?));
-            }
+            Step::Refuted => return Ok(Answer::Refuted(solver.log(alloc)?)),
         }
     }
 }

@@ -19,7 +19,7 @@ pub struct Assigned {
 pub struct Slot {
     /// Its index plus one, or 0 where the name has no value.
     pub place: usize,
-    /// The value that the name has, or had last.
+    /// The value that the name has, or had last, or is to have first.
     pub positive: bool,
 }
 
@@ -31,15 +31,15 @@ pub struct Trail {
 }
 
 impl Trail {
-    /// No name has a value.
-    pub fn new(alloc: Global, names: usize) -> Mem<Trail>
+    /// No name has a value. Of the values that are tried first, those that aren't given are false.
+    pub fn new(alloc: Global, names: usize, first: &[bool]) -> Mem<Trail>
         ensures { IfOk result (λ trail. IsNewTrail names trail.entries.items trail.slots.items) }
     {
-        let unassigned = Slot {
-            place: 0,
-            positive: false,
-        };
-        let slots = vec![in alloc; unassigned; names]?;
+        let mut slots = Vec::with_capacity(alloc, names)?;
+        for name in 0..names {
+            let positive = first.get(name).copied().unwrap_or(false);
+            slots.push(Slot { place: 0, positive })?;
+        }
         Ok(Trail {
             entries: Vec::new(alloc),
             slots,

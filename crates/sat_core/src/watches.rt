@@ -6,6 +6,7 @@ ghost use Rattle.std.specs.Prelude.{◌≡◌, ℕ, ◌+◌, ◌*◌, ◌<◌, �
 ghost use Rattle.plain_types.specs.Names.{same_name};
 ghost use Rattle.sat_core.specs.Trail.{IsTrail, is_false};
 ghost use Rattle.sat_core.specs.State.{IsSound, clause_at};
+ghost use Rattle.sat_core.specs.Known.{known};
 ghost use Rattle.sat_core.specs.Conflict.{AreWithin};
 ghost use Rattle.sat_core.specs.Search.{OthersFalse, HaveLists, IsFound, IsFoundAt, IsConflict, Propagates};
 
@@ -125,17 +126,17 @@ impl Watches {
     /// Looks at a clause that watches a literal which has become false.
     fn visit(
         &mut self,
-        clauses: &Clauses,
+        clauses: &Clauses<'_>,
         trail: &Trail,
         number: usize,
         falsified: NameLit,
     ) -> Visit
-        requires { IsSound clauses.now.all.items trail.now.entries.items trail.now.slots.items }
-        ensures found { IsFoundAt clauses.now.all.items trail.now.slots.items number result }
+        requires { IsSound (known clauses.now) trail.now.entries.items trail.now.slots.items }
+        ensures found { IsFoundAt (known clauses.now) trail.now.slots.items number result }
         ensures lists { self.new.lists.items ≡ self.old.lists.items }
         ensures seen { self.new.seen ≡ self.old.seen }
     {
-        if number >= clauses.all.len() || number >= self.pairs.len() {
+        if number >= clauses.len() || number >= self.pairs.len() {
             return Visit::Kept;
         }
         let literals = clauses.literals(number);
@@ -177,16 +178,16 @@ impl Watches {
     /// ends it.
     fn visit_list(
         &mut self,
-        clauses: &Clauses,
+        clauses: &Clauses<'_>,
         trail: &mut Trail,
         falsified: NameLit,
     ) -> Mem<Option<usize>>
-        requires sound { IsSound clauses.now.all.items trail.old.entries.items trail.old.slots.items }
+        requires sound { IsSound (known clauses.now) trail.old.entries.items trail.old.slots.items }
         requires lists { length self.old.lists.items ≡ 2 * length trail.old.slots.items }
         requires named { falsified.name < length trail.old.slots.items }
-        ensures propagates { IfOk result (λ _. Propagates clauses.now.all.items trail.old.entries.items trail.old.slots.items
+        ensures propagates { IfOk result (λ _. Propagates (known clauses.now) trail.old.entries.items trail.old.slots.items
             trail.new.entries.items trail.new.slots.items) }
-        ensures conflict { IfOk result (λ found. IfSome found (IsConflict clauses.now.all.items trail.new.slots.items)) }
+        ensures conflict { IfOk result (λ found. IfSome found (IsConflict (known clauses.now) trail.new.slots.items)) }
         ensures lists { IfOk result (λ _. length self.new.lists.items ≡ length self.old.lists.items) }
         ensures seen { IfOk result (λ _. self.new.seen ≡ self.old.seen) }
     {
@@ -214,11 +215,11 @@ impl Watches {
     }
 
     /// Looks at the clauses without two different literals.
-    fn settle_units(&mut self, clauses: &Clauses, trail: &mut Trail) -> Mem<Option<usize>>
-        requires sound { IsSound clauses.now.all.items trail.old.entries.items trail.old.slots.items }
-        ensures propagates { IfOk result (λ _. Propagates clauses.now.all.items trail.old.entries.items trail.old.slots.items
+    fn settle_units(&mut self, clauses: &Clauses<'_>, trail: &mut Trail) -> Mem<Option<usize>>
+        requires sound { IsSound (known clauses.now) trail.old.entries.items trail.old.slots.items }
+        ensures propagates { IfOk result (λ _. Propagates (known clauses.now) trail.old.entries.items trail.old.slots.items
             trail.new.entries.items trail.new.slots.items) }
-        ensures conflict { IfOk result (λ found. IfSome found (IsConflict clauses.now.all.items trail.new.slots.items)) }
+        ensures conflict { IfOk result (λ found. IfSome found (IsConflict (known clauses.now) trail.new.slots.items)) }
         ensures lists { IfOk result (λ _. length self.new.lists.items ≡ length self.old.lists.items) }
     {
         while let Some(number) = self.units.pop() {
@@ -230,12 +231,12 @@ impl Watches {
     }
 
     /// Makes true what is implied, until nothing more is or all literals of some clause are false.
-    pub fn propagate(&mut self, clauses: &Clauses, trail: &mut Trail) -> Mem<Option<usize>>
-        requires sound { IsSound clauses.now.all.items trail.old.entries.items trail.old.slots.items }
+    pub fn propagate(&mut self, clauses: &Clauses<'_>, trail: &mut Trail) -> Mem<Option<usize>>
+        requires sound { IsSound (known clauses.now) trail.old.entries.items trail.old.slots.items }
         requires lists { length self.old.lists.items ≡ 2 * length trail.old.slots.items }
-        ensures propagates { IfOk result (λ _. Propagates clauses.now.all.items trail.old.entries.items trail.old.slots.items
+        ensures propagates { IfOk result (λ _. Propagates (known clauses.now) trail.old.entries.items trail.old.slots.items
             trail.new.entries.items trail.new.slots.items) }
-        ensures conflict { IfOk result (λ found. IfSome found (IsConflict clauses.now.all.items trail.new.slots.items)) }
+        ensures conflict { IfOk result (λ found. IfSome found (IsConflict (known clauses.now) trail.new.slots.items)) }
         ensures lists { IfOk result (λ _. length self.new.lists.items ≡ length self.old.lists.items) }
     {
         if let Some(conflict) = self.settle_units(clauses, trail)? {
@@ -308,13 +309,13 @@ impl Watches {
 }
 
 /// Looks at a clause without two different literals.
-fn settle(clauses: &Clauses, trail: &mut Trail, number: usize) -> Mem<Option<usize>>
-    requires sound { IsSound clauses.now.all.items trail.old.entries.items trail.old.slots.items }
-    ensures propagates { IfOk result (λ _. Propagates clauses.now.all.items trail.old.entries.items trail.old.slots.items
+fn settle(clauses: &Clauses<'_>, trail: &mut Trail, number: usize) -> Mem<Option<usize>>
+    requires sound { IsSound (known clauses.now) trail.old.entries.items trail.old.slots.items }
+    ensures propagates { IfOk result (λ _. Propagates (known clauses.now) trail.old.entries.items trail.old.slots.items
         trail.new.entries.items trail.new.slots.items) }
-    ensures conflict { IfOk result (λ found. IfSome found (IsConflict clauses.now.all.items trail.new.slots.items)) }
+    ensures conflict { IfOk result (λ found. IfSome found (IsConflict (known clauses.now) trail.new.slots.items)) }
 {
-    if number >= clauses.all.len() {
+    if number >= clauses.len() {
         return Ok(None);
     }
     let literals = clauses.literals(number);

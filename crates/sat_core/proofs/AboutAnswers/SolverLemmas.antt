@@ -1,10 +1,11 @@
 -- Steps of the solver.
 use Rattle.std.proofs.Common.{◌≡◌, ℕ, zero, suc, ◌+◌, ◌*◌, ◌<◌, ◌≤◌, Bool, true, false, not, ◌&&◌, List, [], ◌∷◌, ◌++◌, length, get_or, set, take, Option, Some, None, refl, ap, sym, ◌∙◌, subst, arith, ⊎_elim}
 use mathlib.Core.Bool.{beq}
-use Rattle.std.specs.Prelude.{IsTrue, slice_get, option_and_then, MatchOption, nat_lt}
+use Rattle.std.specs.Prelude.{IsTrue, slice_get, option_and_then, MatchOption, IfSome, nat_lt}
+use Rattle.std.specs.Option.{unwrap_or}
 use Rattle.std.specs.List.{list_any, list_all}
 use Rattle.std.proofs.lemmas.Bool.{cases_lt, or_cases, or_left, or_right, or_parts, and_parts, and_from, lt-ltb, ltb-true}
-use Rattle.std.proofs.lemmas.List.{get_or_push, get_or_past, get_or-map, length_push, length-map, take-append-le, take_all, append-nil}
+use Rattle.std.proofs.lemmas.List.{get_or_push, get_or_past, get_or-map, length_push, length-map, append-nil, append_assoc}
 use Rattle.std.proofs.lemmas.List.Folds.{list_all_more}
 use Rattle.std.proofs.lemmas.Option.{slice_get-get_or, same_Some, none-some}
 use Rattle.plain_types.specs.declared.sequence.NameLit.{NameLit}
@@ -12,46 +13,50 @@ use Rattle.plain_types.specs.Names.{has_name, same_name}
 use Rattle.sat_core.specs.declared.trail.Assigned.{Assigned}
 use Rattle.sat_core.specs.declared.trail.Slot.{Slot}
 use Rattle.sat_core.specs.declared.analysis.Turn.{Turn}
-use Rattle.sat_core.specs.declared.analysis.Analysis.{Analysis}
+use Rattle.sat_core.specs.declared.answer.Link.{Link}
 use Rattle.sat_core.specs.declared.solver.Solver.{Solver}
 use Rattle.sat_core.specs.declared.solver.Step.{Step}
 use Rattle.sat_core.specs.declared.solver.Step.TheVariants.{Going, Satisfied, Refuted}
 use Rattle.sat_core.specs.Clause.{PropClause, literal_true, clause_true, clauses_true, valuation_of, names_below}
-use Rattle.sat_core.specs.Resolution.{links_clause}
+use Rattle.sat_core.specs.Resolution.{links_clause, log_clauses}
 use Rattle.sat_core.specs.Trail.{IsTrail, IsNewTrail, Cuts, slot_at, slot_of, place_of, has_place, is_true}
-use Rattle.sat_core.specs.State.{IsSound, IsImplied, SameLiterals, SameClauses, clause_at, Derives, AreDerived, AreNamed, AreFalse}
+use Rattle.sat_core.specs.State.{IsSound, IsImplied, SameLiterals, SameClauses, clause_at, Derives, AreNamed, AreFalse}
+use Rattle.sat_core.specs.declared.clauses.Clauses.{Clauses}
+use Rattle.sat_core.specs.Known.{known, chains_of, IsKnown}
 use Rattle.sat_core.specs.Conflict.{IsTurn, IsAnalysis, AreWithin}
-use Rattle.sat_core.specs.Search.{HaveLists, HasNoTrue, AreAssigned, remaining, value_of, values_of}
-use Rattle.sat_core.specs.Solver.{IsState, Keeps, Advances, Steps}
+use Rattle.sat_core.specs.Search.{HaveLists, HasNoTrue, AreAssigned, value_of, values_of}
+use Rattle.sat_core.specs.Solver.{IsState, Keeps, Advances, Steps, left_to_try}
 use Rattle.sat_core.proofs.AboutTrails.LiteralLemmas.{same_name-true}
 use Rattle.sat_core.proofs.AboutConflicts.AnalysisLemmas.{has_name_more}
 use Rattle.sat_core.proofs.AboutAnswers.SoundLemmas.{grown, pushed_sound, cut_sound, turn_named, turn_free, turn_implied}
 
 pub derives_of :
-    (clauses : List PropClause) (entries : List Assigned) (slots : List Slot) (start : ℕ) (analysis : Analysis)
-    → start < length clauses → IsAnalysis clauses entries slots start analysis → Derives clauses analysis.chain analysis.clause
-derives_of clauses entries slots start analysis within is = record {
+    (clauses : List PropClause) (entries : List Assigned) (slots : List Slot) (start n : ℕ) (links : List Link) (clause : PropClause) (turn : Option Turn)
+    → n ≡ start → start < length clauses → IsAnalysis clauses entries slots start links clause turn
+    → Derives clauses (record { start = n; links = links }) clause
+derives_of clauses entries slots start n links clause turn e within is = record {
   made = is.made;
   lawful =
-      ap (λ (o : Option PropClause). option_and_then (λ (c : PropClause). links_clause clauses c analysis.chain.links) o)
-      (ap (slice_get clauses) is.starts ∙ slice_get-get_or clauses start [] within)
+      ap (λ (o : Option PropClause). option_and_then (λ (c : PropClause). links_clause clauses c links) o)
+      (ap (slice_get clauses) e ∙ slice_get-get_or clauses start [] within)
       ∙ is.lawful;
   same = is.same;
 }
 
 pub turn_of :
-    (clauses : List PropClause) (entries : List Assigned) (slots : List Slot) (start : ℕ) (analysis : Analysis) (turn : Turn)
-    → IsAnalysis clauses entries slots start analysis → analysis.turn ≡ Some turn → IsTurn entries slots analysis.clause turn
-turn_of clauses entries slots start analysis turn is turns =
-    subst (λ (o : Option Turn). MatchOption o (analysis.clause ≡ []) (IsTurn entries slots analysis.clause)) turns is.turn
+    (clauses : List PropClause) (entries : List Assigned) (slots : List Slot) (start : ℕ) (links : List Link) (clause : PropClause) (found : Option Turn) (turn : Turn)
+    → IsAnalysis clauses entries slots start links clause found → found ≡ Some turn → IsTurn entries slots clause turn
+turn_of clauses entries slots start links clause found turn is turns =
+    subst (λ (o : Option Turn). MatchOption o (clause ≡ []) (IsTurn entries slots clause)) turns is.turns
 
 pub refutes_of :
-    (clauses : List PropClause) (entries : List Assigned) (slots : List Slot) (start : ℕ) (analysis : Analysis)
-    → start < length clauses → IsAnalysis clauses entries slots start analysis → analysis.turn ≡ None → Derives clauses analysis.chain []
-refutes_of clauses entries slots start analysis within is turns =
-    subst (λ (c : PropClause). Derives clauses analysis.chain c)
-    (subst (λ (o : Option Turn). MatchOption o (analysis.clause ≡ []) (IsTurn entries slots analysis.clause)) turns is.turn)
-    (derives_of clauses entries slots start analysis within is)
+    (clauses : List PropClause) (entries : List Assigned) (slots : List Slot) (start n : ℕ) (links : List Link) (clause : PropClause) (turn : Option Turn)
+    → n ≡ start → start < length clauses → IsAnalysis clauses entries slots start links clause turn → turn ≡ None
+    → Derives clauses (record { start = n; links = links }) []
+refutes_of clauses entries slots start n links clause turn e within is turns =
+    subst (λ (c : PropClause). Derives clauses (record { start = n; links = links }) c)
+    (subst (λ (o : Option Turn). MatchOption o (clause ≡ []) (IsTurn entries slots clause)) turns is.turns)
+    (derives_of clauses entries slots start n links clause turn e within is)
 
 -- the names of the learned clause have slots, and lists
 pub learned_within :
@@ -86,11 +91,12 @@ turn_sound clauses clauses' entries entries' entries'' slots slots' slots'' clau
     (λ reason because. subst (λ (m : ℕ). IsImplied clauses' slots' (length entries') turn.literal m) (same_Some n reason because)
     (turn_implied clauses' entries entries' slots slots' clause turn n is cuts within same)) t more written
 
-pub same_inputs :
-    (clauses clauses' : List PropClause) (inputs inputs' : ℕ) (c : PropClause)
-    → inputs ≤ length clauses → clauses' ≡ clauses ++ c ∷ [] → inputs' ≡ inputs → take inputs' clauses' ≡ take inputs clauses
-same_inputs clauses clauses' inputs inputs' c within more same =
-    ap (λ (n : ℕ). take n clauses') same ∙ ap (take inputs) more ∙ take-append-le inputs clauses (c ∷ []) within
+-- one more clause is known
+pub known_grown :
+    (c c' : Clauses) (clause : PropClause) → c'.inputs.now ≡ c.inputs.now → c'.learned ≡ c.learned ++ clause ∷ [] → known c' ≡ known c ++ clause ∷ []
+known_grown c c' clause same more =
+    ap (λ (ins : List PropClause). ins ++ c'.learned) same ∙ ap (λ (ls : List PropClause). c.inputs.now ++ ls) more
+    ∙ sym (append_assoc c.inputs.now c.learned (clause ∷ []))
 
 -- ---- values
 
@@ -154,20 +160,31 @@ assigned_more slots xs i x h e before at k there =
 
 -- ---- one step after another
 
+-- the same restarts are left
+pub behind : (a b c : ℕ) → b < c → a + b < a + c
+behind a b c h = omega (arith, h)
+
+pub behind_le : (a b c : ℕ) → b ≤ c → a + b ≤ a + c
+behind_le a b c h = omega (arith, h)
+
+below_then : (old mid mid' new new' : ℕ) → mid ≤ old → new' < mid' → new' ≡ new → mid' ≡ mid → new < old
+below_then old mid mid' new new' a b c d = omega (arith, a, b, c, d)
+
 pub advances_after : (old mid new : Solver) → Keeps old mid → Advances mid new → Advances old new
 advances_after old mid new first second = record {
   state = second.state;
   inputs = second.inputs ∙ first.inputs;
   names = second.names ∙ first.names;
   fewer =
-      let a = first.no_more in
-      let b = second.fewer in
-      let c : remaining (length mid.trail.slots.items) new.trail.entries.items ≡ remaining (length old.trail.slots.items) new.trail.entries.items =
-      ap (λ (n : ℕ). remaining n new.trail.entries.items) first.names in
-      let d : remaining (length mid.trail.slots.items) mid.trail.entries.items ≡ remaining (length old.trail.slots.items) mid.trail.entries.items =
-      ap (λ (n : ℕ). remaining n mid.trail.entries.items) first.names in
-      omega (arith, a, b, c, d);
+      below_then (left_to_try (length old.trail.slots.items) old) (left_to_try (length old.trail.slots.items) mid) (left_to_try (length mid.trail.slots.items) mid)
+      (left_to_try (length old.trail.slots.items) new) (left_to_try (length mid.trail.slots.items) new)
+      first.no_more second.fewer (ap (λ (n : ℕ). left_to_try n new) first.names) (ap (λ (n : ℕ). left_to_try n mid) first.names);
 }
+
+-- where a restart cuts the trail
+pub cut_within : (o : Option ℕ) (n : ℕ) (P : ℕ → Type 0) → IfSome o P → ((i : ℕ) → P i → i < n) → unwrap_or o n ≤ n
+cut_within None n P h f = omega arith
+cut_within (Some i) n P h f = let w = f i h in omega (arith, w)
 
 pub steps_after : (old mid new : Solver) (step : Step) → Keeps old mid → Steps mid new step → Steps old new step
 steps_after old mid new Going first second = advances_after old mid new first second
@@ -175,11 +192,7 @@ steps_after old mid new Satisfied first second = record {
   names = second.names ∙ first.names;
   makes_true = subst (λ (cs : List PropClause). IsTrue (clauses_true (valuation_of (values_of new.trail.slots.items)) cs)) first.inputs second.makes_true;
 }
-steps_after old mid new (Refuted chain) first second = record {
-  inputs = second.inputs ∙ first.inputs;
-  derived = second.derived;
-  derives = second.derives;
-}
+steps_after old mid new Refuted first second = record { refuted = second.refuted; inputs = second.inputs ∙ first.inputs }
 
 pub keeps_none : (s : Solver) → IsState s → Keeps s s
 keeps_none s state = record { state = state; inputs = refl; names = refl; no_more = omega arith }
@@ -199,23 +212,27 @@ all_named names (c ∷ cs) h zero l m =
         (λ (g : has_name l ks ≡ true). below ks parts.1 g) (or_cases (same_name l k) (has_name l ks) f)
 all_named names (c ∷ cs) h (suc n) l m = all_named names cs (and_parts (list_all (λ (l : NameLit). nat_lt l.name names) c) (names_below names cs) h).1 n l m
 
-pub begun_derived : (clauses : List PropClause) → AreDerived (length clauses) clauses []
-begun_derived clauses = record {
-  within = omega arith;
-  made = [];
-  lawful = refl;
-  same = subst (λ (cs : List PropClause). SameClauses clauses cs) (sym (append-nil (take (length clauses) clauses) ∙ take_all (length clauses) clauses (omega arith)))
-      (record { same_count = refl; same_literals = λ n l. refl });
+pub begun_known : (c : Clauses) → c.learned ≡ [] → c.starts.items ≡ [] → c.links ≡ [] → IsKnown c
+begun_known c none no_starts no_links = record {
+  derived = record {
+    made = [];
+    lawful = ap (λ (ss : List ℕ). log_clauses c.inputs.now (chains_of ss c.links)) no_starts;
+    same = subst (λ (cs : List PropClause). SameClauses cs []) (sym none) (record { same_count = refl; same_literals = λ n l. refl });
+  };
+  lined = ap length no_starts ∙ sym (ap length no_links);
 }
 
 pub begun_sound :
-    (names : ℕ) (clauses : List PropClause) (entries : List Assigned) (slots : List Slot)
-    → IsTrue (names_below names clauses) → IsNewTrail names entries slots → IsSound clauses entries slots
-begun_sound names clauses entries slots below trail = record {
+    (names : ℕ) (inputs : List PropClause) (c : Clauses) (entries : List Assigned) (slots : List Slot)
+    → IsTrue (names_below names inputs) → c.inputs.now ≡ inputs → c.learned ≡ [] → IsNewTrail names entries slots → IsSound (known c) entries slots
+begun_sound names inputs c entries slots below are none trail = record {
   trail = trail.trail;
   implied = λ i reason h is. absurd (let e = ap length trail.empty in omega (arith, e, h));
-  named = λ n l h. let w = all_named names clauses below n l h in omega (arith, w, trail.length);
+  named = λ n l h. let w = all_named names inputs below n l (ap (λ (cs : List PropClause). has_name l (clause_at cs n)) (sym same) ∙ h) in omega (arith, w, trail.length);
 }
+  where
+    same : known c ≡ inputs
+    same = ap (λ (ls : List PropClause). c.inputs.now ++ ls) none ∙ append-nil c.inputs.now ∙ are
 
 pub lists_of : (names n : ℕ) (clauses : List PropClause) (m : ℕ) → IsTrue (names_below names clauses) → n ≡ 2 * names → HaveLists n (clause_at clauses m)
 lists_of names n clauses m below same k h = let w = all_named names clauses below m k h in omega (arith, w, same)

@@ -1,9 +1,9 @@
 -- Chains over clauses that are the same as sets, and logs that grow by a chain.
-use Rattle.std.proofs.Common.{◌≡◌, ℕ, ◌+◌, ◌<◌, ◌≤◌, Bool, true, not, ◌&&◌, ◌||◌, cond, List, [], ◌∷◌, ◌++◌, length, take, Option, Some, None, refl, ap, sym, ◌∙◌, subst, arith, ◌⊎◌, inl, inr, ⊎_elim}
+use Rattle.std.proofs.Common.{◌≡◌, ℕ, zero, suc, ◌+◌, ◌<◌, ◌≤◌, Bool, true, not, ◌&&◌, ◌||◌, cond, List, [], ◌∷◌, ◌++◌, length, Option, Some, None, refl, ap, sym, ◌∙◌, arith, ◌⊎◌, inl, inr, ⊎_elim}
 use Rattle.std.specs.Prelude.{slice_get, option_and_then}
 use Rattle.std.specs.Option.{option_map}
 use Rattle.std.proofs.lemmas.Bool.{cases_lt, cond-true}
-use Rattle.std.proofs.lemmas.List.{append_assoc, append-nil, length_push, take-append-le, get_or_append_left, get_or_push, get_or_past}
+use Rattle.std.proofs.lemmas.List.{append_assoc, append-nil, length_push, get_or_append_left, get_or_push, get_or_past}
 use Rattle.std.proofs.lemmas.Option.{option_and_then_some, cond_some, same_Some, slice_get_within, slice_get-get_or, get_or_from_slice_get}
 use Rattle.plain_types.specs.declared.sequence.NameLit.{NameLit}
 use Rattle.plain_types.specs.Names.{same_name, has_name, opposite, can_resolve, resolvent}
@@ -23,7 +23,7 @@ link_clause_at known c d link at can =
     ap (λ (o : Option PropClause). option_and_then (λ (d : PropClause). cond (can_resolve link.pivot c d) (Some (resolvent link.pivot c d)) None) o) at
     ∙ cond-true (can_resolve link.pivot c d) (Some (resolvent link.pivot c d)) None can
 
-same_resolvent :
+pub same_resolvent :
     (p : NameLit) (c c' d d' : PropClause) → SameLiterals c c' → SameLiterals d d' → SameLiterals (resolvent p c d) (resolvent p c' d')
 same_resolvent p c c' d d' h k l =
     has_name-resolvent p l c d
@@ -134,38 +134,55 @@ same_clauses_push cs ds c d same h = record {
         ∙ sym (ap (has_name l) (get_or_append_left ds (d ∷ []) [] n (omega (arith, same.same_count))))
     at n l (inr e) = last n l (⊎_elim (λ (x : length cs < n). inr x) (λ (x : n ≤ length cs). inl (omega arith)) (cases_lt (length cs) n))
 
+-- clauses that are the same as sets, behind the same ones
+same_clauses_behind : (cs ds es : List PropClause) → SameClauses ds es → SameClauses (cs ++ ds) (cs ++ es)
+same_clauses_behind cs ds es same = record { same_count = counts cs; same_literals = λ n l. at cs n l }
+  where
+    counts : (cs : List PropClause) → length (cs ++ ds) ≡ length (cs ++ es)
+    counts [] = same.same_count
+    counts (c ∷ cs) = ap suc (counts cs)
+
+    at : (cs : List PropClause) (n : ℕ) (l : NameLit) → has_name l (clause_at (cs ++ ds) n) ≡ has_name l (clause_at (cs ++ es) n)
+    at [] n l = same.same_literals n l
+    at (c ∷ cs) zero l = refl
+    at (c ∷ cs) (suc n) l = at cs n l
+
 pub learned :
-    (inputs : ℕ) (clauses : List PropClause) (log : List Chain) (chain : Chain) (clause : PropClause)
-    → AreDerived inputs clauses log → Derives clauses chain clause → AreDerived inputs (clauses ++ clause ∷ []) (log ++ chain ∷ [])
+    (inputs clauses : List PropClause) (log : List Chain) (chain : Chain) (clause : PropClause)
+    → AreDerived inputs clauses log → Derives (inputs ++ clauses) chain clause → AreDerived inputs (clauses ++ clause ∷ []) (log ++ chain ∷ [])
 learned inputs clauses log chain clause are derives =
-    let over : Derives (take inputs clauses ++ are.made) chain clause = same_chain clauses (take inputs clauses ++ are.made) chain clause are.same derives in
-    let kept : take inputs (clauses ++ clause ∷ []) ≡ take inputs clauses = take-append-le inputs clauses (clause ∷ []) are.within in
+    let over : Derives (inputs ++ are.made) chain clause =
+    same_chain (inputs ++ clauses) (inputs ++ are.made) chain clause (same_clauses_behind inputs clauses are.made are.same) derives in
     record {
-      within = omega (arith, length_push clauses clause, are.within);
       made = are.made ++ over.made ∷ [];
-      lawful = ap (λ (cs : List PropClause). log_clauses cs (log ++ chain ∷ [])) kept
-          ∙ log_clauses_push (take inputs clauses) are.made log chain over.made are.lawful over.lawful;
-      same = subst (λ (cs : List PropClause). SameClauses (clauses ++ clause ∷ []) cs)
-          (append_assoc (take inputs clauses) are.made (over.made ∷ [])
-          ∙ ap (λ (cs : List PropClause). cs ++ (are.made ++ over.made ∷ [])) (sym kept))
-          (same_clauses_push clauses (take inputs clauses ++ are.made) clause over.made are.same over.same);
+      lawful = log_clauses_push inputs are.made log chain over.made are.lawful over.lawful;
+      same = same_clauses_push clauses are.made clause over.made are.same over.same;
     }
 
-ends_empty_push : (cs : List PropClause) → ends_empty (cs ++ [] ∷ []) ≡ true
+-- ---- the end
+
+pub ends_empty_push : (cs : List PropClause) → ends_empty (cs ++ [] ∷ []) ≡ true
 ends_empty_push [] = refl
 ends_empty_push ([] ∷ []) = refl
 ends_empty_push ((l ∷ ls) ∷ []) = refl
 ends_empty_push (c ∷ d ∷ ds) = ends_empty_push (d ∷ ds)
 
--- a chain that derives the empty clause ends a right log
+ends_empty_at : (cs : List PropClause) (n : ℕ) → length cs ≡ n + 1 → clause_at cs n ≡ [] → ends_empty cs ≡ true
+ends_empty_at [] n h e = absurd (omega (arith, h))
+ends_empty_at (c ∷ []) zero h e = ap (λ (c : PropClause). ends_empty (c ∷ [])) e
+ends_empty_at (c ∷ []) (suc n) h e = absurd (omega (arith, h))
+ends_empty_at (c ∷ d ∷ ds) zero h e = absurd (omega (arith, h))
+ends_empty_at (c ∷ d ∷ ds) (suc n) h e = ends_empty_at (d ∷ ds) n (omega (arith, h)) e
+
+-- learned clauses of which the last is empty have a right log
 pub right_log :
-    (inputs : ℕ) (clauses : List PropClause) (log : List Chain) (chain : Chain)
-    → AreDerived inputs clauses log → Derives clauses chain [] → IsRightLog (take inputs clauses) (log ++ chain ∷ [])
-right_log inputs clauses log chain are derives =
-    let over : Derives (take inputs clauses ++ are.made) chain [] = same_chain clauses (take inputs clauses ++ are.made) chain [] are.same derives in
-    let empty : over.made ≡ [] = no_literals over.made (λ l. sym (over.same l)) in
+    (inputs clauses : List PropClause) (log : List Chain) → AreDerived inputs (clauses ++ [] ∷ []) log → IsRightLog inputs log
+right_log inputs clauses log are =
+    let empty : clause_at are.made (length clauses) ≡ [] =
+    no_literals (clause_at are.made (length clauses))
+    (λ l. sym (are.same.same_literals (length clauses) l) ∙ ap (has_name l) (get_or_push clauses [] [] (length clauses) refl)) in
     record {
-      made = are.made ++ over.made ∷ [];
-      lawful = log_clauses_push (take inputs clauses) are.made log chain over.made are.lawful over.lawful;
-      empty = ap (λ (c : PropClause). ends_empty (are.made ++ c ∷ [])) empty ∙ ends_empty_push are.made;
+      made = are.made;
+      lawful = are.lawful;
+      empty = ends_empty_at are.made (length clauses) (sym are.same.same_count ∙ length_push clauses []) empty;
     }

@@ -1,6 +1,6 @@
 -- A learned clause made smaller.
-use Rattle.std.proofs.Common.{◌≡◌, ℕ, ◌+◌, ◌-◌, ◌<◌, ◌≤◌, Bool, true, false, not, ◌&&◌, ◌||◌, List, [], ◌∷◌, ◌++◌, length, get_or, set, Option, Some, refl, ap, sym, ◌∙◌, subst, arith, ◌⊎◌, inl, inr, ⊎_elim}
-use Rattle.std.specs.Prelude.{IsTrue, nat_le, MatchOption}
+use Rattle.std.proofs.Common.{◌≡◌, ℕ, ◌+◌, ◌-◌, ◌<◌, ◌≤◌, Bool, true, false, not, ◌&&◌, ◌||◌, List, [], ◌∷◌, ◌++◌, length, get_or, set, Some, refl, ap, sym, ◌∙◌, subst, arith, ◌⊎◌, inl, inr, ⊎_elim}
+use Rattle.std.specs.Prelude.{IsTrue, nat_le}
 use Rattle.std.specs.List.{list_all}
 use Rattle.std.proofs.lemmas.Bool.{cases_Bool, cases_eq, cases_lt, or_cases, and_parts, and_from, le-leb, leb-true, both_ways, not-true}
 use Rattle.std.proofs.lemmas.List.{get_or-set_same, get_or-set_other, length-set}
@@ -11,9 +11,7 @@ use Rattle.sat_core.specs.declared.answer.Link.{Link}
 use Rattle.sat_core.specs.declared.trail.Assigned.{Assigned}
 use Rattle.sat_core.specs.declared.trail.Slot.{Slot}
 use Rattle.sat_core.specs.declared.analysis.Turn.{Turn}
-use Rattle.sat_core.specs.declared.analysis.Analysis.{Analysis}
 use Rattle.sat_core.specs.Clause.{PropClause}
-use Rattle.sat_core.specs.Resolution.{links_clause}
 use Rattle.sat_core.specs.Trail.{IsTrail, entry_at, slot_at, place_of, is_false}
 use Rattle.sat_core.specs.State.{IsSound, IsImplied, AreFalse, AreMarks, AreCovered, clause_at, mentions}
 use Rattle.sat_core.specs.Conflict.{IsResolving, IsReduced, IsTurnOf, IsTurn, IsAnalysis, is_covered, is_left}
@@ -282,17 +280,14 @@ turned clauses entries slots start bound links marked literals clause turn t som
         omega (arith, p, q, some)
 
 pub analysis_of_turn :
-    (clauses : List PropClause) (entries : List Assigned) (slots : List Slot) (start bound : ℕ) (links : List Link) (marked : List Bool) (literals clause : PropClause) (turn : Turn) (analysis : Analysis)
+    (clauses : List PropClause) (entries : List Assigned) (slots : List Slot) (start bound : ℕ) (links : List Link) (marked : List Bool) (literals clause : PropClause) (turn : Turn)
     → IsTrail entries slots → 0 < bound → bound ≤ length entries
     → IsReduced clauses entries slots start links marked literals bound → IsTurnOf entries slots literals bound turn
     → ((l : NameLit) → has_name l clause ≡ (has_name l literals && is_left slots marked bound l))
-    → analysis.chain.start ≡ start → analysis.chain.links ≡ links → analysis.clause ≡ clause → analysis.turn ≡ Some turn
-    → IsAnalysis clauses entries slots start analysis
-analysis_of_turn clauses entries slots start bound links marked literals clause turn analysis t some within r of kept starts chain same turns = record {
+    → IsAnalysis clauses entries slots start links clause (Some turn)
+analysis_of_turn clauses entries slots start bound links marked literals clause turn t some within r of kept = record {
   made = r.clause;
-  starts = starts;
-  lawful = ap (links_clause clauses (clause_at clauses start)) chain ∙ r.lawful;
-  same = λ l. ap (has_name l) same ∙ kept l ∙ sym (r.left l);
-  turn = subst (λ (o : Option Turn). MatchOption o (analysis.clause ≡ []) (IsTurn entries slots analysis.clause)) (sym turns)
-      (subst (λ (c : PropClause). IsTurn entries slots c turn) (sym same) (turned clauses entries slots start bound links marked literals clause turn t some within r of kept));
+  lawful = r.lawful;
+  same = λ l. kept l ∙ sym (r.left l);
+  turns = turned clauses entries slots start bound links marked literals clause turn t some within r of kept;
 }

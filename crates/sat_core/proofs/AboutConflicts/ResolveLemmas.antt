@@ -1,7 +1,7 @@
 -- One step back along the trail.
 use Rattle.std.proofs.Common.{◌≡◌, ℕ, zero, suc, ◌+◌, ◌-◌, ◌<◌, ◌≤◌, Bool, true, false, not, ◌&&◌, ◌||◌, List, [], ◌∷◌, ◌++◌, length, get_or, Option, Some, None, refl, ap, sym, ◌∙◌, subst, arith, ⊎_elim}
 use mathlib.Core.Bool.{beq}
-use Rattle.std.specs.Prelude.{IsTrue, nat_le, nat_lt, option_and_then, MatchOption}
+use Rattle.std.specs.Prelude.{IsTrue, nat_le, nat_lt, option_and_then}
 use Rattle.std.proofs.lemmas.Bool.{cases_Bool, cases_eq, cases_lt, or_cases, and_parts, and_from, le-leb, lt-leb, leb-true, ltb-true, both_ways, not-true}
 use Rattle.std.proofs.lemmas.List.{get_or_read}
 use Rattle.std.proofs.lemmas.Option.{slice_get-get_or, option_and_then_some, same_Some}
@@ -12,12 +12,11 @@ use Rattle.sat_core.specs.declared.answer.Link.{Link}
 use Rattle.sat_core.specs.declared.trail.Assigned.{Assigned}
 use Rattle.sat_core.specs.declared.trail.Slot.{Slot}
 use Rattle.sat_core.specs.declared.analysis.Turn.{Turn}
-use Rattle.sat_core.specs.declared.analysis.Analysis.{Analysis}
 use Rattle.sat_core.specs.Clause.{PropClause}
 use Rattle.sat_core.specs.Resolution.{link_clause, links_clause}
 use Rattle.sat_core.specs.Trail.{IsTrail, entry_at, slot_at, place_of, has_place, is_false}
 use Rattle.sat_core.specs.State.{IsSound, IsImplied, AreFalse, AreMarks, SameLiterals, clause_at, mentions}
-use Rattle.sat_core.specs.Conflict.{is_other, OthersAreFalse, AddsOthers, IsResolving, TurnsAt, IsTurnOf, IsTurn, IsAnalysis}
+use Rattle.sat_core.specs.Conflict.{is_other, OthersAreFalse, AddsOthers, IsResolving, TurnsAt, IsTurnOf, IsAnalysis}
 use Rattle.sat_core.proofs.AboutTrails.LiteralLemmas.{same_name-refl, same_name-true, opposite-opposite, has_name-resolvent}
 use Rattle.sat_core.proofs.AboutConflicts.MarkLemmas.{same_tests, mentions_of, literal_of_name}
 use Rattle.sat_core.proofs.AboutTrails.TrailLemmas.{slot_within}
@@ -348,14 +347,12 @@ nothing_left clauses slots start bound links marked literals none r l =
 -- ---- the analysis as a whole
 
 pub analysis_of_none :
-    (clauses : List PropClause) (entries : List Assigned) (slots : List Slot) (start bound : ℕ) (links : List Link) (marked : List Bool) (literals : PropClause) (analysis : Analysis)
-    → bound ≡ 0 → IsResolving clauses slots start links marked literals bound
-    → analysis.chain.start ≡ start → analysis.chain.links ≡ links → analysis.clause ≡ [] → analysis.turn ≡ None
-    → IsAnalysis clauses entries slots start analysis
-analysis_of_none clauses entries slots start bound links marked literals analysis zero_bound r starts chain empty turns = record {
+    (clauses : List PropClause) (entries : List Assigned) (slots : List Slot) (start bound : ℕ) (links : List Link) (marked : List Bool) (literals clause : PropClause)
+    → bound ≡ 0 → IsResolving clauses slots start links marked literals bound → clause ≡ []
+    → IsAnalysis clauses entries slots start links clause None
+analysis_of_none clauses entries slots start bound links marked literals clause zero_bound r empty = record {
   made = r.reached.clause;
-  starts = starts;
-  lawful = ap (links_clause clauses (clause_at clauses start)) chain ∙ r.reached.lawful;
+  lawful = r.reached.lawful;
   same = λ l. ap (has_name l) empty ∙ nothing_left clauses slots start bound links marked literals zero_bound r l;
-  turn = subst (λ (o : Option Turn). MatchOption o (analysis.clause ≡ []) (IsTurn entries slots analysis.clause)) (sym turns) empty;
+  turns = empty;
 }

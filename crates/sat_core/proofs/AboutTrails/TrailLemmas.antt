@@ -4,7 +4,7 @@ use Rattle.std.specs.Prelude.{count_by, nat_le, nat_lt}
 use Rattle.std.proofs.lemmas.Bool.{cases_eq, cases_lt, lt-ltb, le-leb, lt-leb, cond-true, cond-false}
 use Rattle.std.proofs.lemmas.List.{get_or_append_left, get_or_push, get_or-set_same, get_or-set_other, get_or_past, length_push, length-set, length-take-le, take_at, take-take, get_or_default}
 use Rattle.std.proofs.Math.Seq.{take-length}
-use Rattle.std.proofs.lemmas.List.Sums.{sum_by-set}
+use Rattle.std.proofs.lemmas.List.Sums.{sum_by-set, sum_by-cons}
 use Rattle.plain_types.specs.declared.sequence.NameLit.{NameLit}
 use Rattle.sat_core.specs.declared.trail.Assigned.{Assigned}
 use Rattle.sat_core.specs.declared.trail.Slot.{Slot}
@@ -281,3 +281,37 @@ pub cut_more :
 cut_more entries entries' entries'' slots slots' slots'' first second =
     subst (λ (n : ℕ). Cuts n entries slots entries'' slots'') (sym (cut_length (length entries' - 1) entries' entries'' slots' slots'' (omega arith) second))
     (cut_again (length entries' - 1) (length entries') entries entries' entries'' slots slots' slots'' (omega arith) first second)
+
+-- ---- no values
+
+-- no name has a value
+abbrev pub AreFree : List Slot → Type 0
+AreFree slots = (v : ℕ) → (slot_at slots v).place ≡ 0
+
+pub free_none : (slots : List Slot) → slots ≡ [] → AreFree slots
+free_none slots e v = ap (λ (xs : List Slot). (slot_at xs v).place) e
+
+pub free_more : (slots slots' : List Slot) (positive : Bool) → slots' ≡ slots ++ record { place = 0; positive = positive } ∷ [] → AreFree slots → AreFree slots'
+free_more slots slots' positive more free v = ap (λ (xs : List Slot). (slot_at xs v).place) more ∙ at slots v free
+  where
+    at : (slots : List Slot) (v : ℕ) → AreFree slots → (slot_at (slots ++ record { place = 0; positive = positive } ∷ []) v).place ≡ 0
+    at [] zero free = refl
+    at [] (suc v) free = refl
+    at (s ∷ slots) zero free = free zero
+    at (s ∷ slots) (suc v) free = at slots v (λ (w : ℕ). free (suc w))
+
+pub free_trail : (entries : List Assigned) (slots : List Slot) → entries ≡ [] → AreFree slots → IsTrail entries slots
+free_trail entries slots none free = record {
+  placed = λ i h. absurd (let e = ap length none in omega (arith, e, h));
+  known = λ v i h. absurd (let e = free v in omega (arith, e, h));
+  counted = counts slots free ∙ sym (ap length none);
+}
+  where
+    counts : (slots : List Slot) → AreFree slots → count_by has_place slots ≡ 0
+    counts [] free = refl
+    counts (s ∷ slots) free =
+        let f : Slot → ℕ = λ s. cond (has_place s) 1 0 in
+        let step = sum_by-cons f s slots in
+        let here : f s ≡ 0 = ap (λ (p : ℕ). cond (nat_lt 0 p) 1 0) (free zero) in
+        let rest = counts slots (λ (v : ℕ). free (suc v)) in
+        omega (arith, step, here, rest)

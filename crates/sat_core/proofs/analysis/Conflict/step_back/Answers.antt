@@ -1,5 +1,6 @@
 use Rattle.std.proofs.Common.{arith, ◌-◌, length, ◌∙◌}
 use Rattle.sat_core.proofs.AboutConflicts.ResolveLemmas.{entry_read, entry_named, mark_read, passed_entry, turned_entry, implied_entry, others_false, resolved_entry}
+use Rattle.sat_core.specs.Known.{known}
 use Rattle.sat_core.proofs.analysis.Conflict.step_back.Goals as goal
 
 pub index-requires : goal.index-requires
@@ -31,13 +32,13 @@ returns-in-Some-clause-some c =
 pub literals-literals-requires : goal.literals-literals-requires
 literals-literals-requires c =
     let read = entry_read c.args.trail.now.entries.items (c.args.bound - 1) c.index-entry.result.now (omega (arith, c.requires.some, c.requires.bound)) c.index-entry.ensures in
-    (implied_entry c.args.clauses.now.all.items _ _ c.args.bound c.in-Some-reason.reason c.index-entry.result.now c.requires.sound c.requires.some c.requires.bound read c.in-Some-reason.is).within
+    (implied_entry (known c.args.clauses.now) _ _ c.args.bound c.in-Some-reason.reason c.index-entry.result.now c.requires.sound c.requires.some c.requires.bound read c.in-Some-reason.is).within
 
 pub mark_others-requires-clause-others_false : goal.mark_others-requires-clause-others_false
 mark_others-requires-clause-others_false c =
     let read = entry_read c.args.trail.now.entries.items (c.args.bound - 1) c.index-entry.result.now (omega (arith, c.requires.some, c.requires.bound)) c.index-entry.ensures in
-    others_false c.args.clauses.now.all.items _ _ c.in-Some-reason.reason c.index-entry.result.now.literal _
-    (implied_entry c.args.clauses.now.all.items _ _ c.args.bound c.in-Some-reason.reason c.index-entry.result.now c.requires.sound c.requires.some c.requires.bound read c.in-Some-reason.is)
+    others_false (known c.args.clauses.now) _ _ c.in-Some-reason.reason c.index-entry.result.now.literal _
+    (implied_entry (known c.args.clauses.now) _ _ c.args.bound c.in-Some-reason.reason c.index-entry.result.now c.requires.sound c.requires.some c.requires.bound read c.in-Some-reason.is)
     c.literals-literals.ensures
 
 pub returns-in_ok-mark_others-clause-none : goal.returns-in_ok-mark_others-clause-none

@@ -1,10 +1,11 @@
 use Rattle.std.proofs.Common.{◌≡◌, ◌-◌, length}
 use Rattle.sat_core.specs.Search.{Propagates}
+use Rattle.sat_core.specs.Known.{known}
 use Rattle.sat_core.proofs.watches.Watches.propagate.Given as goal
 
 abbrev pub invariant-loop-self : goal.invariant-loop-self
 invariant-loop-self l = record {
-  propagates : Propagates l.clauses.all.items l.fn.trail.entries.items l.fn.trail.slots.items l.trail.entries.items l.trail.slots.items;
+  propagates : Propagates (known l.clauses) l.fn.trail.entries.items l.fn.trail.slots.items l.trail.entries.items l.trail.slots.items;
   lists : length l.self.lists.items ≡ length l.fn.self.lists.items;
 }
 

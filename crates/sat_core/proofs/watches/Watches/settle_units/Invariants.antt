@@ -1,10 +1,11 @@
 use Rattle.std.proofs.Common.{◌≡◌, length}
 use Rattle.sat_core.specs.Search.{Propagates}
+use Rattle.sat_core.specs.Known.{known}
 use Rattle.sat_core.proofs.watches.Watches.settle_units.Given as goal
 
 abbrev pub invariant-loop-number : goal.invariant-loop-number
 invariant-loop-number l = record {
-  propagates : Propagates l.clauses.all.items l.initial.trail.entries.items l.initial.trail.slots.items l.trail.entries.items l.trail.slots.items;
+  propagates : Propagates (known l.clauses) l.initial.trail.entries.items l.initial.trail.slots.items l.trail.entries.items l.trail.slots.items;
   lists : length l.self.lists.items ≡ length l.initial.self.lists.items;
 }
 

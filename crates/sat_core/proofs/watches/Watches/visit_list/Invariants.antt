@@ -1,10 +1,11 @@
 use Rattle.std.proofs.Common.{◌≡◌, ◌≤◌, length}
 use Rattle.sat_core.specs.Search.{Propagates}
+use Rattle.sat_core.specs.Known.{known}
 use Rattle.sat_core.proofs.watches.Watches.visit_list.Given as goal
 
 abbrev pub invariant-loop : goal.invariant-loop
 invariant-loop l = record {
-  propagates : Propagates l.clauses.all.items l.initial.trail.entries.items l.initial.trail.slots.items l.trail.entries.items l.trail.slots.items;
+  propagates : Propagates (known l.clauses) l.initial.trail.entries.items l.initial.trail.slots.items l.trail.entries.items l.trail.slots.items;
   lists : length l.self.lists.items ≡ length l.initial.self.lists.items;
   seen : l.self.seen ≡ l.initial.self.seen;
   index : l.index ≤ l.counter;

@@ -1,5 +1,5 @@
 use Rattle.sat_core.proofs.AboutConflicts.AnalysisLemmas.{named_at}
-use Rattle.sat_core.proofs.minimise.marked_within.Goals as goal
+use Rattle.sat_core.proofs.minimise.list_marked.Goals as goal
 
 pub is_left-requires-clause-named : goal.is_left-requires-clause-named
 is_left-requires-clause-named c =
