@@ -1,12 +1,10 @@
 -- Numbers in rising lists: which stand in a front, and that their places rise with them.
-use Rattle.std.proofs.Common.{◌≡◌, ℕ, zero, suc, ◌+◌, ◌<◌, ◌≤◌, Bool, true, false, not, cond, ◌||◌, ◌==◌, List, [], ◌∷◌, ◌++◌, refl, ap, ap₂, sym, ◌∙◌, subst, arith, ⊎_elim}
+use Rattle.std.proofs.Common.{◌≡◌, ℕ, ◌+◌, ◌<◌, ◌≤◌, true, false, not, cond, ◌==◌, List, [], ◌∷◌, ◌++◌, refl, ap, sym, ◌∙◌, arith, ⊎_elim}
 use Rattle.std.specs.Prelude.{nat_lt}
-use Rattle.std.specs.List.{list_any}
 use Rattle.std.proofs.lemmas.Bool.{or_cases, or_left, or_right, or_from, eqb-true, eq-eqb, ne_eqb, lt-ltb, ltb-true, false≢true, false_from_ne_true, cases_Bool, cases_order}
-use Rattle.tstp_writer.specs.Cone.{has_number, IsAbove, IsRising}
+use Rattle.tstp_writer.specs.Cone.{has_number, IsRising}
 use Rattle.tstp_writer.specs.LineTrees.{place_in}
-use Rattle.tstp_writer.specs.ReadableLines.{Fits}
-use Rattle.tstp_writer.proofs.AboutPrinted.PlaceLemmas.{above-has, place-first, place-later}
+use Rattle.tstp_writer.proofs.AboutPrinted.PlaceLemmas.{above-has, place-later}
 
 -- ---- fronts
 
