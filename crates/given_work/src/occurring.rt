@@ -8,7 +8,7 @@ ghost use Rattle.fol_base.specs.Term.{tree_of};
 ghost use Rattle.fol_base.specs.Tree.{tree_size};
 ghost use Rattle.fol_base.specs.declared.limits.TheConstants.{SIZE_LIMIT};
 ghost use Rattle.partners.specs.Index.{KeepsAll};
-ghost use Rattle.given_work.specs.Occurring.{KeepsOthers, ListsLiterals, ListsSide, ListsTerm, ListsTerms, numbers_of_instances, numbers_with_instances};
+ghost use Rattle.given_work.specs.Occurring.{KeepsOthers, ListsLiterals, ListsSide, ListsTerm, ListsTerms, numbers_with_instances};
 
 use bank_clause::BankLiterals;
 use disc_tree::DiscTree;
