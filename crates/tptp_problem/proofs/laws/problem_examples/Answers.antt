@@ -1,4 +1,4 @@
-use Rattle.std.proofs.Common.{◌≡◌, ℕ, true, false, None, Some, List, [], ◌∷◌, codes, refl, arith}
+use Rattle.std.proofs.Common.{ℕ, true, false, None, Some, List, [], ◌∷◌, codes, refl, arith}
 use Rattle.tptp_token.specs.Longest.{longest}
 use Rattle.tptp_token.specs.Kinds.{is_token, kind_of}
 use Rattle.tptp_token.specs.Pieces.{line_length, block_end, fills, piece_of}
