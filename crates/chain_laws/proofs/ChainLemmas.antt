@@ -1,24 +1,22 @@
 -- The chains of a log, step by step.
-use Rattle.std.proofs.Common.{◌≡◌, ℕ, zero, suc, ◌+◌, ◌<◌, Bool, true, ◌&&◌, cond, List, [], ◌∷◌, ◌++◌, length, map, take, drop, Some, None, refl, ap, sym, ◌∙◌, arith}
-use Rattle.std.specs.Prelude.{slice_get, option_and_then}
+use Rattle.std.proofs.Common.{◌≡◌, ℕ, zero, suc, Bool, true, ◌&&◌, cond, List, [], ◌∷◌, ◌++◌, map, take, drop, Some, None, ap, sym, ◌∙◌, arith}
+use Rattle.std.specs.Prelude.{slice_get}
 use Rattle.std.proofs.lemmas.Bool.{cond-true}
 use Rattle.std.proofs.lemmas.List.{append_assoc, take-append-drop}
 use Rattle.std.proofs.lemmas.Option.{option_and_then_some, cond_some, same_Some}
 use Rattle.plain_types.specs.declared.sequence.NameLit.{NameLit}
 use Rattle.plain_types.specs.Names.{has_name, opposite, can_resolve, resolvent}
-use Rattle.kernel_steps.specs.Names.{sorted_names, chained_from, chained}
+use Rattle.kernel_steps.specs.Names.{sorted_names, chained_from}
 use Rattle.kernel_steps.proofs.AboutNames.NameTruth.{has_name-sorted_names}
 use Rattle.kernel_steps.proofs.AboutNames.NameRanks.{sorted_names-same}
 use Rattle.sat_core.specs.declared.answer.Link.{Link}
-use Rattle.sat_core.specs.declared.answer.Chain.{Chain}
 use Rattle.sat_core.specs.Clause.{PropClause}
-use Rattle.sat_core.specs.Resolution.{link_clause, links_clause, chain_clause, log_clauses}
-use Rattle.sat_core.specs.Answer.{IsRightLog}
+use Rattle.sat_core.specs.Resolution.{link_clause, links_clause}
 use Rattle.sat_core.specs.State.{clause_at, SameLiterals}
 use Rattle.sat_core.specs.Trimming.{chain_at}
 use Rattle.sat_core.proofs.AboutConflicts.LogLemmas.{same_resolvent}
 use Rattle.sat_core.proofs.AboutAnswers.TrimLemmas.{made_at, made_length, ends_empty-last}
-use Rattle.chain_laws.specs.Chains.{cited, pivots_of, StandFor, ChainsAreSteps, LogsAreSteps, LogsEndInSteps}
+use Rattle.chain_laws.specs.Chains.{pivots_of, StandFor, ChainsAreSteps, LogsAreSteps, LogsEndInSteps}
 
 -- the links of a chain, from sorted names on
 links_are_steps :

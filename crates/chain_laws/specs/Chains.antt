@@ -1,5 +1,5 @@
 -- The chains of a log of resolutions (`sat_core`) as steps of resolution on names (`kernel_steps`).
-use Rattle.std.specs.Prelude.{◌≡◌, ℕ, zero, suc, ◌+◌, ◌<◌, List, [], ◌∷◌, ◌++◌, length, map, Some, slice_get, slice_index_or}
+use Rattle.std.specs.Prelude.{◌≡◌, ℕ, zero, suc, ◌+◌, ◌<◌, List, [], ◌∷◌, ◌++◌, length, map, Some, slice_get}
 use Rattle.plain_types.specs.declared.sequence.NameLit.{NameLit}
 use Rattle.kernel_steps.specs.Names.{sorted_names, chained}
 use Rattle.sat_core.specs.declared.answer.Link.{Link}

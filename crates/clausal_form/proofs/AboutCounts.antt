@@ -1,6 +1,8 @@
 -- Sizes and faults.
 pub mod CountingLemmas
 pub mod FaultLemmas
+pub mod HeavyLemmas
 pub mod LengthLemmas
 pub mod MeasureLemmas
 pub mod RefusalLemmas
+pub mod WeightLemmas

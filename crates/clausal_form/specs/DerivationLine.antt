@@ -7,10 +7,8 @@ use Rattle.fol_base.specs.Clause.{TreeLiteral, TreeClause}
 use Rattle.fol_base.specs.declared.term.Term.{Term}
 use Rattle.fol_base.specs.declared.term.Term.TheVariants.{Var, App}
 use Rattle.fol_base.specs.declared.clause.Literal.{Literal}
-use Rattle.tptp_tree.specs.Term.{TermTree, variable as named_variable, application as named_application, TermTrees, no_terms, term_then}
-use Rattle.tptp_tree.specs.Formula.{FormulaTree}
 use Rattle.tptp_tree.specs.Shape.{formula_of}
-use Rattle.tptp_tree.specs.Codes.{encoded}
+pub use Rattle.tptp_tree.specs.Equality.{same_term, same_terms, same_formula}
 use Rattle.tptp_tree.specs.Entries.{AnnotatedTree, role_word}
 use Rattle.tptp_tree.specs.declared.problem.Annotated.{Annotated}
 use Rattle.kernel_steps.specs.declared.step.Step.{Step}
@@ -23,24 +21,7 @@ pub record LineTree : Type 0 where
   pub entry : AnnotatedTree
   pub source : SourceTree
 
--- ---- the same formula
-
-abbrev mutual
-  pub same_term : TermTree → TermTree → Bool
-  same_term (named_variable x) (named_variable y) = bytes_eq x y
-  same_term (named_variable x) (named_application g us) = false
-  same_term (named_application f ts) (named_variable y) = false
-  same_term (named_application f ts) (named_application g us) = bytes_eq f g && same_terms ts us
-
-  pub same_terms : TermTrees → TermTrees → Bool
-  same_terms no_terms no_terms = true
-  same_terms no_terms (term_then u us) = false
-  same_terms (term_then t ts) no_terms = false
-  same_terms (term_then t ts) (term_then u us) = same_term t u && same_terms ts us
-
--- two formulas are the same where the terms are that encode them
-abbrev pub same_formula : FormulaTree → FormulaTree → Bool
-same_formula f g = same_term (encoded f) (encoded g)
+-- ---- the same entry
 
 -- the same name, role, kind and formula
 abbrev pub same_entry : AnnotatedTree → AnnotatedTree → Bool

@@ -2,6 +2,7 @@ pub mod Written
 pub mod Measure
 pub mod Agenda
 pub mod Occurring
+pub mod Heavy
 pub mod Naming
 pub mod Formula
 pub mod Fault

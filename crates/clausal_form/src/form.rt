@@ -96,7 +96,10 @@ fn add_clauses<'a>(
         → AreKnown n.symbols (formula_symbols (formula_of annotated.now.formula))
         → IsRefusal n annotated.now m form.old.counted fault) }
 {
-    let Skolemized { matrix, arities } = formula_matrix(alloc, annotated, names, &form.signature)?;
+    let made = formula_matrix(alloc, annotated, names, &form.signature)?;
+    let Some(Skolemized { matrix, arities }) = made else {
+        return Err(refused(alloc, FormCause::TooHeavy, annotated));
+    };
     let skolem = sum_of(form.next, arities.as_slice().len())?;
     let so_far = mem::replace(&mut form.naming.arities, Vec::new(alloc));
     let mut naming = Naming::new(alloc, form.naming.first, so_far);

@@ -9,11 +9,12 @@ ghost use Rattle.signature.specs.Environment.{closed, under_for_all};
 ghost use Rattle.skolem.specs.Shape.{matrix_tree};
 ghost use Rattle.skolem.specs.Skolemized.{AreKnown};
 ghost use Rattle.clausal_form.specs.Agenda.{placed};
-ghost use Rattle.clausal_form.specs.Formula.{form_by_itself, definitions_clauses};
+ghost use Rattle.clausal_form.specs.Formula.{IsMatrixOrHeavy, definitions_clauses};
 ghost use Rattle.clausal_form.specs.Naming.{definition_clauses};
 ghost use Rattle.clausal_form.specs.Written.{written};
 
 use crate::closing::closed_form;
+use crate::heavy::{is_heavy_form, is_heavy_matrix};
 use crate::naming::Definition;
 use crate::writing::{Agenda, Output, write_matrix};
 use plain_types::{Mem, Texts};
@@ -22,20 +23,27 @@ use skolem::{Matrix, Skolemized, skolemize};
 use std::alloc::Global;
 use tptp_tree::Annotated;
 
-/// The matrix of a formula under its closing names, and its Skolem symbols by their numbers of arguments.
+/// The matrix of a formula under its closing names, and its Skolem symbols by their numbers of arguments. None where a literal in its clauses
+/// has over `MOST_SYMBOLS` symbols: where it has them as it is written, nothing is made of the normal form.
 pub(crate) fn formula_matrix<'a>(
     alloc: Global,
     annotated: &'a Annotated,
     names: &'a Texts,
     signature: &'a Signature,
-) -> Mem<Skolemized<'a>>
+) -> Mem<Option<Skolemized<'a>>>
     requires closing { under_for_all names.now (formula_of annotated.now.formula) ≡ closed annotated.now }
     requires known { AreKnown signature.now (formula_symbols (formula_of annotated.now.formula)) }
-    ensures matrix { IfOk result (λ made. matrix_tree made.matrix ≡ (form_by_itself signature.now annotated.now).matrix) }
-    ensures arities { IfOk result (λ made. made.arities.items ≡ (form_by_itself signature.now annotated.now).made.skolem_arities) }
+    ensures { IfOk result (λ made. IsMatrixOrHeavy signature.now annotated.now made) }
 {
     let form = closed_form(alloc, annotated, names)?;
-    skolemize(alloc, &form, signature)
+    if is_heavy_form(&form) {
+        return Ok(None);
+    }
+    let made = skolemize(alloc, &form, signature)?;
+    if is_heavy_matrix(&made.matrix) {
+        return Ok(None);
+    }
+    Ok(Some(made))
 }
 
 /// A matrix without large products, and the definitions of its names.

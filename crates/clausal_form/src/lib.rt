@@ -8,6 +8,7 @@ mod fault;
 mod finished;
 mod form;
 mod formula;
+mod heavy;
 pub mod laws;
 mod measure;
 mod naming;

@@ -91,9 +91,12 @@ fn expect_counts(rt: &impl Abort, alloc: Global, text: &[u8], wanted: &str) {
     assert!(rt; found.as_slice() == wanted.as_bytes(), "{wanted}");
 }
 
+/// The beginning of a literal of a Skolem term, which has one argument, many times, and another such term.
+const UNDER_TWO: &str = "fof(a,axiom,![X]:?[Y]:(p(X,Y)&?[Z]:s(";
+
 /// Products of over 64 clauses are named, and clauses of over 4,000 symbols, also of those that define a name, and formulas of over
-/// 1,000,000 atoms are refused. A literal without arguments has 2 symbols. Many times `$false` take no room. A formula of 480 levels, and
-/// more symbols than 8 bits number.
+/// 1,000,000 atoms are refused. A literal without arguments has 2 symbols. Many times `$false` take no room, and a large literal in no clause
+/// does no harm. A formula of 480 levels, and more symbols than 8 bits number.
 #[test]
 fn limits_of_formulas(rt: HostRuntime) {
     let alloc = rt.alloc();
@@ -106,6 +109,10 @@ fn limits_of_formulas(rt: HostRuntime) {
         ("cnf(a,axiom,", "p|", 1_999, "q(a)).", "TooHeavy a"),
         ("cnf(a,axiom,", "p|", 2_000, "p).", "TooHeavy a"),
         ("fof(a,axiom,p", "|$false", 50_000, ").", "1 3 hc0"),
+        ("fof(a,axiom,$true|p(", "a,", 5_000, "a)).", "0 3 a"),
+        (UNDER_TWO, "Y,", 1_998, "Z))).", "2 6 hc0"),
+        (UNDER_TWO, "Y,", 1_999, "Z))).", "TooHeavy a"),
+        (UNDER_TWO, "Y,", 20_000, "Z))).", "TooHeavy a"),
         (
             "fof(a,axiom,",
             "![X]:?[Y]:~",
@@ -122,8 +129,12 @@ fn limits_of_formulas(rt: HostRuntime) {
         let text = named_clause(&rt, alloc, count);
         expect_counts(&rt, alloc, text.as_slice(), wanted);
     }
-    let text = equivalences(&rt, alloc, 19);
+    let text = equivalences(&rt, alloc, 19, "p");
     expect_counts(&rt, alloc, text.as_slice(), "Expansion a");
+    let variables = "X,".repeat(alloc, 5_000).expect(&rt, "memory");
+    let atom = format!(in alloc; "![X]:q({}X)", variables.as_str()).expect(&rt, "memory");
+    let text = equivalences(&rt, alloc, 16, atom.as_str());
+    expect_counts(&rt, alloc, text.as_slice(), "TooHeavy a");
 }
 
 /// The clauses with names come first, and those that define them behind. A name has the variables that were made before its product.

@@ -53,7 +53,7 @@ fn prefixes_are_fresh(rt: HostRuntime) {
 fn equivalences_are_written_out(rt: HostRuntime) {
     let alloc = rt.alloc();
     for (count, atoms) in [(1, 4), (18, 786_430), (19, 1_572_862)] {
-        let text = equivalences(&rt, alloc, count);
+        let text = equivalences(&rt, alloc, count, "p");
         let problem = problem_of(&rt, alloc, text.as_slice());
         let first = problem.formulas.as_slice().first().expect(&rt, "a formula");
         assert_eq!(rt; expanded(&first.formula), atoms);

@@ -70,9 +70,14 @@ pub(crate) fn named_clause(rt: &impl Abort, alloc: Global, count: usize) -> Vec<
     )
 }
 
-/// `p<=>(p<=>(..))`, so many equivalences.
-pub(crate) fn equivalences(rt: &impl Abort, alloc: Global, count: usize) -> Vec<u8> {
+/// `p<=>(p<=>(..))`, so many equivalences, with that formula innermost.
+pub(crate) fn equivalences(
+    rt: &impl Abort,
+    alloc: Global,
+    count: usize,
+    innermost: &str,
+) -> Vec<u8> {
     let close = ")".repeat(alloc, count).expect(rt, "memory");
-    let after = format!(in alloc; "p{close}).").expect(rt, "memory");
+    let after = format!(in alloc; "{innermost}{close}).").expect(rt, "memory");
     repeated(rt, alloc, "fof(a,axiom,", "p<=>(", count, after.as_str())
 }

@@ -8,7 +8,7 @@ pub mod PairsLemmas
 -- Placed: what is known at a place that has a node, and what a step down the tree keeps.
 mod Placed
 -- Rows: worked rows of the definitions: the clauses 0, 1 and 2 of the sizes 5, 3 and 3.
-mod Rows
+pub mod Rows
 -- PutBack: a pair that is taken out and put back.
 pub mod PutBack
 -- Peeks: what is seen at the top of a tree is what would be picked.

@@ -227,7 +227,11 @@ fn binds_many_variables(rt: HostRuntime) {
         ("((![X60]:p(X60))&q(X60))", b"FreeVariable@264"),
     ] {
         let text = format!(in alloc; "fof(a,axiom,![{names}]:{atom}).").expect(&rt, "memory");
-        let found = shown(&rt, alloc, &answer(&rt, alloc, text.as_bytes(), 0, MOST_NESTING));
+        let found = shown(
+            &rt,
+            alloc,
+            &answer(&rt, alloc, text.as_bytes(), 0, MOST_NESTING),
+        );
         assert!(rt; found.as_slice().starts_with(wanted), "{atom}");
     }
 }

@@ -195,10 +195,7 @@ const SELECTIONS: &[Row] = &[
     Row {
         files: &[
             ("a.p", b"include(f,[012,b,b])."),
-            (
-                "f",
-                b"cnf(12,axiom,p).cnf('012',axiom,p).cnf(b,axiom,p).",
-            ),
+            ("f", b"cnf(12,axiom,p).cnf('012',axiom,p).cnf(b,axiom,p)."),
         ],
         file: "a.p",
         root: None,

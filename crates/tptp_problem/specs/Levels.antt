@@ -1,7 +1,4 @@
 -- How deep the formulas of a problem are nested.
-use Rattle.std.specs.Prelude.{ℕ, List, Option, map}
-use Rattle.std.specs.List.{AllByRecursion}
-use Rattle.outside.specs.Library.{Holdings}
 use Rattle.tptp_tree.specs.declared.limits.TheConstants.{MOST_NESTING, MOST_PRINTED_NESTING}
 use Rattle.tptp_tree.specs.Formula.{FormulaTree}
 use Rattle.tptp_tree.specs.Levels.{IsWrittenWithin, SpellsFormulaWithin}

@@ -1,6 +1,6 @@
 -- What the files of a problem spell, told without how they are read: the bytes of each file spell entries; an annotated formula
 -- gives itself, and an include the formulas of its file, or those of them whose names it lists.
-use Rattle.std.specs.Prelude.{◌≡◌, ℕ, zero, suc, List, [], ◌∷◌, ◌++◌, Option, None, Some, map}
+use Rattle.std.specs.Prelude.{◌≡◌, ℕ, zero, suc, List, [], ◌∷◌, ◌++◌, Option, None, Some}
 use Rattle.std.specs.List.{filter}
 use Rattle.outside.specs.Library.{Holdings, HoldsExactly}
 use Rattle.tptp_tree.specs.Entries.{AnnotatedTree, EntryTree, annotated_tree, include_tree, SpellsEntries}

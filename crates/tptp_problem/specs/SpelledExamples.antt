@@ -1,13 +1,12 @@
 -- The definitions of a problem, on small files.
-use Rattle.std.specs.Prelude.{◌≡◌, ℕ, Bool, true, false, List, [], ◌∷◌, Option, None, Some, codes, bytes_eq, if◌then◌else◌}
+use Rattle.std.specs.Prelude.{ℕ, true, List, [], ◌∷◌, None, Some, codes, bytes_eq, if◌then◌else◌}
 use Rattle.outside.specs.Library.{Holdings}
 use Rattle.tptp_tree.specs.declared.role.Role.TheVariants.{Plain}
 use Rattle.tptp_tree.specs.Term.{no_terms}
 use Rattle.tptp_tree.specs.Formula.{predicate}
 use Rattle.tptp_tree.specs.Entries.{AnnotatedTree}
-use Rattle.tptp_problem.specs.Formulas.{Placed}
 use Rattle.tptp_problem.specs.Problem.{IsProblem}
-use Rattle.tptp_problem.specs.Spelled.{FromFile, SpellsProblem}
+use Rattle.tptp_problem.specs.Spelled.{SpellsProblem}
 
 -- a library of two files
 abbrev pub holding : List ℕ → List ℕ → List ℕ → List ℕ → Holdings

@@ -10,6 +10,7 @@ mod problem;
 mod reading;
 mod selection;
 mod source;
+mod taking;
 
 pub use limits::{MOST_INCLUDES, MOST_PROBLEM_BYTES};
 pub use problem::read_problem;

@@ -19,7 +19,9 @@ pub fn set_of<'a>(alloc: Global, names: &'a [Text]) -> Mem<NameSet<'a>>
 {
     let mut set = HashSet::new(alloc);
     for name in names {
-        set.insert(Name { bytes: name.as_slice() })?;
+        set.insert(Name {
+            bytes: name.as_slice(),
+        })?;
     }
     Ok(set)
 }
@@ -30,7 +32,9 @@ pub fn names_of<'a>(alloc: Global, formulas: &'a [Annotated]) -> Mem<NameSet<'a>
 {
     let mut set = HashSet::new(alloc);
     for formula in formulas {
-        set.insert(Name { bytes: formula.name.as_slice() })?;
+        set.insert(Name {
+            bytes: formula.name.as_slice(),
+        })?;
     }
     Ok(set)
 }

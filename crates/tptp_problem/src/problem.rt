@@ -61,7 +61,7 @@ impl Reading<'_> {
         alloc: Global,
         library: &mut L,
         name: &str,
-        around: &[Selection<'_>],
+        around: &[Selection<'_, '_>],
         depth: u32,
     ) -> Result<Vec<Annotated>, ReadFault>
         ensures read { IfOk result (λ formulas. ReadsNamed (L.told library.old) self.old.base.now (suc depth)
@@ -161,7 +161,8 @@ impl Reading<'_> {
         let around = selection.within(alloc, source.around)?;
         let name = loaded_name(alloc, self.base, include.file.as_slice())?;
         let read = self.file(alloc, library, name.as_str(), around.as_slice(), depth - 1)?;
-        match selection.missing(alloc, read.as_slice())? {
+        let missing = selection.missing(alloc, read.as_slice())?;
+        match missing {
             Some(index) => {
                 Err(source.fault(alloc, ReadCause::SelectionMissing, first + 5 + 2 * index))
             }

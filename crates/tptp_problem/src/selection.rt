@@ -1,68 +1,15 @@
-// The formulas that an include takes.
+// The names that an include lists.
 
-ghost use Rattle.std.specs.Prelude.{◌≡◌, ◌++◌, [], ◌∷◌, map, IfOk};
-ghost use Rattle.tptp_problem.specs.Formulas.{placed, selects as selects_name, selected, missing as missing_among};
 ghost use Rattle.tptp_problem.specs.NameSets.{HasNames};
-ghost use Rattle.tptp_problem.specs.Shape.{selections};
 
-use crate::name_set::{NameSet, has_name, names_of};
-use plain_types::{Mem, Text};
-use std::alloc::Global;
-use tptp_tree::Annotated;
+use crate::name_set::NameSet;
+use plain_types::Text;
 
 /// The names of the formulas that an include takes; where none are listed, it takes all.
 #[derive(Clone, Copy)]
-pub struct Selection<'a> {
+pub struct Selection<'a, 'k> {
     pub names: &'a [Text],
     /// The same names, by which each is found.
-    pub known: &'a NameSet<'a>,
+    pub known: &'k NameSet<'a>,
     ghost known_are: { HasNames names.now known.now },
-}
-
-impl<'a> Selection<'a> {
-    /// Whether it takes the formulas of that name.
-    pub fn selects(&self, name: &[u8]) -> bool
-        ensures { result ≡ selects_name self.now.names.now name.now }
-    {
-        self.names.is_empty() || has_name(self.known, name)
-    }
-
-    /// The index of its first name that none of the formulas has.
-    pub fn missing(&self, alloc: Global, formulas: &[Annotated]) -> Mem<Option<usize>>
-        ensures { IfOk result (λ index. index ≡ missing_among self.now.names.now (map placed formulas.now)) }
-    {
-        if self.names.is_empty() {
-            return Ok(None);
-        }
-        let present = names_of(alloc, formulas)?;
-        for (index, name) in self.names.iter().enumerate() {
-            if !has_name(&present, name.as_slice()) {
-                return Ok(Some(index));
-            }
-        }
-        Ok(None)
-    }
-
-    /// Moves the formulas that it takes to the end of a list, in their order.
-    pub fn take(&self, formulas: Vec<Annotated>, list: &mut Vec<Annotated>) -> Mem<()>
-        ensures { IfOk result (λ _. map placed list.new.items
-            ≡ map placed list.old.items ++ selected self.now.names.now (map placed formulas.items)) }
-    {
-        for formula in formulas {
-            if self.selects(formula.name.as_slice()) {
-                list.push(formula)?;
-            }
-        }
-        Ok(())
-    }
-
-    /// The selections, and this one inside them.
-    pub fn within(self, alloc: Global, around: &[Selection<'a>]) -> Mem<Vec<Selection<'a>>>
-        ensures { IfOk result (λ all. selections all.items ≡ selections around.now ++ self.entry.names.now ∷ []) }
-    {
-        let mut all = Vec::new(alloc);
-        all.extend_from_slice(around)?;
-        all.push(self)?;
-        Ok(all)
-    }
 }

@@ -24,7 +24,7 @@ pub struct Source<'a> {
     pub name: &'a str,
     pub bytes: &'a [u8],
     pub lexed: &'a Lexed,
-    pub around: &'a [Selection<'a>],
+    pub around: &'a [Selection<'a, 'a>],
 }
 
 impl<'a> Source<'a> {

@@ -3,7 +3,6 @@ pub mod AtomLemmas
 pub mod BindingLemmas
 pub mod ClassLemmas
 pub mod ClauseLemmas
-pub mod FormulaLemmas
 pub mod NumberLemmas
 pub mod PartLemmas
 pub mod ReadingLemmas

@@ -1,5 +1,5 @@
--- Formulas that say the same: they are equal; an equivalence, and alike in all that is compared or fed to a hasher. The proofs stand
--- here, since an implementation's laws cite them.
+-- Annotated formulas that say the same: an equivalence, and alike in all that is compared or fed to a hasher. The proofs stand here, since
+-- an implementation's laws cite them; that of formulas stands in tptp_tree.
 use mathlib.Core.Bool.{beq}
 use Rattle.std.proofs.Common.{◌≡◌, ℕ, Bool, true, false, ◌&&◌, ◌↔◌, List, ◌∷◌, refl, ap, ap₂, sym, ◌∙◌, subst}
 use Rattle.std.specs.Prelude.{bytes_eq, IsTrue}
@@ -7,11 +7,13 @@ use Rattle.std.specs.Cmp.{IsEquivalence}
 use Rattle.std.proofs.lemmas.Bool.{and_parts, true≢false}
 use Rattle.std.proofs.lemmas.Cmp.{nat_list_eq_equiv}
 use Rattle.std.proofs.lemmas.Slice.Eq.{bytes_eq-Decides}
-use Rattle.tptp_tree.specs.Term.{TermTree, variable, application, TermTrees, no_terms, term_then}
+use Rattle.tptp_tree.specs.Term.{TermTree}
 use Rattle.tptp_tree.specs.Formula.{FormulaTree, negation}
-use Rattle.tptp_tree.specs.Codes.{encoded, decoded, decoded-formula}
+use Rattle.tptp_tree.specs.Codes.{encoded}
 use Rattle.tptp_tree.specs.Entries.{AnnotatedTree, role_word}
-use Rattle.clausal_form.specs.DerivationLine.{same_term, same_terms, same_formula, same_entry}
+use Rattle.tptp_tree.specs.Equality.{same_term, same_formula}
+use Rattle.tptp_tree.proofs.AboutTrees.EqualityLemmas.{term-same, formula-self, formula-same}
+use Rattle.clausal_form.specs.DerivationLine.{same_entry}
 use Rattle.tstp_checker.specs.Hashing.{formula_writes, entry_writes}
 
 bytes-refl : (x : List ℕ) → bytes_eq x x ≡ true
@@ -20,34 +22,8 @@ bytes-refl x = nat_list_eq_equiv.refl x
 both : (a b : Bool) → a ≡ true → b ≡ true → (a && b) ≡ true
 both a b h k = ap₂ ◌&&◌ h k
 
-mutual
-  same_term-refl : (t : TermTree) → same_term t t ≡ true
-  same_term-refl (variable x) = bytes-refl x
-  same_term-refl (application f ts) = both (bytes_eq f f) (same_terms ts ts) (bytes-refl f) (same_terms-refl ts)
-
-  same_terms-refl : (ts : TermTrees) → same_terms ts ts ≡ true
-  same_terms-refl no_terms = refl
-  same_terms-refl (term_then t ts) = both (same_term t t) (same_terms ts ts) (same_term-refl t) (same_terms-refl ts)
-
-mutual
-  same_term-says : (t u : TermTree) → same_term t u ≡ true → t ≡ u
-  same_term-says (variable x) (variable y) h = ap variable ((bytes_eq-Decides x y).0 h)
-  same_term-says (variable x) (application g us) h = absurd (true≢false (sym h))
-  same_term-says (application f ts) (variable y) h = absurd (true≢false (sym h))
-  same_term-says (application f ts) (application g us) h =
-      let parts = and_parts (bytes_eq f g) (same_terms ts us) h in
-      ap₂ application ((bytes_eq-Decides f g).0 parts.0) (same_terms-says ts us parts.1)
-
-  same_terms-says : (ts us : TermTrees) → same_terms ts us ≡ true → ts ≡ us
-  same_terms-says no_terms no_terms h = refl
-  same_terms-says no_terms (term_then u us) h = absurd (true≢false (sym h))
-  same_terms-says (term_then t ts) no_terms h = absurd (true≢false (sym h))
-  same_terms-says (term_then t ts) (term_then u us) h =
-      let parts = and_parts (same_term t u) (same_terms ts us) h in
-      ap₂ term_then (same_term-says t u parts.0) (same_terms-says ts us parts.1)
-
 pub same_formula-refl : (f : FormulaTree) → same_formula f f ≡ true
-same_formula-refl f = same_term-refl (encoded f)
+same_formula-refl f = formula-self f
 
 pub negations-same : (f g : FormulaTree) → same_formula f g ≡ same_formula (negation f) (negation g)
 negations-same f g = by (same_term (encoded f) (encoded g))
@@ -88,7 +64,7 @@ same_entry-like a b x h =
     ap (λ n. same_parts n (role_word a.role) a.is_clause (encoded a.formula) x) ((bytes_eq-Decides a.name b.name).0 first.0)
     ∙ ap (λ r. same_parts b.name r a.is_clause (encoded a.formula) x) ((bytes_eq-Decides (role_word a.role) (role_word b.role)).0 second.0)
     ∙ ap (λ k. same_parts b.name (role_word b.role) k (encoded a.formula) x) (beq-says a.is_clause b.is_clause third.0)
-    ∙ ap (λ e. same_parts b.name (role_word b.role) b.is_clause e x) (same_term-says (encoded a.formula) (encoded b.formula) third.1)
+    ∙ ap (λ e. same_parts b.name (role_word b.role) b.is_clause e x) (term-same (encoded a.formula) (encoded b.formula) third.1)
 
 pub same_entry-symm : (a b : AnnotatedTree) → same_entry a b ≡ same_entry b a
 same_entry-symm a b = by (same_entry a b) (same_entry b a) refl refl
@@ -101,19 +77,9 @@ same_entry-symm a b = by (same_entry a b) (same_entry b a) refl refl
 pub same_entry_equivalence : IsEquivalence same_entry
 same_entry_equivalence = record { refl = same_entry-refl; symm = same_entry-symm; congr = same_entry-like }
 
-formula-is : (f g : FormulaTree) → same_formula f g ≡ true → f ≡ g
-formula-is f g h = sym (decoded-formula f) ∙ ap decoded (same_term-says (encoded f) (encoded g) h) ∙ decoded-formula g
-
 pub same_entry_feeds_alike : (a b : AnnotatedTree) → IsTrue (same_entry a b) → entry_writes a ≡ entry_writes b
 same_entry_feeds_alike a b h =
     let first = and_parts (bytes_eq a.name b.name) (bytes_eq (role_word a.role) (role_word b.role) && (beq a.is_clause b.is_clause && same_formula a.formula b.formula)) h in
     let second = and_parts (bytes_eq (role_word a.role) (role_word b.role)) (beq a.is_clause b.is_clause && same_formula a.formula b.formula) first.1 in
     let third = and_parts (beq a.is_clause b.is_clause) (same_formula a.formula b.formula) second.1 in
-    ap₂ (λ n f. n ∷ formula_writes f) ((bytes_eq-Decides a.name b.name).0 first.0) (formula-is a.formula b.formula third.1)
-
--- formulas are the same exactly where they are equal
-abbrev pub SameFormulasAreEqual : Type 0
-SameFormulasAreEqual = (f g : FormulaTree) → IsTrue (same_formula f g) ↔ (f ≡ g)
-
-pub same_formulas_are_equal : SameFormulasAreEqual
-same_formulas_are_equal f g = (formula-is f g, λ e. subst (λ h. IsTrue (same_formula f h)) e (same_formula-refl f))
+    ap₂ (λ n f. n ∷ formula_writes f) ((bytes_eq-Decides a.name b.name).0 first.0) (formula-same a.formula b.formula third.1)

@@ -7,10 +7,9 @@ ghost use Rattle.tstp_checker.specs.Entries.{entry_meant, same_meant};
 ghost use Rattle.tstp_checker.specs.EntryLaws.{same_entry_equivalence, same_entry_feeds_alike};
 ghost use Rattle.tstp_checker.specs.Hashing.{entry_writes};
 
-use crate::formulas::same_formula;
 use crate::hashing::hash_formula;
 use std::hash::{Hash, Hasher};
-use tptp_tree::{Annotated, Formula, Role};
+use tptp_tree::{Annotated, Formula, Role, same_formula};
 
 /// What an annotated formula says, lent.
 #[derive(Clone, Copy)]

@@ -19,7 +19,6 @@ ghost use Rattle.tstp_checker.specs.Lines.{line_meant, setting_in, taken_in, IsR
 
 use crate::cause::Cause;
 use crate::entries::Entry;
-use crate::formulas::same_formula;
 use crate::items::row_arguments;
 use crate::lines::Lines;
 use crate::refusal::Refusal;
@@ -30,7 +29,7 @@ use kernel_steps::{Line, Step};
 use plain_types::{Mem, Names};
 use std::alloc::Global;
 use tptp_source::{GeneralTerm, Source};
-use tptp_tree::{Annotated, Formula};
+use tptp_tree::{Annotated, Formula, same_formula};
 
 impl<'a> Lines<'a> {
     /// The verdict on a line of a formula.

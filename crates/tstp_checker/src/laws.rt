@@ -5,7 +5,6 @@ ghost use Rattle.plain_types.specs.Examples.{positive_name, negative_name};
 ghost use Rattle.tptp_tree.specs.Term.{variable, application, no_terms, term_then};
 ghost use Rattle.tptp_source.specs.General.{variable as general_variable};
 ghost use Rattle.clausal_form.specs.DerivationExamples.{name, call, list_of, bind, n0};
-ghost use Rattle.tstp_checker.specs.EntryLaws.{SameFormulasAreEqual};
 ghost use Rattle.tstp_checker.specs.Tables.{with_name, place_of_name};
 ghost use Rattle.tstp_checker.specs.Written.{may_follow};
 ghost use Rattle.tstp_checker.specs.Bindings.{is_term, as_term, list_of_item, binding_in};
@@ -34,9 +33,4 @@ pub fn binding_examples()
     ensures bound { binding_in (bind (name (codes "a") ∷ [])) ≡ Some (application (codes "a") no_terms ∷ []) }
     ensures number_bound { binding_in (bind (n0 ∷ [])) ≡ None }
     ensures no_list { list_of_item (call (codes "bind") (name (codes "a") ∷ [])) ≡ None }
-{}
-
-/// Formulas are the same exactly where they are equal.
-pub fn same_formulas_are_equal()
-    ensures { SameFormulasAreEqual }
 {}

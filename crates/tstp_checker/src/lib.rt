@@ -9,7 +9,6 @@ mod clause_lines;
 mod derivation;
 mod entries;
 mod formula_lines;
-mod formulas;
 mod hashing;
 mod inputs;
 mod items;

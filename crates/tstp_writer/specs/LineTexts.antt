@@ -1,13 +1,10 @@
 -- How the lines of a derivation are printed.
 use Rattle.std.specs.Prelude.{ℕ, List, [], ◌∷◌, ◌++◌, flat_map, codes, Option, None, Some}
 use Rattle.tptp_tree.specs.Entries.{AnnotatedTree, language_word, role_word}
+pub use Rattle.tptp_tree.specs.Printing.{formula_name_text}
 use Rattle.tptp_tree.specs.Printing.{formula_text}
 use Rattle.clausal_form.specs.DerivationLine.{LineTree}
-use Rattle.tstp_writer.specs.SourceTexts.{general_text, name_term, source_text}
-
--- a formula's name: bare where it is a lower word or of digits alone, else quoted
-abbrev pub formula_name_text : List ℕ → List ℕ
-formula_name_text n = general_text (name_term n)
+use Rattle.tstp_writer.specs.SourceTexts.{source_text}
 
 -- an annotated formula up to its formula
 abbrev pub entry_text : AnnotatedTree → List ℕ

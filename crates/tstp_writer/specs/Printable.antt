@@ -12,7 +12,8 @@ use Rattle.tptp_source.specs.declared.sign.NumberSign.TheVariants.{Unsigned, Plu
 use Rattle.tptp_source.specs.General.{GeneralTree, variable, word, dollar, number, distinct, negated, listed, joined, GeneralTrees, no_trees, tree_then}
 use Rattle.clausal_form.specs.DerivationLine.{LineTree}
 use Rattle.clausal_form.specs.DerivationTexts.{SpellsDerivation}
-use Rattle.tstp_writer.specs.SourceTexts.{is_number_name, source_term}
+use Rattle.tptp_tree.specs.Printing.{is_number_name}
+use Rattle.tstp_writer.specs.SourceTexts.{source_term}
 use Rattle.tstp_writer.specs.LineTexts.{lines_text}
 use Rattle.tptp_tree.specs.Levels.{formula_levels}
 use Rattle.tstp_writer.specs.Levels.{general_levels}

@@ -1,8 +1,7 @@
 -- How general terms and sources are printed.
-use Rattle.std.specs.Prelude.{ℕ, Bool, List, [], ◌∷◌, ◌++◌, map, codes, if◌then◌else◌}
-use Rattle.std.specs.List.{list_all}
-use Rattle.tptp_token.specs.Spelling.{is_digit, begins}
+use Rattle.std.specs.Prelude.{ℕ, List, [], ◌∷◌, ◌++◌, map, codes, if◌then◌else◌}
 use Rattle.tptp_token.specs.Words.{name_text}
+use Rattle.tptp_tree.specs.Printing.{is_number_name}
 use Rattle.tptp_source.specs.declared.sign.NumberSign.{NumberSign}
 use Rattle.tptp_source.specs.declared.sign.NumberSign.TheVariants.{Unsigned, Plus, Minus}
 use Rattle.tptp_source.specs.General.{GeneralTree, variable, word, dollar, number, distinct, negated, listed, joined, GeneralTrees, no_trees, tree_then}
@@ -51,9 +50,6 @@ abbrev mutual
   more_parts_text (tree_then t ts) = codes ":" ++ general_text t ++ more_parts_text ts
 
 -- ---- sources
-
-abbrev pub is_number_name : List ℕ → Bool
-is_number_name n = begins is_digit (list_all is_digit) n
 
 -- the term that a name is: a number where it is of digits alone, else a word
 abbrev pub name_term : List ℕ → GeneralTree

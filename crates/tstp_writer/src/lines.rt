@@ -9,7 +9,7 @@ ghost use Rattle.tptp_tree.specs.Printing.{is_bare as bare, formula_text};
 ghost use Rattle.tptp_tree.specs.Shape.{formula_of};
 ghost use Rattle.tptp_source.specs.Sources.{file_source};
 ghost use Rattle.clausal_form.specs.DerivationLine.{entry_of};
-ghost use Rattle.tstp_writer.specs.SourceTexts.{source_text};
+ghost use Rattle.tstp_writer.specs.SourceTexts.{general_text, name_term, source_text};
 ghost use Rattle.tstp_writer.specs.LineTexts.{formula_name_text, line_text};
 ghost use Rattle.tstp_writer.specs.LineTrees.{line_name, named, input_tree, negate_tree, clause_tree, step_source};
 ghost use Rattle.tstp_writer.specs.NameTexts.{head_text};
@@ -23,7 +23,6 @@ use crate::sources::push_source;
 use kernel_steps::{Line, Step};
 use plain_types::Mem;
 use std::alloc::Global;
-use tptp_token::are_digits;
 use tptp_tree::{Annotated, Formula, Role, print_formula};
 
 /// Adds an annotated formula up to its role.
@@ -42,11 +41,14 @@ fn push_head(page: &mut Page, clause: bool, number: u64, role: Role) -> Mem<()>
 pub fn push_formula_name(page: &mut Page, name: &[u8]) -> Mem<()>
     ensures { IfOk result (λ _. page.new ≡ page.old ++ formula_name_text name.now) }
 {
-    if !name.is_empty() && are_digits(name) {
-        page.bytes(name)
-    } else {
-        page.name(name)
-    }
+    page.formula_name(name)
+}
+
+/// Adds the term that a formula's name is.
+fn push_name_term(page: &mut Page, name: &[u8]) -> Mem<()>
+    ensures { IfOk result (λ _. page.new ≡ page.old ++ general_text (name_term name.now)) }
+{
+    page.formula_name(name)
 }
 
 /// Adds the source of a formula of a file.
@@ -56,7 +58,7 @@ fn push_file_source(page: &mut Page, file: &[u8], name: &[u8]) -> Mem<()>
     page.bytes(b"file(")?;
     page.name(file)?;
     page.bytes(b",")?;
-    push_formula_name(page, name)?;
+    push_name_term(page, name)?;
     page.bytes(b")")
 }
 

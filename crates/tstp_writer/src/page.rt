@@ -3,11 +3,13 @@
 ghost use Rattle.std.specs.Prelude.{◌≡◌, [], ◌++◌, IfOk};
 ghost use Rattle.std.specs.Fmt.{decimal};
 ghost use Rattle.tptp_token.specs.Words.{name_text};
+ghost use Rattle.tptp_tree.specs.Printing.{formula_name_text};
 
 use plain_types::{Mem, Text};
 use std::alloc::Global;
 use std::marker::Model;
 use tptp_token::push_name;
+use tptp_tree::push_formula_name;
 
 /// A text that grows at its end, which contracts see as its bytes.
 #[derive(Drop)]
@@ -49,6 +51,13 @@ impl Page {
         ensures { IfOk result (λ _. self.new ≡ self.old ++ name_text name.now) }
     {
         push_name(&mut self.bytes, name)
+    }
+
+    /// Adds a formula's name: digits alone stand bare, every other name as elsewhere.
+    pub fn formula_name(&mut self, name: &[u8]) -> Mem<()>
+        ensures { IfOk result (λ _. self.new ≡ self.old ++ formula_name_text name.now) }
+    {
+        push_formula_name(&mut self.bytes, name)
     }
 
     /// Adds a number in decimal digits.

@@ -15,12 +15,6 @@ use fol_base::{Side, Term};
 use plain_types::Mem;
 use std::alloc::Global;
 
-/// Room for the cells of what is bound in terms of usual size.
-const USUAL_CELLS: usize = 32;
-
-/// Room for the variables of such terms.
-const USUAL_PLACES: usize = 8;
-
 /// What an attempt has shown.
 #[derive(Drop)]
 pub enum Attempt {
@@ -33,7 +27,8 @@ pub enum Attempt {
 }
 
 /// A most general unifier, from the equations that a walk down both terms finds. Each of them is forced: every
-/// unifier meets it. The walk takes no memory. Only what variables are equal to is laid out.
+/// unifier meets it. The walk takes no memory. Only what variables are equal to is laid out, so terms without
+/// variables take none at all.
 pub fn unify_by_equations(alloc: Global, left: &Term, right: &Term, apart: bool) -> Mem<Attempt>
     ensures { IfOk result (IsAttempt apart (tree_of left.now) (tree_of right.now)) }
 {
@@ -69,8 +64,8 @@ fn resolved<'a>(
     ensures { IfOk result (λ found. IfSome found (λ solution. IsFound apart (tree_of left.now) (tree_of right.now) (solved_form solution))) }
 {
     let mut layout = Layout {
-        cells: Vec::with_capacity(alloc, USUAL_CELLS)?,
-        places: Vec::with_capacity(alloc, USUAL_PLACES)?,
+        cells: Vec::new(alloc),
+        places: Vec::new(alloc),
     };
     if !layout.resolve_variables(equations, apart, Side::Left, left)? {
         return Ok(None);

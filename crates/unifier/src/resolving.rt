@@ -22,6 +22,12 @@ use crate::layout::{Layout, Place, code};
 use fol_base::{Side, Term};
 use plain_types::Mem;
 
+/// Room for the cells of what is bound in terms of usual size, taken with the first of them: terms without variables take none.
+const USUAL_CELLS: usize = 32;
+
+/// Room for the variables of such terms.
+const USUAL_PLACES: usize = 8;
+
 /// So many levels of terms and of bindings are laid out at most.
 const MOST_LEVELS: u32 = 64;
 
@@ -193,6 +199,9 @@ impl Layout {
         ensures { IfOk result (IsCellAdded self.old self.new cell) }
     {
         let number = self.cells.len();
+        if number == 0 {
+            self.cells.reserve(USUAL_CELLS)?;
+        }
         self.cells.push(cell)?;
         Ok(number)
     }
@@ -200,6 +209,9 @@ impl Layout {
     fn add_place(&mut self, code: u64, cell: usize) -> Mem<()>
         ensures { OnOk result (IsPlaceAdded self.old self.new code cell) }
     {
+        if self.places.is_empty() {
+            self.places.reserve(USUAL_PLACES)?;
+        }
         self.places.push(Place { code, cell })?;
         Ok(())
     }

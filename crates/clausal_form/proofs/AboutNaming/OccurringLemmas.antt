@@ -10,7 +10,7 @@ use Rattle.clausal_form.specs.Written.{written, all_written, product_written}
 use Rattle.clausal_form.specs.Occurring.{clauses_variables, has_clauses, some_have_clauses, all_have_clauses, matrix_variables, matrices_variables}
 use Rattle.clausal_form.proofs.AboutNaming.PairLemmas.{product-written-first}
 
-abbrev is_some : List Literals → Bool
+abbrev pub is_some : List Literals → Bool
 is_some [] = false
 is_some (c ∷ cs) = true
 
@@ -24,7 +24,7 @@ any-append p (x ∷ xs) ys = by (p x) (any-append p xs ys)
     by true h = refl
     by false h = h
 
-some-append : (a b : List Literals) → is_some (a ++ b) ≡ (is_some a || is_some b)
+pub some-append : (a b : List Literals) → is_some (a ++ b) ≡ (is_some a || is_some b)
 some-append [] b = refl
 some-append (c ∷ a) b = refl
 
@@ -37,7 +37,7 @@ or-idle true u = refl
 or-idle false true = refl
 or-idle false false = refl
 
-some-pairs : (a b : List Literals) → is_some (all_pairs a b) ≡ (is_some a && is_some b)
+pub some-pairs : (a b : List Literals) → is_some (all_pairs a b) ≡ (is_some a && is_some b)
 some-pairs [] b = refl
 some-pairs (c ∷ a) b =
     some-append (map (λ d. c ++ d) b) (all_pairs a b) ∙ ap (λ t. t || is_some (all_pairs a b)) (some-before c b)

@@ -1,10 +1,10 @@
 -- Sets of names, and the names that are missing.
-use Rattle.std.proofs.Common.{◌≡◌, ◌≤◌, ◌<◌, ℕ, ◌+◌, Bool, true, false, ◌||◌, cond, None, Some, List, [], ◌∷◌, ◌++◌, length, take, drop, get_or, map, refl, ap, ap₂, sym, ◌∙◌, subst, arith, bytes_eq}
+use Rattle.std.proofs.Common.{◌≡◌, ◌≤◌, ◌<◌, ℕ, zero, suc, ◌+◌, Bool, true, false, ◌||◌, cond, Some, List, [], ◌∷◌, ◌++◌, length, take, drop, get_or, map, refl, ap, ap₂, sym, ◌∙◌, subst, arith, bytes_eq}
 use Rattle.std.specs.Prelude.{if◌then◌else◌}
 use Rattle.std.specs.HashSet.{HashSet, contains}
 use Rattle.std.specs.declared.hash.FoldHasher.{FoldHasher}
 use Rattle.std.specs.declared.hash.BuildHasherDefault.{BuildHasherDefault}
-use Rattle.std.proofs.lemmas.List.{take_more, take_all, drop_more, drop_all}
+use Rattle.std.proofs.lemmas.List.{take_more, take_all, drop_more, length-map}
 use Rattle.std.specs.List.{list_any}
 use Rattle.std.proofs.lemmas.List.Folds.{list_any-append}
 use Rattle.std.proofs.lemmas.Slice.Eq.{bytes_eq-Decides}
@@ -57,14 +57,23 @@ has-more names old new a h u q = u q ∙ by (same_name a q) refl ∙ sym (one-mo
 
 -- one name more of a list
 pub has-next :
-    (names : List (List ℕ)) (i : ℕ) (old new : Names) (a : Name)
-    → i < length names → bytes_of a ≡ get_or names i [] → HasNames (take i names) old
+    (names : List (List ℕ)) (i : ℕ) (old new : Names) (a : Name) (x : List ℕ)
+    → i < length names → bytes_of a ≡ x → x ≡ get_or names i x → HasNames (take i names) old
     → ((q : Name) → contains same_name new q ≡ cond (same_name a q) true (contains same_name old q)) → HasNames (take (i + 1) names) new
-has-next names i old new a l e h u =
-    subst (λ ns. HasNames ns new) (ap (λ x. take i names ++ x ∷ []) e ∙ sym (take_more names i [] l)) (has-more (take i names) old new a h u)
+has-next names i old new a x l e g h u =
+    subst (λ ns. HasNames ns new) (ap (λ y. take i names ++ y ∷ []) (e ∙ g) ∙ sym (take_more names i x l)) (has-more (take i names) old new a h u)
 
 pub has-all : (names : List (List ℕ)) (i : ℕ) (set : Names) → length names ≤ i → HasNames (take i names) set → HasNames names set
 has-all names i set l h = subst (λ ns. HasNames ns set) (take_all i names l) h
+
+-- the name of one formula of a list
+pub name-among : (fs : List Annotated) (i : ℕ) (a : Annotated) → i < length fs → a ≡ get_or fs i a → a.name ≡ get_or (names_among fs) i a.name
+name-among [] i a l e = refl
+name-among (f ∷ fs) zero a l e = ap (λ (b : Annotated). b.name) e
+name-among (f ∷ fs) (suc i) a l e = name-among fs i a (omega (arith, l)) e
+
+pub names-length : (fs : List Annotated) → length (names_among fs) ≡ length fs
+names-length fs = length-map fs (λ (a : Annotated). a.name)
 
 pub named-among : (fs : List Annotated) (x : List ℕ) → is_one_of (names_among fs) x ≡ is_named (map placed fs) x
 named-among [] x = refl
@@ -72,22 +81,31 @@ named-among (f ∷ fs) x = ap₂ (λ a b. a || b) (bytes-sym x f.name) (named-am
 
 -- ---- missing names
 
+-- what a set of the formulas' names tells
+is-there :
+    (fs : List Annotated) (x y : List ℕ) (b c : Bool) → b ≡ is_one_of (names_among fs) y → y ≡ x → b ≡ c → is_named (map placed fs) x ≡ c
+is-there fs x y b c h e k = sym (named-among fs x) ∙ ap (is_one_of (names_among fs)) (sym e) ∙ sym h ∙ k
+
 missing-at :
-    (names : List (List ℕ)) (fs : List Placed) (i : ℕ) → i < length names
-    → missing_from i (drop i names) fs ≡ (if is_named fs (get_or names i []) then missing_from (i + 1) (drop (i + 1) names) fs else Some i)
-missing-at names fs i l = ap (λ ns. missing_from i ns fs) (drop_more names i [] l)
+    (names : List (List ℕ)) (fs : List Placed) (i : ℕ) (x : List ℕ) → i < length names → x ≡ get_or names i x
+    → missing_from i (drop i names) fs ≡ (if is_named fs x then missing_from (i + 1) (drop (i + 1) names) fs else Some i)
+missing-at names fs i x l e =
+    ap (λ ns. missing_from i ns fs) (drop_more names i x l)
+    ∙ ap (λ y. if is_named fs y then missing_from (i + 1) (drop (i + 1) names) fs else Some i) (sym e)
 
 pub missing-here :
-    (names : List (List ℕ)) (fs : List Placed) (i : ℕ) → i < length names → missing_from 0 names fs ≡ missing_from i (drop i names) fs
-    → is_named fs (get_or names i []) ≡ false → Some i ≡ missing_from 0 names fs
-missing-here names fs i l h e = sym (h ∙ missing-at names fs i l ∙ ap (λ b. if b then missing_from (i + 1) (drop (i + 1) names) fs else Some i) e)
+    (names : List (List ℕ)) (fs : List Annotated) (i : ℕ) (x y : List ℕ) (b : Bool) → i < length names → x ≡ get_or names i x
+    → missing_from 0 names (map placed fs) ≡ missing_from i (drop i names) (map placed fs)
+    → b ≡ is_one_of (names_among fs) y → y ≡ x → b ≡ false → Some i ≡ missing_from 0 names (map placed fs)
+missing-here names fs i x y b l e h k g t =
+    sym (h ∙ missing-at names (map placed fs) i x l e
+    ∙ ap (λ c. if c then missing_from (i + 1) (drop (i + 1) names) (map placed fs) else Some i) (is-there fs x y b false k g t))
 
 pub missing-next :
-    (names : List (List ℕ)) (fs : List Placed) (i : ℕ) → i < length names → missing_from 0 names fs ≡ missing_from i (drop i names) fs
-    → is_named fs (get_or names i []) ≡ true → missing_from 0 names fs ≡ missing_from (i + 1) (drop (i + 1) names) fs
-missing-next names fs i l h e = h ∙ missing-at names fs i l ∙ ap (λ b. if b then missing_from (i + 1) (drop (i + 1) names) fs else Some i) e
-
-pub missing-none :
-    (names : List (List ℕ)) (fs : List Placed) (i : ℕ) → length names ≤ i → missing_from 0 names fs ≡ missing_from i (drop i names) fs
-    → None ≡ missing_from 0 names fs
-missing-none names fs i l h = sym (h ∙ ap (λ ns. missing_from i ns fs) (drop_all i names l))
+    (names : List (List ℕ)) (fs : List Annotated) (i : ℕ) (x y : List ℕ) (b : Bool) → i < length names → x ≡ get_or names i x
+    → missing_from 0 names (map placed fs) ≡ missing_from i (drop i names) (map placed fs)
+    → b ≡ is_one_of (names_among fs) y → y ≡ x → b ≡ true
+    → missing_from 0 names (map placed fs) ≡ missing_from (i + 1) (drop (i + 1) names) (map placed fs)
+missing-next names fs i x y b l e h k g t =
+    h ∙ missing-at names (map placed fs) i x l e
+    ∙ ap (λ c. if c then missing_from (i + 1) (drop (i + 1) names) (map placed fs) else Some i) (is-there fs x y b true k g t)

@@ -12,7 +12,7 @@ use Rattle.tptp_problem.specs.Awaiting.{after, is_nothing, ended, ending_from}
 use Rattle.tptp_problem.specs.declared.include.Awaited.{Awaited}
 use Rattle.tptp_problem.specs.declared.include.Awaited.TheVariants.{Keyword, Open, File, AfterFile, OpenList, Name, AfterName, Close, Stop, Nothing}
 use Rattle.tptp_problem.specs.declared.include.Ending.TheVariants.{Whole, Stopped, Cut}
-use Rattle.tptp_problem.proofs.AboutReading.IncludeTokens.{tail_lexemes, include-tail, tail_width, width, both, include-ends, include-read}
+use Rattle.tptp_problem.proofs.AboutReading.IncludeTokens.{tail_lexemes, include-tail, tail_width, width, include-ends, include-read}
 
 -- ---- what isn't read up to an end
 

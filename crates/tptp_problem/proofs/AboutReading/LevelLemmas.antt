@@ -1,5 +1,5 @@
 -- The formulas of a problem have few levels.
-use Rattle.std.proofs.Common.{◌≡◌, ℕ, ◌*◌, List, [], ◌∷◌, Option, map, sym, refl}
+use Rattle.std.proofs.Common.{ℕ, List, Option, sym}
 use Rattle.std.specs.List.{AllByRecursion}
 use Rattle.outside.specs.Library.{Holdings}
 use Rattle.tptp_tree.specs.declared.limits.TheConstants.{MOST_NESTING}

@@ -11,7 +11,7 @@ use Rattle.tptp_problem.specs.Files.{base_of, room_after, MayGive}
 use Rattle.tptp_problem.specs.Formulas.{Placed}
 use Rattle.tptp_problem.specs.Includes.{is_include}
 use Rattle.tptp_problem.specs.Problem.{LoadedFile, Progress, Step, Reads, Faults, tokens_of, lexemes, with_file, next_behind, progress_behind, formulas_along, IsEntryFault, IsTextEndFault, IsLoadFault, ReadsNamed, FaultsNamed, ReadsText, FaultsText, IsProblem, IsProblemFault}
-use Rattle.tptp_problem.proofs.AboutReading.EntryOutcomes.{OneRead, NoFault, Same, OneFault, there, Stuck, steps-one, end-one, entry-none, entry-one}
+use Rattle.tptp_problem.proofs.AboutReading.EntryOutcomes.{OneRead, NoFault, Same, OneFault, Stuck, steps-one, end-one, entry-none, entry-one}
 
 -- ---- texts
 

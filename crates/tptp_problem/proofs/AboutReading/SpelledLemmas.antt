@@ -1,21 +1,21 @@
 -- The formulas of a problem are those that its files spell, and these are determined.
-use Rattle.std.proofs.Common.{◌≡◌, ◌≤◌, ℕ, zero, suc, Bool, true, false, ◌&&◌, None, Some, Option, List, [], ◌∷◌, ◌++◌, map, drop, length, refl, ap, ap₂, sym, ◌∙◌, subst, arith}
+use Rattle.std.proofs.Common.{◌≡◌, ◌≤◌, ℕ, zero, suc, Bool, true, false, None, Some, Option, List, [], ◌∷◌, ◌++◌, map, drop, length, refl, ap, ap₂, sym, ◌∙◌, subst}
 use Rattle.std.specs.Prelude.{if◌then◌else◌}
 use Rattle.std.specs.List.{list_all, filter}
 use Rattle.std.proofs.lemmas.Bool.{and_from}
 use Rattle.std.proofs.lemmas.List.{drop_all, length-map, map-append}
 use Rattle.outside.specs.Library.{Holdings}
-use Rattle.tptp_token.specs.Lexemes.{Lexeme, lexeme_at}
+use Rattle.tptp_token.specs.Lexemes.{lexeme_at}
 use Rattle.tptp_token.specs.Words.{Word, name_of}
-use Rattle.tptp_tree.specs.Entries.{AnnotatedTree, EntryPhrase, annotated_entry, whole_include, selected_include, is_right_entry, entry_lexemes, problem_lexemes, EntryTree, annotated_tree, include_tree, NamePhrase, names_meant, IsEntryOf, AreEntriesOf, SpellsEntries}
+use Rattle.tptp_tree.specs.Entries.{EntryPhrase, annotated_entry, is_right_entry, entry_lexemes, problem_lexemes, EntryTree, annotated_tree, include_tree, NamePhrase, names_meant, IsEntryOf, AreEntriesOf, SpellsEntries}
 use Rattle.tptp_tree.proofs.AboutPrinting.AgainLemmas.{one_entries}
 use Rattle.tptp_reader.specs.Shape.{tree_of}
 use Rattle.tptp_problem.specs.declared.limits.TheConstants.{MOST_INCLUDES}
 use Rattle.tptp_problem.specs.Files.{base_of, loaded_name}
 use Rattle.tptp_problem.specs.Formulas.{Placed, selects, selected}
 use Rattle.tptp_problem.specs.Includes.{is_include, include_phrase}
-use Rattle.tptp_problem.specs.Problem.{LoadedFile, Progress, Step, Reads, tokens_of, lexemes, with_file, IsStep, IsStepBy, IsIncludeStep, IsFormulaStep, AreSteps, next_behind, formulas_along, ReadsNamed, IsProblem}
-use Rattle.tptp_problem.specs.Spelled.{FromFile, from_file, Gives, taken, EntryGives, EntriesGive, FileGives, NamedGives, SpellsProblem}
+use Rattle.tptp_problem.specs.Problem.{LoadedFile, Progress, Step, Reads, tokens_of, lexemes, with_file, IsStepBy, IsIncludeStep, IsFormulaStep, AreSteps, next_behind, formulas_along, ReadsNamed, IsProblem}
+use Rattle.tptp_problem.specs.Spelled.{FromFile, from_file, Gives, taken, EntryGives, EntriesGive, NamedGives, SpellsProblem}
 
 -- ---- selections
 
@@ -63,7 +63,7 @@ formula-spelled base gives file first progress s h = record {
   given = ap (map from_file) h.formulas_are;
 }
 
-include-entry : Word → List NamePhrase → EntryTree
+abbrev include-entry : Word → List NamePhrase → EntryTree
 include-entry file [] = include_tree (name_of file) None
 include-entry file (n ∷ ns) = include_tree (name_of file) (Some (names_meant (n ∷ ns)))
 
@@ -125,7 +125,10 @@ steps-spelled base reads gives file first progress (s ∷ ss) each are end =
       entries = one.entry ∷ more.entries;
       says = (one.says, more.says);
       given = (
-        map from_file s.formulas, map from_file (formulas_along ss), one.given, more.given,
+        map from_file s.formulas,
+        map from_file (formulas_along ss),
+        one.given,
+        more.given,
         map-append from_file s.formulas (formulas_along ss),
       );
     }

@@ -1,67 +1,48 @@
 -- A line by a rule is taken when it is read: its conclusion follows from its parents as these were read.
-use Rattle.std.proofs.Common.{◌≡◌, ℕ, ◌<◌, Bool, true, false, not, ◌&&◌, ◌||◌, ◌==◌, List, [], ◌∷◌, ◌++◌, map, length, take, Option, Some, None, refl, ap, ap₂, sym, ◌∙◌, arith, subst, append_assoc}
-use Rattle.std.specs.Prelude.{flat_map, filter_map, zip, codes, slice_get, unwrap_or, option_map, option_and_then, is_some, bytes_eq, if◌then◌else◌, nat_lt}
-use Rattle.std.specs.List.{list_all, list_any, AllByRecursion, position_or_len, cons_option}
-use Rattle.std.proofs.lemmas.Bool.{and_from, or_right, false≢true, ne_eqb}
-use Rattle.std.proofs.lemmas.Option.{slice_get_within}
-use Rattle.std.proofs.lemmas.List.{map-append, append-nil}
-use Rattle.fol_base.specs.Tree.{Tree, tree_variables}
+use Rattle.std.proofs.Common.{◌≡◌, ℕ, Bool, true, false, ◌&&◌, ◌==◌, List, [], ◌∷◌, map, take, Option, Some, refl, ap, ap₂, sym, ◌∙◌, subst}
+use Rattle.std.specs.Prelude.{filter_map, codes, unwrap_or, option_map, option_and_then, is_some, nat_lt}
+use Rattle.std.specs.List.{list_all, AllByRecursion, cons_option}
+use Rattle.std.proofs.lemmas.Bool.{and_from}
+use Rattle.std.proofs.lemmas.List.{append-nil}
+use Rattle.fol_base.specs.Tree.{Tree}
 use Rattle.fol_base.specs.Instance.{Substitution}
 use Rattle.fol_base.specs.InstanceLaws.{PutsNoTruth}
-use Rattle.fol_base.specs.Canonical.{distinct, IsCanonical}
-use Rattle.fol_base.specs.Ground.{literals_instance, is_ground_literal}
-use Rattle.fol_base.specs.Clause.{TreeLiteral, TreeClause, clause_variables, clause_instance, clause_eq, names_eq}
-use Rattle.fol_base.specs.Literal.{clause_of}
+use Rattle.fol_base.specs.Canonical.{distinct}
+use Rattle.fol_base.specs.Ground.{literals_instance}
+use Rattle.fol_base.specs.Clause.{TreeLiteral, TreeClause}
 use Rattle.fol_base.specs.Rules.{superposed, resolved, factored, merged}
 use Rattle.fol_base.specs.declared.clause.Side.{Side}
 use Rattle.fol_base.proofs.AboutClauses.InferenceLemmas.{superpositions_in_instances, resolutions_in_instances, factorings_in_instances, merges_in_instances}
-use Rattle.fol_base.proofs.WorkedExamples.TestLemmas.{list_all-joined}
-use Rattle.tptp_tree.specs.Term.{TermTree}
-use Rattle.tptp_tree.specs.Formula.{FormulaTree}
 use Rattle.tptp_tree.specs.declared.problem.Annotated.{Annotated}
 use Rattle.signature.specs.declared.symbol.Symbol.{Symbol}
-use Rattle.signature.specs.Symbol.{has_symbol}
-use Rattle.signature.specs.Occurrences.{term_symbols, formula_symbols}
-use Rattle.signature.specs.Environment.{Environment, different_names}
 use Rattle.signature.specs.Form.{clausal_form}
 use Rattle.kernel_steps.specs.Parents.{Parent, Parents, all_there}
 use Rattle.kernel_steps.specs.Conclusion.{binds, bound_literals, concludes, verdict, by_one, by_two, verdict_of, split_from, names_at, clause_of_names}
 use Rattle.kernel_steps.specs.Soundness.{bindings_of}
-use Rattle.kernel_steps.specs.Derivation.{is_clause_step, line_parents, ComesBy, negative_of, positive_of, complement, component_clause}
+use Rattle.kernel_steps.specs.Derivation.{line_parents}
 use Rattle.kernel_steps.specs.declared.step.Step.{Step}
-use Rattle.kernel_steps.specs.declared.step.Step.TheVariants.{Input, Negate, Clausify, Para, Refl, Factor, Merge, Component, Opposite, Split, Chain}
+use Rattle.kernel_steps.specs.declared.step.Step.TheVariants.{Para, Refl, Factor, Merge, Split, Chain}
 use Rattle.kernel_steps.specs.declared.step.Line.{Line}
 use Rattle.kernel_steps.proofs.AboutCalls.VerdictParts.{OneParts, TwoParts, by_one-parts, by_two-parts, SplitParts, ChainParts, split-parts, chain-parts}
-use Rattle.clausal_form.specs.DerivationClause.{ordinary_literals, is_written_clause, numbered_from, symbols_in, variables_in, Numbering, term_by, clause_by, name_number}
-use Rattle.clausal_form.specs.DerivationItems.{only_one, introduced_in}
+use Rattle.clausal_form.specs.DerivationItems.{introduced_in}
 use Rattle.clausal_form.specs.DerivationSteps.{bindings_count, kind_of, rule_step}
 use Rattle.clausal_form.specs.DerivationSteps as kind
-use Rattle.clausal_form.specs.DerivationLine.{LineTree, NamedLine, Taken, kernel_line, names_with, kernel_lines}
-use Rattle.clausal_form.specs.DerivationParts.{Setting, setting_of, line_kind, items_of, parent_places, parents_of as places_of_parents, parent_lines, only_parent_step, line_names, bound_terms, line_literals, all_bound, line_numbering, line_clause, line_bindings, line_place}
-use Rattle.clausal_form.specs.DerivationCauses.{text, order, unknown_parent, clausification, binding, rule, conclusion, new_symbol, fault, gives_clause, is_line_of, is_clausified, index_in, is_bound, are_bound, line_step, concluded, given_by_rule, given_by, is_formula_kind, is_written, has_new_symbol, is_old_name, LineVerdict, refused, taken, compared, line_verdict, opposite_from}
-use Rattle.tstp_writer.specs.ClauseTrees.{variable_name, clause_formula, introduced_name}
+use Rattle.clausal_form.specs.DerivationLine.{LineTree, Taken}
+use Rattle.clausal_form.specs.DerivationParts.{Setting, setting_of, line_kind, items_of, parent_places, parents_of as places_of_parents, parent_lines, line_bindings, line_place}
+use Rattle.clausal_form.specs.DerivationCauses.{is_bound, are_bound, line_step, given_by_rule, given_by, is_old_name}
+use Rattle.tstp_writer.specs.ClauseTrees.{introduced_name}
 use Rattle.tstp_writer.specs.LineTrees.{Script, script_of, Layout, derived_name, status_item, step_items, step_source, clause_tree, place_in, pivot_item}
-use Rattle.tstp_writer.specs.ReadableLines.{NumbersFit, is_term_over, bound_by, line_variables, IsReadable, written_place, read_renaming, read_terms, placed_step, placed_line, Fits, step_names, read_name, read_clause}
-use Rattle.tstp_writer.specs.DerivedLines.{HasNumberedForm, ParentIsTaken, OriginIsTaken, SourcesAreTaken, IsNewLine, DerivedLinesAreTaken, AreIntroduced, IsKnown, ComponentIsTaken}
-use Rattle.tstp_writer.proofs.AboutPrinted.VariableNames.{IsReadBy, AreReadBy, all-front, all-back, read-by-places}
-use Rattle.tstp_writer.proofs.AboutPrinted.WrittenNumbers.{decimal-back}
-use Rattle.tstp_writer.proofs.ReadAgain.RenamedSteps.{canonical-read, binds-renamed, one-renamed, two-renamed}
-use Rattle.tstp_writer.proofs.AboutPrinted.WrittenSteps.{para-back, refl-back, factor-back, merge-back, parent-back, split-back, chain-back, read_number}
+use Rattle.tstp_writer.specs.ReadableLines.{NumbersFit, line_variables, IsReadable, written_place, read_renaming, read_terms, placed_step, placed_line, read_name, read_clause}
+use Rattle.tstp_writer.specs.DerivedLines.{HasNumberedForm, ParentIsTaken, IsNewLine, AreIntroduced, IsKnown}
+use Rattle.tstp_writer.proofs.ReadAgain.RenamedSteps.{canonical-read, one-renamed, two-renamed}
+use Rattle.tstp_writer.proofs.AboutPrinted.WrittenSteps.{para-back, refl-back, factor-back, merge-back, parent-back, split-back, chain-back}
 use Rattle.tstp_writer.proofs.AboutPrinted.WrittenBounds.{ParaFits, para-fits, refl-fits, factor-fits, merge-fits}
-use Rattle.tstp_writer.proofs.AboutPrinted.OriginLemmas.{origin-there}
-use Rattle.tstp_writer.proofs.AboutNeeded.BindingsAgain.{clause_eq-same, fold-known, written_terms, bound_as, bound-read, bound-joined, bound-names, bound-known, joined-over, read_bindings, bindings-again, names_eq-same}
-use Rattle.tstp_writer.proofs.AboutPrinted.WrittenClauses.{AreKnown, written_literals, numbered, all-known, all-names}
-use Rattle.tstp_writer.proofs.AboutPrinted.WrittenNames.{intro, any-intro, place-read, name-read, place-front, place-behind, place-none, fits-known, name-new, pivots-back, IsClauseFormula, clause-formula, clause-back}
-use Rattle.tstp_writer.proofs.AboutPrinted.NameOrder.{has-middle, has-front, rising-apart, places-ordered}
-use Rattle.tstp_writer.proofs.AboutPrinted.PlaceLemmas.{all-there}
-use Rattle.tstp_writer.proofs.ReadAgain.RenamedNames.{renamed, renamed_clause, renamed_parent, are_sorted-renamed, IsRenamedVerdict, one-named, two-named, split-named, chain-named, IsRenamedAt, parents-there, lists-there}
-use Rattle.tstp_writer.specs.Cone.{has_number, IsRising}
+use Rattle.tstp_writer.proofs.AboutNeeded.BindingsAgain.{read_bindings}
+use Rattle.tstp_writer.proofs.AboutPrinted.WrittenNames.{pivots-back}
+use Rattle.tstp_writer.proofs.ReadAgain.RenamedNames.{renamed_parent, IsRenamedVerdict, one-named, two-named, split-named, chain-named, IsRenamedAt, parents-there, lists-there}
 use Rattle.plain_types.specs.declared.sequence.NameLit.{NameLit}
-use Rattle.signature.specs.Prefix.{some_begins_with}
-use Rattle.signature.proofs.PrefixLemmas.{prefix_is_least}
 use Rattle.kernel_steps.specs.Names.{are_sorted, chained}
-use Rattle.clausal_form.proofs.AboutForms.FormLemmas.{forms-are-canonical}
-use Rattle.tstp_writer.proofs.AboutNeeded.DerivedLemmas.{IsReadBack, read-back, IsTakenLine, verdict-taken, rule-given, are_bound_by, IsTakenBy, ordered, form-fresh, NamesSoFar, names-so-far}
+use Rattle.tstp_writer.proofs.AboutNeeded.DerivedLemmas.{IsReadBack, read-back, IsTakenLine, verdict-taken, rule-given, are_bound_by, IsTakenBy, ordered, form-fresh, names-so-far}
 
 module _ (problem : List Annotated) (file : List ℕ) (layout : Layout) (names known : List ℕ) (lines : List Line) (e : Taken) (form : HasNumberedForm problem) where
   abbrev s : Setting

@@ -1,6 +1,6 @@
 -- What stands when lines of a refutation were taken, behind those of the formulas and of their negations.
-use Rattle.std.proofs.Common.{◌≡◌, ◌⊎◌, inl, inr, ℕ, ◌+◌, ◌<◌, ◌≤◌, ◌^◌, Bool, true, false, not, ◌==◌, List, [], ◌∷◌, ◌++◌, map, take, length, Option, None, Some, suc, refl, ap, ap₂, sym, ◌∙◌, subst, arith, ⊎_elim, append_assoc, length-append}
-use Rattle.std.specs.Prelude.{slice_get, filter_map, bytes_eq, option_map, option_and_then, unwrap_or, if◌then◌else◌, flat_map}
+use Rattle.std.proofs.Common.{◌≡◌, ◌⊎◌, inl, inr, ℕ, ◌+◌, ◌<◌, ◌≤◌, ◌^◌, Bool, true, false, not, ◌==◌, List, [], ◌∷◌, ◌++◌, map, length, Option, None, Some, suc, refl, ap, ap₂, sym, ◌∙◌, subst, arith, ⊎_elim, append_assoc, length-append}
+use Rattle.std.specs.Prelude.{slice_get, filter_map, option_map, option_and_then, unwrap_or, if◌then◌else◌}
 use Rattle.std.specs.List.{list_any, AllByRecursion, cons_option}
 use Rattle.std.proofs.lemmas.Bool.{or_cases, or_left, or_right, and_from, not_from_false, eqb-true, eq-eqb, false≢true, ne_eqb}
 use Rattle.std.proofs.lemmas.Option.{same_Some, none-some}
@@ -11,33 +11,30 @@ use Rattle.fol_base.specs.Literal.{clause_of}
 use Rattle.tptp_tree.specs.Entries.{AnnotatedTree, is_conjecture}
 use Rattle.tptp_tree.specs.declared.problem.Annotated.{Annotated}
 use Rattle.signature.specs.Form.{clausal_form}
-use Rattle.kernel_steps.specs.Derivation.{is_clause_step, ComesBy, is_component_of, component_clause, IsOpposite}
+use Rattle.kernel_steps.specs.Derivation.{is_component_of, component_clause}
 use Rattle.kernel_steps.specs.declared.step.Step.{Step}
 use Rattle.kernel_steps.specs.declared.step.Step.TheVariants.{Input, Negate, Clausify, Para, Refl, Factor, Merge, Component, Opposite, Split, Chain}
 use Rattle.kernel_steps.specs.declared.step.Line.{Line}
-use Rattle.clausal_form.specs.DerivationLine.{LineTree, same_entry, entry_of, NamedLine, kernel_line}
+use Rattle.clausal_form.specs.DerivationLine.{same_entry, entry_of, NamedLine, kernel_line}
 use Rattle.clausal_form.specs.DerivationParts.{Setting, setting_of, entry_at, line_place}
-use Rattle.clausal_form.specs.DerivationCauses.{fits, is_conjecture_at as is_conjecture_in, taken, line_verdict}
-use Rattle.tstp_writer.specs.Cone.{parents_of, has_number, IsRising, IsCone, IsAbove, IsNeeded}
-use Rattle.tstp_writer.specs.LineTrees.{Script, script_of, is_conjecture_at, origin, Layout, comes_from, lines_at, layout_of, line_name, place_in, cited_name, negated_name, derived_name, step_source, input_at, negate_at, clause_tree, line_tree, derived_tree}
-use Rattle.tstp_writer.specs.ReadableLines.{IsReadableLine, written_place, placed_line, first_place, taken_as, inputs_taken, negations_taken, derived_taken, all_written, Fits, step_numbers, step_names, names_of_lines, read_clause, read_renaming, placed_step}
-use Rattle.tstp_writer.specs.DerivedLines.{HasNumberedForm, ParentIsTaken, OriginIsTaken, SourcesAreTaken, IsKnown, AreIntroduced, ComponentIsTaken}
+use Rattle.clausal_form.specs.DerivationCauses.{fits, is_conjecture_at as is_conjecture_in}
+use Rattle.tstp_writer.specs.Cone.{has_number, IsRising}
+use Rattle.tstp_writer.specs.LineTrees.{Script, script_of, is_conjecture_at, origin, Layout, comes_from, lines_at, layout_of, line_name, place_in, cited_name, negated_name, derived_name, input_at, negate_at}
+use Rattle.tstp_writer.specs.ReadableLines.{written_place, placed_line, first_place, taken_as, inputs_taken, negations_taken, derived_taken, all_written, step_names, names_of_lines, read_clause, read_renaming, placed_step}
+use Rattle.tstp_writer.specs.DerivedLines.{OriginIsTaken, IsKnown}
 use Rattle.tstp_writer.specs.Places.{IsCounted}
-use Rattle.tstp_writer.specs.WrittenLaws.{IsReadableRefutation}
-use Rattle.tstp_writer.proofs.AboutPrinted.StepTrees.{line_tree_by}
 use Rattle.tstp_writer.proofs.ReadAgain.SameLemmas.{entry-turned, same-conjecture}
-use Rattle.tstp_writer.proofs.AboutPrinted.PlaceLemmas.{there-below, kept-there, there-behind, number-there, has-passing, has-between, all-passing, passing-pass, all-from, all-below, rising-passing, rising-numbers, AllPlaced, rising-placed, stands-before, AreNamed, named-joined, name-new, above-has}
-use Rattle.tstp_writer.proofs.AboutPrinted.WalkLemmas.{state, Walks, walk-none, walk-line, named_state, NamedWalk, named-none, named-line}
+use Rattle.tstp_writer.proofs.AboutPrinted.PlaceLemmas.{there-below, kept-there, there-behind, has-passing, has-between, all-passing, passing-pass, all-from, all-below, rising-passing, rising-numbers, rising-placed, AreNamed, named-joined}
+use Rattle.tstp_writer.proofs.AboutPrinted.WalkLemmas.{Walks, named_state}
 use Rattle.tstp_writer.proofs.ReadAgain.InputLines.{IsFirstPlace, first-place, entry-there, input_taken, negation_taken, inputs-walk, HasInputs, HasNegations, has-inputs, has-negations, found-there, negations-walk, inputs-length, negations-length, inputs-named, negations-named, inputs-stand, negations-stand}
 use Rattle.tstp_writer.proofs.AboutPrinted.OriginLemmas.{IsBelow, form-origin}
-use Rattle.tstp_writer.proofs.AboutNeeded.ConeLemmas.{IsClauseLine, readable-there, cone-line, IsConeParent, cone-parent, IsConeComponent, cone-component}
 use Rattle.std.proofs.lemmas.List.{append-nil, map-append}
 use Rattle.std.proofs.lemmas.Grind.{flat_map-append}
 use Rattle.plain_types.specs.declared.sequence.NameLit.{NameLit}
 use Rattle.fol_base.specs.Instance.{Substitution}
 use Rattle.clausal_form.proofs.AboutNaming.TakenLemmas.{kernel_line-clause}
 use Rattle.tstp_writer.specs.ClauseTrees.{introduced_name}
-use Rattle.tstp_writer.proofs.AboutPrinted.NameOrder.{has-middle, has-front, has-behind}
+use Rattle.tstp_writer.proofs.AboutPrinted.NameOrder.{has-front, has-behind}
 
 -- ---- lists
 

@@ -29,7 +29,9 @@ use Rattle.tptp_source.specs.Spelling.{parts, no_parts, part_lexemes}
 use Rattle.tptp_source.specs.Sources.{name_in, names_in, name_before, SourceTree, file_source, inference_source, component_source, opposite_source, word_of as word_term, IsSource, SpellsSource}
 use Rattle.clausal_form.specs.DerivationLine.{LineTree}
 use Rattle.clausal_form.specs.DerivationTexts.{IsLineOf, AreLinesOf, phrases_lexemes, SpellsDerivation}
-use Rattle.tstp_writer.specs.SourceTexts.{is_number_name, name_term, source_term, source_text}
+use Rattle.tptp_tree.specs.Printing.{is_number_name}
+use Rattle.tstp_writer.specs.SourceTexts.{name_term, source_term, source_text}
+use Rattle.tstp_writer.proofs.AboutPrinted.PieceTexts.{formula-name-same}
 use Rattle.tstp_writer.specs.LineTexts.{formula_name_text, line_text, lines_text}
 use Rattle.tptp_tree.specs.Levels.{formula_levels}
 use Rattle.tstp_writer.specs.Printable.{IsShown, IsWritable, IsFormOf, IsPrintable}
@@ -322,8 +324,10 @@ line-lexes t text ls p l =
     (lexes-mark 44 from_formula formula_ls (omega arith) refl lexed_formula) in
     let lexed_name : Lexes from_name (name_lexeme (name_phrase (t.entry).name) ∷ lexeme Mark (codes ",") ∷ role_ls) =
     subst (Lexes from_name) (name-token (t.entry).name (lexeme Mark (codes ",") ∷ role_ls))
+    (subst (λ w. Lexes (w ++ (44 ∷ from_role)) (part_lexemes (part_of (name_term (t.entry).name)) (lexeme Mark (codes ",") ∷ role_ls)))
+    (sym (formula-name-same (t.entry).name))
     (term-lexes (name_term (t.entry).name) (44 ∷ from_role) (lexeme Mark (codes ",") ∷ role_ls) (name-writable (t.entry).name p.name)
-    (closer-ends comma from_role) (lexes-mark 44 from_role role_ls (omega arith) refl lexed_role)) in
+    (closer-ends comma from_role) (lexes-mark 44 from_role role_ls (omega arith) refl lexed_role))) in
     let whole : Lexes (language ++ (40 ∷ from_name)) (tokens_of t ls) =
     lexes-lower language (40 ∷ from_name) (lexeme Mark (codes "(") ∷ name_lexeme (name_phrase (t.entry).name) ∷ lexeme Mark (codes ",") ∷ role_ls)
     (language-lower (t.entry).is_clause) refl

@@ -1,12 +1,10 @@
 -- Numbers in rising lists: which stand in a front, and that their places rise with them.
-use Rattle.std.proofs.Common.{◌≡◌, ℕ, zero, suc, ◌+◌, ◌<◌, ◌≤◌, Bool, true, false, not, cond, ◌||◌, ◌==◌, List, [], ◌∷◌, ◌++◌, refl, ap, ap₂, sym, ◌∙◌, subst, arith, ⊎_elim}
+use Rattle.std.proofs.Common.{◌≡◌, ℕ, ◌+◌, ◌<◌, ◌≤◌, true, false, not, cond, ◌==◌, List, [], ◌∷◌, ◌++◌, refl, ap, sym, ◌∙◌, arith, ⊎_elim}
 use Rattle.std.specs.Prelude.{nat_lt}
-use Rattle.std.specs.List.{list_any}
 use Rattle.std.proofs.lemmas.Bool.{or_cases, or_left, or_right, or_from, eqb-true, eq-eqb, ne_eqb, lt-ltb, ltb-true, false≢true, false_from_ne_true, cases_Bool, cases_order}
-use Rattle.tstp_writer.specs.Cone.{has_number, IsAbove, IsRising}
+use Rattle.tstp_writer.specs.Cone.{has_number, IsRising}
 use Rattle.tstp_writer.specs.LineTrees.{place_in}
-use Rattle.tstp_writer.specs.ReadableLines.{Fits}
-use Rattle.tstp_writer.proofs.AboutPrinted.PlaceLemmas.{above-has, place-first, place-later}
+use Rattle.tstp_writer.proofs.AboutPrinted.PlaceLemmas.{above-has, place-later}
 
 -- ---- fronts
 
@@ -67,8 +65,7 @@ pub places-ordered :
     → (nat_lt (place_in n ns) (place_in m ns) ≡ nat_lt n m) × ((place_in n ns == place_in m ns) ≡ (n == m))
 places-ordered ns h n m has_n has_m =
     ⊎_elim
-    (λ (same : n ≡ m).
-    (
+    (λ (same : n ≡ m). (
       not-less (place_in n ns) (place_in m ns) (let e : place_in n ns ≡ place_in m ns = ap (λ k. place_in k ns) same in omega (arith, e))
           ∙ sym (not-less n m (omega (arith, same))),
       eq-eqb (place_in n ns) (place_in m ns) (ap (λ k. place_in k ns) same) ∙ sym (eq-eqb n m same),

@@ -12,7 +12,8 @@ use Rattle.tptp_token.specs.Words.{name_text, quoted_text}
 use Rattle.tptp_source.specs.General.{number}
 use Rattle.tptp_source.specs.Sources.{word_of as word_term}
 use Rattle.tptp_source.specs.declared.sign.NumberSign.TheVariants.{Unsigned}
-use Rattle.tstp_writer.specs.SourceTexts.{general_text, is_number_name, name_term}
+use Rattle.tptp_tree.specs.Printing.{is_number_name, formula_name_text}
+use Rattle.tstp_writer.specs.SourceTexts.{general_text, name_term}
 use Rattle.tstp_writer.specs.ClauseTrees.{variable_name}
 use Rattle.tstp_writer.specs.LineTrees.{line_name}
 
@@ -158,6 +159,14 @@ pub bare-name : (w : List ℕ) → is_lower_word w ≡ true → general_text (na
 bare-name w h =
     ap (λ t. general_text (if t then number Unsigned w else word_term w [])) (no-number w h)
     ∙ append-nil (name_text w) ∙ bare-text w h
+
+-- a formula's name is printed as the term that it is
+pub formula-name-same : (n : List ℕ) → formula_name_text n ≡ general_text (name_term n)
+formula-name-same n = by (is_number_name n)
+  where
+    by : (t : Bool) → (if t then n else name_text n) ≡ general_text (if t then number Unsigned n else word_term n [])
+    by true = refl
+    by false = sym (append-nil (name_text n))
 
 pub line_name-lower : (n : ℕ) → is_lower_word (line_name n) ≡ true
 line_name-lower n = numbered-lower (codes "c") n refl

@@ -20,7 +20,8 @@ use Rattle.tptp_tree.proofs.LexingLemmas.{formula-lexes}
 use Rattle.tptp_source.specs.declared.sign.NumberSign.TheVariants.{Unsigned, Plus, Minus}
 use Rattle.tptp_source.specs.General.{GeneralTree, variable, word, dollar, number, distinct, negated, listed, joined, GeneralTrees, no_trees, tree_then, trees_of}
 use Rattle.tptp_source.specs.Spelling.{PartPhrase, variable_part, word_part, dollar_part, number_part, distinct_part, negated_part, list_part, no_parts, parts, GeneralPhrases, no_phrases, phrase_then, part_lexemes, arguments_lexemes, items_lexemes, more_lexemes, part_meant, phrases_meant}
-use Rattle.tstp_writer.specs.SourceTexts.{general_text, arguments_text, items_text, more_text, is_number_name}
+use Rattle.tptp_tree.specs.Printing.{is_number_name}
+use Rattle.tstp_writer.specs.SourceTexts.{general_text, arguments_text, items_text, more_text}
 use Rattle.tstp_writer.specs.Printable.{IsShown, IsWritable, AreWritable}
 
 -- ---- phrases

@@ -22,10 +22,10 @@ use Rattle.tstp_writer.specs.ClauseTrees.{symbol_name, term_tree, term_trees, wi
 use Rattle.tptp_source.specs.Sources.{SourceTree}
 use Rattle.tptp_tree.specs.Entries.{AnnotatedTree, language_word, role_word}
 use Rattle.clausal_form.specs.DerivationLine.{LineTree}
-use Rattle.tstp_writer.specs.LineTexts.{line_text, lines_text, shown_text, shown_texts}
+use Rattle.tstp_writer.specs.LineTexts.{formula_name_text, line_text, lines_text, shown_text, shown_texts}
 use Rattle.tstp_writer.specs.LineTrees.{with_source, Script, is_conjecture_at, origin, Layout, place_in, line_name, cited_name, negated_name, derived_name, named, status_item, term_item, term_items, bind_item, pivot_name, pivot_item, rule_word, status_word, step_items, origin_name, parent_names, step_source}
 use Rattle.tstp_writer.specs.NameTexts.{signed_name_text, more_names_text, more_items_text, definition_text, introduction_text, inference_text, head_text}
-use Rattle.tstp_writer.proofs.AboutPrinted.PieceTexts.{three_added, three_joined, drop-next, numbered-lower, bare-text, bare-name, line_name-lower}
+use Rattle.tstp_writer.proofs.AboutPrinted.PieceTexts.{formula-name-same, three_added, three_joined, drop-next, numbered-lower, bare-text, bare-name, line_name-lower}
 
 -- ---- clauses
 
@@ -350,7 +350,7 @@ pub line_of_parts :
 line_of_parts a source n e =
     ap (λ us. language_word a.is_clause ++ codes "(" ++ us ++ codes "," ++ role_word a.role ++ codes "," ++ formula_text a.formula ++ codes ","
     ++ source_text source ++ codes ").\n")
-    (sym (ap (λ m. general_text (name_term m)) e ∙ bare-name (line_name n) (line_name-lower n)))
+    (sym (ap formula_name_text e ∙ formula-name-same (line_name n) ∙ bare-name (line_name n) (line_name-lower n)))
 
 pub five_added :
     {E : Type 0} (r : Result (Unit {0}) E) (p q s t v w a b c d e : List ℕ)

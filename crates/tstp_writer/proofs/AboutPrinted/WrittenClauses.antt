@@ -1,19 +1,16 @@
 -- The literals of a clause are read as they were written, each variable as what its name stands for.
 use mathlib.Core.Bool.{beq}
 use Rattle.std.proofs.Common.{◌≡◌, ℕ, zero, suc, ◌+◌, Bool, true, false, not, ◌==◌, List, [], ◌∷◌, ◌++◌, map, Option, Some, None, cond, refl, ap, ap₂, sym, ◌∙◌, subst, arith}
-use Rattle.std.specs.Prelude.{filter, filter_map, flat_map, slice_get, unwrap_or, option_map, is_none, is_some, if◌then◌else◌}
+use Rattle.std.specs.Prelude.{flat_map, slice_get, unwrap_or, option_map, if◌then◌else◌}
 use Rattle.std.specs.List.{list_all, list_any, position_or_len}
 use Rattle.std.proofs.lemmas.Bool.{and_parts, and_from, or_left, or_right, not-true, eqb-true, true≢false, false≢true, false_from_ne_true}
 use Rattle.std.proofs.lemmas.Option.{none-some, same_Some}
 use Rattle.std.proofs.lemmas.List.{append-nil, map-append}
-use Rattle.plain_types.specs.declared.sequence.NameLit.{NameLit}
-use Rattle.kernel_steps.specs.Names.{are_sorted}
 use Rattle.fol_base.specs.Tree.{Tree, variable, application, Trees, no_trees, tree_then, trees_count, tree_variables, trees_variables, true_tree}
 use Rattle.fol_base.specs.Instance.{Substitution, instance, instances}
-use Rattle.fol_base.specs.Clause.{TreeLiteral, TreeClause, literal_variables, clause_variables, literal_instance, clause_instance}
+use Rattle.fol_base.specs.Clause.{TreeLiteral, literal_variables, literal_instance}
 use Rattle.fol_base.proofs.WorkedExamples.TestLemmas.{list_all-joined}
-use Rattle.tptp_tree.specs.Term.{no_terms, term_then}
-use Rattle.tptp_tree.specs.Formula.{FormulaTree, truth, falsity, predicate, equation, negation, conjunction, disjunction, connected, quantified, formulas_of, list_of_formulas}
+use Rattle.tptp_tree.specs.Formula.{FormulaTree, truth, predicate, equation, formulas_of, list_of_formulas}
 use Rattle.signature.specs.declared.symbol.Symbol.{Symbol}
 use Rattle.signature.specs.declared.symbol.SymbolKind.{SymbolKind}
 use Rattle.signature.specs.declared.symbol.SymbolKind.TheVariants.{Predicate, Function}
@@ -23,8 +20,8 @@ use Rattle.signature.specs.Occurrences.{terms_count, term_symbols, terms_symbols
 use Rattle.signature.specs.Environment.{Environment, term_names, terms_names, free_names, term_under, terms_under}
 use Rattle.signature.specs.Clausal.{atom_literal}
 use Rattle.clausal_form.specs.FormFunctions.{is_predicate_in}
-use Rattle.clausal_form.specs.DerivationClause.{literals_of, is_positive, atom_of, is_literal as is_literal_formula, signed, clause_by, atom_name, literal_name, ordinary_literals, names_come_last, is_written_clause, Numbering, literal_by}
-use Rattle.tstp_writer.specs.ClauseTrees.{symbol_name, variable_name, term_tree, term_trees, with_sign, atom_formula, literal_formula, signed_name_formula, one_of, clause_formula}
+use Rattle.clausal_form.specs.DerivationClause.{literals_of, is_literal as is_literal_formula, Numbering, literal_by}
+use Rattle.tstp_writer.specs.ClauseTrees.{symbol_name, variable_name, term_tree, term_trees, with_sign, atom_formula, literal_formula}
 use Rattle.tstp_writer.specs.ReadableLines.{is_symbol_in, is_literal_over}
 use Rattle.tstp_writer.proofs.ReadAgain.LiteralKinds.{IsTermOver, AreTermsOver, first-term, more-terms, IsHeadOver, function-head, IsEquationOver, by-kind}
 use Rattle.tstp_writer.proofs.AboutPrinted.VariableNames.{IsReadBy, AreReadBy, all-front, all-back}

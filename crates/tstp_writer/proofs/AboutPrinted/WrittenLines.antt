@@ -2,14 +2,12 @@
 use Rattle.std.proofs.Common.{◌≡◌, ℕ, true, List, [], ◌∷◌, ◌++◌, length, filter_map, refl, ap, sym, ◌∙◌, map}
 use Rattle.std.specs.Prelude.{if◌then◌else◌}
 use Rattle.std.proofs.lemmas.Bool.{and_from}
-use Rattle.fol_base.specs.Instance.{Substitution}
 use Rattle.fol_base.specs.Clause.{clause_eq, TreeClause}
 use Rattle.fol_base.specs.Literal.{clause_of}
 use Rattle.tptp_tree.specs.declared.problem.Annotated.{Annotated}
 use Rattle.kernel_steps.specs.Conclusion.{empty_clause}
 use Rattle.kernel_steps.specs.Derivation.{is_clause_step}
 use Rattle.kernel_steps.specs.declared.step.Step.{Step}
-use Rattle.kernel_steps.specs.declared.step.Step.TheVariants.{Input, Negate, Clausify, Para, Refl, Factor, Merge, Component, Opposite, Split, Chain}
 use Rattle.kernel_steps.specs.declared.step.Line.{Line}
 use Rattle.clausal_form.specs.DerivationLine.{LineTree, kernel_line, NamedLine}
 use Rattle.clausal_form.specs.DerivationParts.{Setting, setting_of}
@@ -23,7 +21,7 @@ use Rattle.tstp_writer.specs.DerivedLines.{HasNumberedForm}
 use Rattle.tstp_writer.specs.Places.{IsCounted}
 use Rattle.tstp_writer.specs.WrittenLaws.{IsReadableRefutation, WrittenLinesAreAccepted}
 use Rattle.tstp_writer.proofs.AboutPrinted.PlaceLemmas.{stands-last}
-use Rattle.tstp_writer.proofs.AboutPrinted.WalkLemmas.{Walks, walk-both, NamedWalk, walk-named}
+use Rattle.tstp_writer.proofs.AboutPrinted.WalkLemmas.{walk-both, NamedWalk, walk-named}
 use Rattle.tstp_writer.proofs.AboutNeeded.ConeLemmas.{last-there, last-greatest}
 use Rattle.tstp_writer.proofs.AboutNeeded.DerivedLines.{derived-walked}
 use Rattle.tstp_writer.specs.ClauseTrees.{introduced_name}

@@ -1,15 +1,15 @@
 -- The formula as which a clause is written is read as that clause, each introduced name by its place, and no symbol as a name.
-use Rattle.std.proofs.Common.{◌≡◌, ℕ, zero, suc, ◌+◌, ◌<◌, ◌≤◌, Bool, true, false, cond, not, ◌&&◌, ◌||◌, ◌==◌, List, [], ◌∷◌, ◌++◌, map, length, Option, Some, None, refl, ap, ap₂, sym, ◌∙◌, subst, arith, ⊎_elim}
-use Rattle.std.specs.Prelude.{⊤, filter, filter_map, nat_lt, nat_eq, slice_get, position, bytes_eq, option_map, option_and_then, is_none, is_some, if◌then◌else◌}
+use Rattle.std.proofs.Common.{◌≡◌, ℕ, suc, ◌+◌, ◌<◌, Bool, true, false, cond, not, ◌&&◌, ◌||◌, ◌==◌, List, [], ◌∷◌, ◌++◌, map, length, Option, Some, None, refl, ap, ap₂, sym, ◌∙◌, subst, arith, ⊎_elim}
+use Rattle.std.specs.Prelude.{filter, filter_map, nat_lt, nat_eq, slice_get, position, bytes_eq, option_map, option_and_then, is_none, is_some, if◌then◌else◌}
 use Rattle.std.specs.List.{list_all, list_any, position_or_len, starts_with, AllByRecursion, cons_option}
-use Rattle.std.proofs.lemmas.Bool.{and_parts, and_from, or_cases, or_left, or_right, or_from, or_parts, eqb-true, eq-eqb, ne_eqb, lt-ltb, ltb-true, true≢false, false≢true, false_from_ne_true, cases_Bool}
+use Rattle.std.proofs.lemmas.Bool.{and_parts, and_from, or_cases, or_from, or_parts, eqb-true, eq-eqb, lt-ltb, ltb-true, true≢false, false≢true, false_from_ne_true, cases_Bool}
 use Rattle.std.proofs.lemmas.List.{append-nil}
 use Rattle.std.proofs.lemmas.Fmt.{decimal_injective}
 use Rattle.std.specs.Fmt.{decimal}
 use Rattle.plain_types.specs.declared.sequence.NameLit.{NameLit}
 use Rattle.fol_base.specs.Tree.{Trees, no_trees, tree_then, application, true_tree}
 use Rattle.fol_base.specs.Instance.{Substitution}
-use Rattle.fol_base.specs.Clause.{TreeLiteral, TreeClause, literal_instance, clause_variables, clause_instance}
+use Rattle.fol_base.specs.Clause.{TreeLiteral, TreeClause, clause_variables, clause_instance}
 use Rattle.tptp_tree.specs.Term.{no_terms}
 use Rattle.tptp_tree.specs.Formula.{FormulaTree, truth, predicate, equation}
 use Rattle.signature.specs.declared.symbol.Symbol.{Symbol}
@@ -21,8 +21,8 @@ use Rattle.signature.specs.Clausal.{atom_literal}
 use Rattle.kernel_steps.specs.Names.{are_sorted}
 use Rattle.kernel_steps.specs.Parents.{all_there}
 use Rattle.clausal_form.specs.DerivationItems.{introduced_in}
-use Rattle.clausal_form.specs.DerivationClause.{literals_of, is_positive, is_literal as is_literal_formula, name_number, atom_name, signed, literal_name, ordinary_literals, clause_names, names_come_last, is_written_clause, literal_by, clause_by}
-use Rattle.tstp_writer.specs.Cone.{has_number, IsRising}
+use Rattle.clausal_form.specs.DerivationClause.{literals_of, is_literal as is_literal_formula, name_number, signed, literal_name, ordinary_literals, clause_names, names_come_last, is_written_clause, literal_by, clause_by}
+use Rattle.tstp_writer.specs.Cone.{has_number}
 use Rattle.tstp_writer.specs.ClauseTrees.{symbol_name, term_tree, term_trees, with_sign, atom_formula, literal_formula, introduced_name, signed_name_formula, one_of, clause_formula}
 use Rattle.tstp_writer.specs.LineTrees.{place_in, pivot_name, pivot_item}
 use Rattle.tstp_writer.specs.ReadableLines.{is_literal_over, Fits, read_name, read_clause}
@@ -30,7 +30,7 @@ use Rattle.tstp_writer.specs.DerivedLines.{IsKnown}
 use Rattle.tstp_writer.proofs.ReadAgain.SameLemmas.{bytes-same, bytes-self}
 use Rattle.tstp_writer.proofs.ReadAgain.LiteralKinds.{IsHeadOver, IsEquationOver, by-kind}
 use Rattle.tstp_writer.proofs.AboutPrinted.VariableNames.{AreReadBy}
-use Rattle.tstp_writer.proofs.AboutPrinted.WrittenClauses.{item-passes, listed-formulas, head-there, apart-false, IsWrittenAs, written_literals, AreOver, first-over, more-over, first-written, all-written, numbered, literals-again}
+use Rattle.tstp_writer.proofs.AboutPrinted.WrittenClauses.{item-passes, listed-formulas, head-there, apart-false, IsWrittenAs, written_literals, AreOver, first-over, more-over, first-written, numbered, literals-again}
 
 -- ---- places in lists of numbers
 

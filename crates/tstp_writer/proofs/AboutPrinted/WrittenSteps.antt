@@ -154,12 +154,11 @@ pub parent-back :
     → (p : Parent) → line_parents (take n lines) k ≡ Some p
     → AllByRecursion (λ (m : NameLit). IsKnown known m.name) p.clause.names
     × (parent_lines e (written_place layout k) ≡ Some (renamed_parent (read_number names) p))
-parent-back layout names known lines e n k h p before =
-    (
-      subst (λ (q : Parent). AllByRecursion (λ (m : NameLit). IsKnown known m.name) q.clause.names) old.gives
-          (subst (λ (l : Line). AllByRecursion (λ (m : NameLit). IsKnown known m.name) (clause_of l.clause).names) same_line h.names_known),
-      ap (option_and_then line_parent) at ∙ same_parent,
-    )
+parent-back layout names known lines e n k h p before = (
+  subst (λ (q : Parent). AllByRecursion (λ (m : NameLit). IsKnown known m.name) q.clause.names) old.gives
+      (subst (λ (l : Line). AllByRecursion (λ (m : NameLit). IsKnown known m.name) (clause_of l.clause).names) same_line h.names_known),
+  ap (option_and_then line_parent) at ∙ same_parent,
+)
   where
     old : ParentLine lines n k p
     old = parent_line lines n k p before

@@ -34,7 +34,8 @@ use Rattle.tptp_source.specs.General.{GeneralTree, number}
 use Rattle.tptp_source.specs.Sources.{word_of}
 use Rattle.kernel_steps.specs.declared.step.Step.TheVariants.{Negate}
 use Rattle.clausal_form.specs.DerivationLine.{entry_of}
-use Rattle.tstp_writer.specs.SourceTexts.{is_number_name, name_term, source_term}
+use Rattle.tptp_tree.specs.Printing.{is_number_name}
+use Rattle.tstp_writer.specs.SourceTexts.{name_term, source_term}
 use Rattle.tptp_tree.specs.Levels.{formula_levels}
 use Rattle.tstp_writer.specs.Levels.{general_levels}
 use Rattle.tstp_writer.specs.LineTrees.{Script, Layout, line_name, cited_name, step_source, input_tree, negate_tree}

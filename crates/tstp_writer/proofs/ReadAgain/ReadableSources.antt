@@ -22,7 +22,8 @@ use Rattle.kernel_steps.specs.declared.step.Step.TheVariants.{Input, Negate, Cla
 use Rattle.tptp_source.specs.General.{GeneralTree, GeneralTrees, trees_of}
 use Rattle.tptp_source.specs.Sources.{inference_source, word_of, list_of, definition_by}
 use Rattle.tstp_writer.specs.ClauseTrees.{term_tree, introduced_name}
-use Rattle.tstp_writer.specs.SourceTexts.{is_number_name, name_term, source_term}
+use Rattle.tptp_tree.specs.Printing.{is_number_name}
+use Rattle.tstp_writer.specs.SourceTexts.{name_term, source_term}
 use Rattle.tptp_tree.specs.Levels.{term_levels, arguments_levels, terms_levels}
 use Rattle.tstp_writer.specs.Levels.{general_levels, general_arguments_levels, all_general_levels}
 use Rattle.tstp_writer.specs.LineTrees.{Script, Layout, named, number_item, numbers_item, pivot_name, pivot_item, term_item, term_items, status_item, bind_item, literal_item, side_of_literal_item, from_item, into_item, derived_name, origin, origin_name, is_conjecture_at, negated_name, cited_name, step_source}

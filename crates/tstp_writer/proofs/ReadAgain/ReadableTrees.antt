@@ -9,18 +9,17 @@ use Rattle.tptp_tree.specs.declared.problem.Annotated.{Annotated}
 use Rattle.signature.specs.Form.{clausal_form}
 use Rattle.kernel_steps.specs.Derivation.{is_clause_step}
 use Rattle.kernel_steps.specs.declared.step.Step.{Step}
-use Rattle.kernel_steps.specs.declared.step.Step.TheVariants.{Input, Negate, Clausify, Para, Refl, Factor, Merge, Component, Opposite, Split, Chain}
 use Rattle.kernel_steps.specs.declared.step.Line.{Line}
 use Rattle.clausal_form.specs.DerivationLine.{LineTree}
 use Rattle.tstp_writer.specs.ClauseTrees.{clause_formula}
 use Rattle.tstp_writer.specs.LineTrees.{Script, script_of, Layout, layout_of, lines_at, cited_name, negated_name, derived_name, input_at, negate_at, step_source, clause_tree, line_tree, derived_tree, derivation_trees}
 use Rattle.tstp_writer.specs.ReadableLines.{IsReadable, IsReadableClauseLine}
 use Rattle.tstp_writer.specs.Printable.{IsShown, IsPrintable}
-use Rattle.tstp_writer.specs.ProblemLaws.{ArePrintableEntries, HasPrintableFormulas}
+use Rattle.tstp_writer.specs.ProblemLaws.{ArePrintableEntries}
 use Rattle.tstp_writer.specs.WrittenTexts.{AreShownSymbols, IsSpelledByText}
 use Rattle.tstp_writer.proofs.AboutPrinted.StepTrees.{tree-is}
 use Rattle.tstp_writer.proofs.ReadAgain.ProblemLemmas.{line_name-shown}
-use Rattle.tstp_writer.proofs.ReadAgain.ProblemTrees.{front-printable, script-printable, beginning-printable}
+use Rattle.tstp_writer.proofs.ReadAgain.ProblemTrees.{front-printable, beginning-printable}
 use Rattle.tstp_writer.proofs.ReadAgain.ShownSymbols.{made-shown, form-symbols-shown}
 use Rattle.tstp_writer.proofs.ReadAgain.ReadableTexts.{IsPrintableFormula, AreShownNames, clause-printable, formula-spelled}
 use Rattle.tstp_writer.proofs.ReadAgain.ReadableSources.{source-small}

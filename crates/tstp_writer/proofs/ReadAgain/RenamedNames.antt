@@ -14,9 +14,9 @@ use Rattle.fol_base.proofs.WorkedExamples.TestLemmas.{option_map-some, if_some}
 use Rattle.kernel_steps.specs.Names.{name_before, with_name, with_names, sorted_names, chained_from, chained, are_sorted}
 use Rattle.kernel_steps.specs.Parents.{Parent, Parents, all_there}
 use Rattle.kernel_steps.specs.Split.{is_split, literals_at, defines, are_defined, is_part, share_out, share_no_variables}
-use Rattle.kernel_steps.specs.Conclusion.{binds, bound_literals, concludes, verdict_of, verdict_if, clause_with, by_one, by_two, split_from, names_alone, names_at, clause_of_names}
+use Rattle.kernel_steps.specs.Conclusion.{concludes, verdict_of, verdict_if, clause_with, by_one, by_two, split_from, names_alone, names_at, clause_of_names}
 use Rattle.kernel_steps.proofs.AboutNames.SortedNames.{sorted_names_law}
-use Rattle.kernel_steps.proofs.AboutCalls.VerdictParts.{OneParts, TwoParts, SplitParts, ChainParts}
+use Rattle.kernel_steps.proofs.AboutCalls.VerdictParts.{OneParts, TwoParts, SplitParts}
 
 module _ (number : ℕ → ℕ) where
   abbrev pub renamed : NameLit → NameLit

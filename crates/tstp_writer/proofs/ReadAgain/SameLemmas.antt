@@ -4,13 +4,16 @@ use Rattle.std.proofs.Common.{◌≡◌, ℕ, Bool, true, false, ◌&&◌, List,
 use Rattle.std.specs.Prelude.{bytes_eq, codes}
 use Rattle.std.proofs.lemmas.Bool.{and_parts, and_from, false≢true}
 use Rattle.std.proofs.lemmas.Slice.Eq.{bytes_eq-Decides}
-use Rattle.tptp_tree.specs.Term.{TermTree, variable, application, TermTrees, no_terms, term_then}
+use Rattle.tptp_tree.specs.Term.{application, no_terms, term_then}
 use Rattle.tptp_tree.specs.Formula.{FormulaTree, negation}
 use Rattle.tptp_tree.specs.Codes.{encoded}
 use Rattle.tptp_tree.specs.Entries.{AnnotatedTree, role_word, is_conjecture}
 use Rattle.tptp_tree.specs.declared.role.Role.{Role}
 use Rattle.tptp_tree.specs.declared.role.Role.TheVariants.{Axiom, Hypothesis, Definition, Assumption, Lemma, Theorem, Corollary, NegatedConjecture, Plain, Conjecture}
-use Rattle.clausal_form.specs.DerivationLine.{same_term, same_terms, same_formula, same_entry}
+use Rattle.tptp_tree.specs.Equality.{same_term, same_formula}
+use Rattle.tptp_tree.proofs.AboutTrees.EqualityLemmas.{term-same}
+pub use Rattle.tptp_tree.proofs.AboutTrees.EqualityLemmas.{formula-self}
+use Rattle.clausal_form.specs.DerivationLine.{same_entry}
 
 -- ---- texts
 
@@ -24,33 +27,6 @@ bytes-turned : (bs cs : List ℕ) → bytes_eq bs cs ≡ true → bytes_eq cs bs
 bytes-turned bs cs h = (bytes_eq-Decides cs bs).1 (sym (bytes-same bs cs h))
 
 -- ---- terms and formulas
-
-mutual
-  term-same : (t u : TermTree) → same_term t u ≡ true → t ≡ u
-  term-same (variable x) (variable y) h = ap variable (bytes-same x y h)
-  term-same (variable x) (application g us) h = absurd (false≢true h)
-  term-same (application f ts) (variable y) h = absurd (false≢true h)
-  term-same (application f ts) (application g us) h =
-      let parts = and_parts (bytes_eq f g) (same_terms ts us) h in ap₂ application (bytes-same f g parts.0) (terms-same ts us parts.1)
-
-  terms-same : (ts us : TermTrees) → same_terms ts us ≡ true → ts ≡ us
-  terms-same no_terms no_terms h = refl
-  terms-same no_terms (term_then u us) h = absurd (false≢true h)
-  terms-same (term_then t ts) no_terms h = absurd (false≢true h)
-  terms-same (term_then t ts) (term_then u us) h =
-      let parts = and_parts (same_term t u) (same_terms ts us) h in ap₂ term_then (term-same t u parts.0) (terms-same ts us parts.1)
-
-mutual
-  term-self : (t : TermTree) → same_term t t ≡ true
-  term-self (variable x) = bytes-self x
-  term-self (application f ts) = and_from (bytes_eq f f) (same_terms ts ts) (bytes-self f) (terms-self ts)
-
-  terms-self : (ts : TermTrees) → same_terms ts ts ≡ true
-  terms-self no_terms = refl
-  terms-self (term_then t ts) = and_from (same_term t t) (same_terms ts ts) (term-self t) (terms-self ts)
-
-pub formula-self : (f : FormulaTree) → same_formula f f ≡ true
-formula-self f = term-self (encoded f)
 
 formula-turned : (f g : FormulaTree) → same_formula f g ≡ true → same_formula g f ≡ true
 formula-turned f g h = subst (λ t. same_term t (encoded f) ≡ true) (term-same (encoded f) (encoded g) h) (formula-self f)

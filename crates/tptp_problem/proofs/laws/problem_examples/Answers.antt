@@ -1,4 +1,4 @@
-use Rattle.std.proofs.Common.{◌≡◌, ℕ, true, false, None, Some, List, [], ◌∷◌, codes, refl, arith}
+use Rattle.std.proofs.Common.{ℕ, true, false, None, Some, List, [], ◌∷◌, codes, refl, arith}
 use Rattle.tptp_token.specs.Longest.{longest}
 use Rattle.tptp_token.specs.Kinds.{is_token, kind_of}
 use Rattle.tptp_token.specs.Pieces.{line_length, block_end, fills, piece_of}
@@ -128,7 +128,7 @@ returns c = record {
                   reading =
                       record {
                         phrase = phrase (codes "a") (codes "p");
-                        spelled = record { right = refl; spelled = refl; faultless = (refl, refl, refl, refl, refl, refl, refl, refl, refl, tt) };
+                        spelled = record { right = refl; spelled = refl; faultless = (refl, (refl, (refl, (refl, (refl, (refl, (refl, (refl, (refl, tt))))))))) };
                         meant = says (codes "a") (codes "p");
                         within = omega arith;
                         notes = refl;

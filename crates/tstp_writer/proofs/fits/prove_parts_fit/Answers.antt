@@ -1,4 +1,4 @@
-use Rattle.std.proofs.Common.{refl, length, sym, ap, subst, ◌∙◌}
+use Rattle.std.proofs.Common.{refl, length, subst}
 use Rattle.std.specs.List.{AllByRecursion}
 use Rattle.std.proofs.lemmas.Option.{slice_get_read}
 use Rattle.tstp_writer.specs.ReadableLines.{Fits}

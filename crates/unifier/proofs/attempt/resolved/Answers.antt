@@ -6,8 +6,8 @@ use Rattle.unifier.proofs.attempt.resolved.Goals as goal
 pub returns : goal.returns
 returns c =
     equations-found c.args.apart c.args.equations.now (tree_of c.args.left.now) (tree_of c.args.right.now)
-    (record { cells = c.in_ok-with_capacity.field-0; places = c.in_ok-with_capacity-2.field-0 }) c.resolve_variables.new.self c.resolve_variables-2.new.self
-    c.requires c.in_ok-with_capacity-2.ensures.items (c.in_ok-resolve_variables.ensures c.if-not-branch.false)
+    (record { cells = c.new.result; places = c.new-2.result }) c.resolve_variables.new.self c.resolve_variables-2.new.self
+    c.requires c.new-2.ensures.items (c.in_ok-resolve_variables.ensures c.if-not-branch.false)
     (c.in_ok-resolve_variables-2.ensures c.if-not-branch-2.false)
 
 pub invariant_of-result : goal.invariant_of-result

@@ -9,7 +9,7 @@ overflow_sub-count c =
       arith,
       c.count_of-count.ensures,
       counted-last c.self.inside.names.items c.pop.new.self.items c.unwrap-name.result c.self.inside.behind (omega (arith, c.if-len-ge-SCANNED.true, c.len.ensures))
-      (c.pop.ensures.items ∙ ap (λ o. c.pop.new.self.items ++ option_to_list o) c.unwrap-name.ensures) c.self.invariant,
+          (c.pop.ensures.items ∙ ap (λ o. c.pop.new.self.items ++ option_to_list o) c.unwrap-name.ensures) c.self.invariant,
     )
 
 pub unwrap-requires : goal.unwrap-requires

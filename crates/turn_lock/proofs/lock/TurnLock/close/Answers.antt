@@ -2,7 +2,7 @@ use Rattle.std.proofs.Common.{◌≡◌, Some, IsSome, sym, refl, ap, ◌∙◌,
 use mathlib.Core.List.{IsPrefix}
 use Rattle.turn_lock.specs.History.{OwnsAdded, OwnsKeys}
 use Rattle.turn_lock.specs.Shown.{Known}
-use Rattle.turn_lock.proofs.Keeps.{closes, closes_as, IsLast}
+use Rattle.turn_lock.proofs.Passes.{closes, closes_as, IsLast}
 use Rattle.turn_lock.proofs.lock.TurnLock.close.Given.{Over}
 use Rattle.turn_lock.proofs.lock.TurnLock.close.Goals as goal
 

@@ -5,7 +5,8 @@ use Rattle.turn_lock.specs.History.{AreAdded, AreApart, AreKeysApart, IsDistinct
 use Rattle.turn_lock.specs.Shown.{Known}
 use Rattle.turn_lock.specs.Steps.{joined}
 use Rattle.turn_lock.proofs.Lists.{distinct_parts, keys_apart}
-use Rattle.turn_lock.proofs.Keeps.{joins, looks}
+use Rattle.turn_lock.proofs.Keeps.{looks}
+use Rattle.turn_lock.proofs.Passes.{joins}
 use Rattle.turn_lock.proofs.lock.TurnLock.join_pass.Given.{Over}
 use Rattle.turn_lock.proofs.lock.TurnLock.join_pass.Goals as goal
 

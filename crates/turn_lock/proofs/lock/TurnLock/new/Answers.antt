@@ -2,7 +2,7 @@ use Rattle.std.proofs.Common.{◌≡◌, List, [], ◌∷◌, ◌++◌, length, 
 use Rattle.atomic_table.specs.Table.{opening}
 use Rattle.turn_lock.specs.Rule.{Turns}
 use Rattle.turn_lock.specs.Steps.{first_view}
-use Rattle.turn_lock.proofs.Keeps.{opens}
+use Rattle.turn_lock.proofs.Passes.{opens}
 use Rattle.turn_lock.proofs.lock.TurnLock.new.Goals as goal
 
 pub new-requires : goal.new-requires

@@ -1,5 +1,6 @@
 use Rattle.std.proofs.Common.{rules}
-use Rattle.turn_lock.proofs.Keeps.{plans, splits}
+use Rattle.turn_lock.proofs.Keeps.{plans}
+use Rattle.turn_lock.proofs.Passes.{splits}
 use Rattle.turn_lock.proofs.lock.TurnLock.split_pass.Goals as goal
 
 pub compare_exchange-requires : goal.compare_exchange-requires

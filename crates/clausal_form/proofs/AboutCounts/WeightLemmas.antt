@@ -1,0 +1,151 @@
+-- The weights of forms, matrices and terms, as a walk over them works them off.
+use Rattle.std.proofs.Common.{◌≡◌, ℕ, ◌+◌, ◌<◌, ◌≤◌, Bool, true, false, ◌&&◌, ◌||◌, List, [], ◌∷◌, length, map, drop, get_or, refl, ap, sym, ◌∙◌, arith}
+use Rattle.std.specs.Prelude.{min}
+use Rattle.tptp_tree.specs.Term.{term_size, terms_size, terms_of}
+use Rattle.tptp_tree.specs.Shape.{term_of}
+use Rattle.tptp_tree.specs.declared.term.TreeTerm.{TreeTerm}
+use Rattle.tptp_tree.specs.Formula.{formulas_of}
+use Rattle.signature.proofs.OccurrenceLemmas.{drop-item, drop-end}
+use Rattle.formula_nnf.specs.declared.form.Nnf.{Nnf}
+use Rattle.formula_nnf.specs.Shape.{nnf_tree}
+use Rattle.skolem.specs.declared.matrix.Matrix.{Matrix}
+use Rattle.skolem.specs.Matrix.{matrices_of}
+use Rattle.skolem.specs.Shape.{matrix_tree}
+use Rattle.clausal_form.specs.Occurring.{has_clauses, some_have_clauses, all_have_clauses}
+use Rattle.clausal_form.specs.Heavy.{heavy_matrix, some_heavy, form_has_clauses, some_form_has_clauses, all_forms_have_clauses, heavy_form, some_heavy_form}
+
+-- one member more of a disjunction or a conjunction of tests
+or-then : (made new found rest all : Bool) → new ≡ (made || found) → (made || (found || rest)) ≡ all → (new || rest) ≡ all
+or-then made new found rest all h k = ap (λ t. t || rest) h ∙ by made found ∙ k
+  where
+    by : (t u : Bool) → ((t || u) || rest) ≡ (t || (u || rest))
+    by true u = refl
+    by false u = refl
+
+and-then : (made new found rest all : Bool) → new ≡ (made && found) → (made && (found && rest)) ≡ all → (new && rest) ≡ all
+and-then made new found rest all h k = ap (λ t. t && rest) h ∙ by made found ∙ k
+  where
+    by : (t u : Bool) → ((t && u) && rest) ≡ (t && (u && rest))
+    by true u = refl
+    by false u = refl
+
+or-none : (t : Bool) → (t || false) ≡ t
+or-none true = refl
+or-none false = refl
+
+and-none : (t : Bool) → (t && true) ≡ t
+and-none true = refl
+and-none false = refl
+
+-- ---- matrices
+
+pub some-members-then :
+    (made new found all : Bool) (ms : List Matrix) (i : ℕ) (m : Matrix)
+    → i < length ms → m ≡ get_or ms i m → found ≡ has_clauses (matrix_tree m) → new ≡ (made || found)
+    → (made || some_have_clauses (matrices_of (map matrix_tree (drop i ms)))) ≡ all
+    → (new || some_have_clauses (matrices_of (map matrix_tree (drop (i + 1) ms)))) ≡ all
+some-members-then made new found all ms i m h e f n k =
+    or-then made new (has_clauses (matrix_tree m)) _ all (n ∙ ap (λ t. made || t) f)
+    (ap (λ us. made || some_have_clauses (matrices_of (map matrix_tree us))) (sym (drop-item ms i m h e)) ∙ k)
+
+pub all-members-then :
+    (made new found all : Bool) (ms : List Matrix) (i : ℕ) (m : Matrix)
+    → i < length ms → m ≡ get_or ms i m → found ≡ has_clauses (matrix_tree m) → new ≡ (made && found)
+    → (made && all_have_clauses (matrices_of (map matrix_tree (drop i ms)))) ≡ all
+    → (new && all_have_clauses (matrices_of (map matrix_tree (drop (i + 1) ms)))) ≡ all
+all-members-then made new found all ms i m h e f n k =
+    and-then made new (has_clauses (matrix_tree m)) _ all (n ∙ ap (λ t. made && t) f)
+    (ap (λ us. made && all_have_clauses (matrices_of (map matrix_tree us))) (sym (drop-item ms i m h e)) ∙ k)
+
+pub heavy-members-then :
+    (made new found all : Bool) (ms : List Matrix) (i : ℕ) (m : Matrix)
+    → i < length ms → m ≡ get_or ms i m → found ≡ heavy_matrix (matrix_tree m) → new ≡ (made || found)
+    → (made || some_heavy (matrices_of (map matrix_tree (drop i ms)))) ≡ all
+    → (new || some_heavy (matrices_of (map matrix_tree (drop (i + 1) ms)))) ≡ all
+heavy-members-then made new found all ms i m h e f n k =
+    or-then made new (heavy_matrix (matrix_tree m)) _ all (n ∙ ap (λ t. made || t) f)
+    (ap (λ us. made || some_heavy (matrices_of (map matrix_tree us))) (sym (drop-item ms i m h e)) ∙ k)
+
+pub some-members-end :
+    (made all : Bool) (ms : List Matrix) (i : ℕ)
+    → length ms ≤ i → (made || some_have_clauses (matrices_of (map matrix_tree (drop i ms)))) ≡ all → made ≡ all
+some-members-end made all ms i h k =
+    sym (or-none made) ∙ ap (λ us. made || some_have_clauses (matrices_of (map matrix_tree us))) (sym (drop-end ms i h)) ∙ k
+
+pub all-members-end :
+    (made all : Bool) (ms : List Matrix) (i : ℕ)
+    → length ms ≤ i → (made && all_have_clauses (matrices_of (map matrix_tree (drop i ms)))) ≡ all → made ≡ all
+all-members-end made all ms i h k =
+    sym (and-none made) ∙ ap (λ us. made && all_have_clauses (matrices_of (map matrix_tree us))) (sym (drop-end ms i h)) ∙ k
+
+pub heavy-members-end :
+    (made all : Bool) (ms : List Matrix) (i : ℕ)
+    → length ms ≤ i → (made || some_heavy (matrices_of (map matrix_tree (drop i ms)))) ≡ all → made ≡ all
+heavy-members-end made all ms i h k =
+    sym (or-none made) ∙ ap (λ us. made || some_heavy (matrices_of (map matrix_tree us))) (sym (drop-end ms i h)) ∙ k
+
+-- ---- normal forms
+
+pub some-forms-then :
+    (made new found all : Bool) (fs : List Nnf) (i : ℕ) (f : Nnf)
+    → i < length fs → f ≡ get_or fs i f → found ≡ form_has_clauses (nnf_tree f) → new ≡ (made || found)
+    → (made || some_form_has_clauses (formulas_of (map nnf_tree (drop i fs)))) ≡ all
+    → (new || some_form_has_clauses (formulas_of (map nnf_tree (drop (i + 1) fs)))) ≡ all
+some-forms-then made new found all fs i f h e g n k =
+    or-then made new (form_has_clauses (nnf_tree f)) _ all (n ∙ ap (λ t. made || t) g)
+    (ap (λ us. made || some_form_has_clauses (formulas_of (map nnf_tree us))) (sym (drop-item fs i f h e)) ∙ k)
+
+pub all-forms-then :
+    (made new found all : Bool) (fs : List Nnf) (i : ℕ) (f : Nnf)
+    → i < length fs → f ≡ get_or fs i f → found ≡ form_has_clauses (nnf_tree f) → new ≡ (made && found)
+    → (made && all_forms_have_clauses (formulas_of (map nnf_tree (drop i fs)))) ≡ all
+    → (new && all_forms_have_clauses (formulas_of (map nnf_tree (drop (i + 1) fs)))) ≡ all
+all-forms-then made new found all fs i f h e g n k =
+    and-then made new (form_has_clauses (nnf_tree f)) _ all (n ∙ ap (λ t. made && t) g)
+    (ap (λ us. made && all_forms_have_clauses (formulas_of (map nnf_tree us))) (sym (drop-item fs i f h e)) ∙ k)
+
+pub heavy-forms-then :
+    (made new found all : Bool) (fs : List Nnf) (i : ℕ) (f : Nnf)
+    → i < length fs → f ≡ get_or fs i f → found ≡ heavy_form (nnf_tree f) → new ≡ (made || found)
+    → (made || some_heavy_form (formulas_of (map nnf_tree (drop i fs)))) ≡ all
+    → (new || some_heavy_form (formulas_of (map nnf_tree (drop (i + 1) fs)))) ≡ all
+heavy-forms-then made new found all fs i f h e g n k =
+    or-then made new (heavy_form (nnf_tree f)) _ all (n ∙ ap (λ t. made || t) g)
+    (ap (λ us. made || some_heavy_form (formulas_of (map nnf_tree us))) (sym (drop-item fs i f h e)) ∙ k)
+
+pub some-forms-end :
+    (made all : Bool) (fs : List Nnf) (i : ℕ)
+    → length fs ≤ i → (made || some_form_has_clauses (formulas_of (map nnf_tree (drop i fs)))) ≡ all → made ≡ all
+some-forms-end made all fs i h k =
+    sym (or-none made) ∙ ap (λ us. made || some_form_has_clauses (formulas_of (map nnf_tree us))) (sym (drop-end fs i h)) ∙ k
+
+pub all-forms-end :
+    (made all : Bool) (fs : List Nnf) (i : ℕ)
+    → length fs ≤ i → (made && all_forms_have_clauses (formulas_of (map nnf_tree (drop i fs)))) ≡ all → made ≡ all
+all-forms-end made all fs i h k =
+    sym (and-none made) ∙ ap (λ us. made && all_forms_have_clauses (formulas_of (map nnf_tree us))) (sym (drop-end fs i h)) ∙ k
+
+pub heavy-forms-end :
+    (made all : Bool) (fs : List Nnf) (i : ℕ)
+    → length fs ≤ i → (made || some_heavy_form (formulas_of (map nnf_tree (drop i fs)))) ≡ all → made ≡ all
+heavy-forms-end made all fs i h k =
+    sym (or-none made) ∙ ap (λ us. made || some_heavy_form (formulas_of (map nnf_tree us))) (sym (drop-end fs i h)) ∙ k
+
+-- ---- sizes of terms
+
+pub sizes-then :
+    (made new all most : ℕ) (ts : List TreeTerm) (i : ℕ) (t : TreeTerm)
+    → i < length ts → t ≡ get_or ts i t → new ≡ min (made + term_size (term_of t)) most
+    → min (made + terms_size (terms_of (map term_of (drop i ts)))) most ≡ all
+    → min (new + terms_size (terms_of (map term_of (drop (i + 1) ts)))) most ≡ all
+sizes-then made new all most ts i t h e n m =
+    let next : terms_size (terms_of (map term_of (drop i ts))) ≡ term_size (term_of t) + terms_size (terms_of (map term_of (drop (i + 1) ts))) =
+    ap (λ us. terms_size (terms_of (map term_of us))) (drop-item ts i t h e) in
+    omega (arith, next, n, m)
+
+pub sizes-end :
+    (made all most : ℕ) (ts : List TreeTerm) (i : ℕ)
+    → length ts ≤ i → made ≤ most → min (made + terms_size (terms_of (map term_of (drop i ts)))) most ≡ all → made ≡ all
+sizes-end made all most ts i h l m =
+    let none : terms_size (terms_of (map term_of (drop i ts))) ≡ 0 = ap (λ us. terms_size (terms_of (map term_of us))) (drop-end ts i h) in
+    omega (arith, none, l, m)

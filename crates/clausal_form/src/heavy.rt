@@ -1,0 +1,204 @@
+// Literals that are too heavy, found before anything is made of them. A literal of over `MOST_SYMBOLS` symbols makes each clause that it
+// stands in too heavy, so a formula is refused where one stands in a part that has clauses. It is asked twice: of the normal form, where a
+// variable counts as one symbol and no term is read further than the limit, and of the matrix, where the sizes of the Skolem terms are known.
+
+ghost use Rattle.std.specs.Prelude.{◌≡◌, ◌≤◌, ◌+◌, true, false, not, ◌&&◌, ◌||◌, min, map, nat_lt};
+ghost use Rattle.tptp_tree.specs.Term.{term_size, terms_size, terms_of};
+ghost use Rattle.tptp_tree.specs.Shape.{term_of};
+ghost use Rattle.tptp_tree.specs.Formula.{formulas_of};
+ghost use Rattle.fol_base.specs.declared.limits.TheConstants.{MOST_SYMBOLS};
+ghost use Rattle.formula_nnf.specs.Shape.{nnf_tree};
+ghost use Rattle.skolem.specs.Matrix.{matrices_of};
+ghost use Rattle.skolem.specs.Shape.{matrix_tree};
+ghost use Rattle.clausal_form.specs.Occurring.{has_clauses, some_have_clauses, all_have_clauses};
+ghost use Rattle.clausal_form.specs.Heavy.{heavy_matrix, some_heavy, form_has_clauses, some_form_has_clauses, all_forms_have_clauses, heavy_form, some_heavy_form};
+
+use fol_base::MOST_SYMBOLS;
+use formula_nnf::Nnf;
+use skolem::Matrix;
+use tptp_tree::TreeTerm;
+
+/// The symbols of a predicate's literal beside its arguments: the predicate and `$true`.
+const ATOM_SYMBOLS: u64 = 2;
+
+/// What is asked of a form or a matrix: whether it has clauses, and whether a literal that is too heavy stands in one of them.
+#[derive(Clone, Copy)]
+struct Weight {
+    has_clauses: bool,
+    is_heavy: bool,
+}
+
+/// The same of several: whether some have clauses, whether all have, and whether one is heavy.
+#[derive(Clone, Copy)]
+struct Weights {
+    some: bool,
+    all: bool,
+    heavy: bool,
+}
+
+/// Whether a literal that is too heavy, as it is written, stands in the clauses of a normal form.
+pub(crate) fn is_heavy_form(form: &Nnf<'_>) -> bool
+    ensures { result ≡ heavy_form (nnf_tree form.now) }
+{
+    form_weight(form).is_heavy
+}
+
+/// Whether a literal that is too heavy stands in the clauses of a matrix.
+pub(crate) fn is_heavy_matrix(matrix: &Matrix<'_>) -> bool
+    ensures { result ≡ heavy_matrix (matrix_tree matrix.now) }
+{
+    matrix_weight(matrix).is_heavy
+}
+
+#[cycle(form_weight)]
+fn form_weight(form: &Nnf<'_>) -> Weight
+    ensures clauses { result.has_clauses ≡ form_has_clauses (nnf_tree form.now) }
+    ensures heavy { result.is_heavy ≡ heavy_form (nnf_tree form.now) }
+{
+    match form {
+        Nnf::True => constant(true),
+        Nnf::False => constant(false),
+        Nnf::Pred(_, _, arguments) => {
+            literal_weight(terms_size_from(ATOM_SYMBOLS, arguments.as_slice()))
+        }
+        Nnf::Equal(_, left, right) => {
+            literal_weight(term_size_from(term_size_from(0, left), right))
+        }
+        Nnf::And(forms) => listed(form_weights(forms.as_slice())),
+        Nnf::Or(forms) => multiplied(form_weights(forms.as_slice())),
+        Nnf::All(_, body) | Nnf::Ex(_, body) => form_weight(body.get()),
+    }
+}
+
+#[cycle(form_weight)]
+fn form_weights(forms: &[Nnf<'_>]) -> Weights
+    ensures some { result.some ≡ some_form_has_clauses (formulas_of (map nnf_tree forms.now)) }
+    ensures all { result.all ≡ all_forms_have_clauses (formulas_of (map nnf_tree forms.now)) }
+    ensures heavy { result.heavy ≡ some_heavy_form (formulas_of (map nnf_tree forms.now)) }
+{
+    let mut weights = NO_MEMBERS;
+    for form in forms {
+        weights = with_member(weights, form_weight(form));
+    }
+    weights
+}
+
+#[cycle(matrix_weight)]
+fn matrix_weight(matrix: &Matrix<'_>) -> Weight
+    ensures clauses { result.has_clauses ≡ has_clauses (matrix_tree matrix.now) }
+    ensures heavy { result.is_heavy ≡ heavy_matrix (matrix_tree matrix.now) }
+{
+    match matrix {
+        Matrix::True => constant(true),
+        Matrix::False => constant(false),
+        Matrix::Lit(literal) => literal_weight(literal.size()),
+        Matrix::And(members) => listed(matrix_weights(members.as_slice())),
+        Matrix::Or { made: _, members } => multiplied(matrix_weights(members.as_slice())),
+    }
+}
+
+#[cycle(matrix_weight)]
+fn matrix_weights(members: &[Matrix<'_>]) -> Weights
+    ensures some { result.some ≡ some_have_clauses (matrices_of (map matrix_tree members.now)) }
+    ensures all { result.all ≡ all_have_clauses (matrices_of (map matrix_tree members.now)) }
+    ensures heavy { result.heavy ≡ some_heavy (matrices_of (map matrix_tree members.now)) }
+{
+    let mut weights = NO_MEMBERS;
+    for member in members {
+        weights = with_member(weights, matrix_weight(member));
+    }
+    weights
+}
+
+const NO_MEMBERS: Weights = Weights {
+    some: false,
+    all: true,
+    heavy: false,
+};
+
+fn with_member(weights: Weights, member: Weight) -> Weights
+    ensures some { result.some ≡ (weights.some || member.has_clauses) }
+    ensures all { result.all ≡ (weights.all && member.has_clauses) }
+    ensures heavy { result.heavy ≡ (weights.heavy || member.is_heavy) }
+{
+    Weights {
+        some: weights.some || member.has_clauses,
+        all: weights.all && member.has_clauses,
+        heavy: weights.heavy || member.is_heavy,
+    }
+}
+
+/// Of a list of members.
+fn listed(members: Weights) -> Weight
+    ensures clauses { result.has_clauses ≡ members.some }
+    ensures heavy { result.is_heavy ≡ members.heavy }
+{
+    Weight {
+        has_clauses: members.some,
+        is_heavy: members.heavy,
+    }
+}
+
+/// Of a product of members.
+fn multiplied(members: Weights) -> Weight
+    ensures clauses { result.has_clauses ≡ members.all }
+    ensures heavy { result.is_heavy ≡ (members.all && members.heavy) }
+{
+    Weight {
+        has_clauses: members.all,
+        is_heavy: members.all && members.heavy,
+    }
+}
+
+/// Of `$true` or `$false`.
+fn constant(positive: bool) -> Weight
+    ensures clauses { result.has_clauses ≡ not positive }
+    ensures heavy { result.is_heavy ≡ false }
+{
+    Weight {
+        has_clauses: !positive,
+        is_heavy: false,
+    }
+}
+
+/// Of a literal of that size.
+fn literal_weight(size: u64) -> Weight
+    ensures clauses { result.has_clauses ≡ true }
+    ensures heavy { result.is_heavy ≡ nat_lt MOST_SYMBOLS size }
+{
+    Weight {
+        has_clauses: true,
+        is_heavy: size > MOST_SYMBOLS,
+    }
+}
+
+/// A size with the symbols and variables of a term. One over the limit is enough.
+#[cycle(term_size_from)]
+fn term_size_from(size: u64, term: &TreeTerm) -> u64
+    requires { size ≤ MOST_SYMBOLS + 1 }
+    ensures { result ≡ min (size + term_size (term_of term.now)) (MOST_SYMBOLS + 1) }
+{
+    if size > MOST_SYMBOLS {
+        return size;
+    }
+    match term {
+        TreeTerm::Var(_) => size + 1,
+        TreeTerm::App(_, arguments) => terms_size_from(size + 1, arguments.as_slice()),
+    }
+}
+
+/// The same with several terms.
+#[cycle(term_size_from)]
+fn terms_size_from(size: u64, terms: &[TreeTerm]) -> u64
+    requires { size ≤ MOST_SYMBOLS + 1 }
+    ensures { result ≡ min (size + terms_size (terms_of (map term_of terms.now))) (MOST_SYMBOLS + 1) }
+{
+    let mut total = size;
+    for term in terms {
+        if total > MOST_SYMBOLS {
+            return total;
+        }
+        total = term_size_from(total, term);
+    }
+    total
+}
