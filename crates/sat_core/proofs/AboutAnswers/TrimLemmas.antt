@@ -1,8 +1,7 @@
 -- A log without the chains that its last one doesn't need.
 use Rattle.std.proofs.Common.{◌≡◌, ℕ, zero, suc, ◌+◌, ◌-◌, ◌<◌, ◌≤◌, Bool, true, false, ◌&&◌, ◌||◌, cond, List, [], ◌∷◌, ◌++◌, length, map, take, get_or, set, Option, Some, None, refl, ap, sym, ◌∙◌, subst, arith, ◌⊎◌, inl, inr, ⊎_elim}
-use Rattle.std.specs.Prelude.{slice_get, option_and_then, nat_lt, ◌==◌}
+use Rattle.std.specs.Prelude.{slice_get, option_and_then, option_map, nat_lt, ◌==◌}
 use Rattle.std.specs.List.{list_any}
-use Rattle.std.specs.Option.{option_map}
 use Rattle.std.proofs.lemmas.Bool.{cases_lt, cases_eq, or_left, or_right, and_from, lt-ltb, le-ltb, ltb-true, eq-eqb, eqb-true, ne_eqb, both_ways}
 use Rattle.std.proofs.lemmas.List.{append_assoc, append-nil, length_push, length-set, get_or-set_same, get_or-set_other, get_or_append_left, get_or_push, get_or_read, take_all, map_more}
 use Rattle.std.proofs.lemmas.List.Folds.{list_any_more}
