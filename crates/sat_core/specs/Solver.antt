@@ -1,5 +1,5 @@
 -- The state of the solver, and its steps.
-use Rattle.std.specs.Prelude.{◌≡◌, ℕ, ◌+◌, ◌*◌, ◌^◌, ◌<◌, ◌≤◌, List, [], length, IsTrue}
+use Rattle.std.specs.Prelude.{◌≡◌, ℕ, ◌*◌, ◌<◌, ◌≤◌, List, [], length, IsTrue}
 use Rattle.sat_core.specs.declared.solver.Solver.{Solver}
 use Rattle.sat_core.specs.declared.solver.Step.{Step}
 use Rattle.sat_core.specs.declared.solver.Step.TheVariants.{Going, Satisfied, Refuted}
@@ -24,9 +24,9 @@ pub record IsBegun (names : ℕ) (inputs : List PropClause) (s : Solver) : Type 
   pub inputs_are : inputs_of s ≡ inputs
   pub names_are : length s.trail.slots.items ≡ names
 
--- What is left to try over so many names. A restart that is left counts more than any trail.
+-- what is left to try over so many names
 abbrev pub left_to_try : ℕ → Solver → ℕ
-left_to_try names s = s.restarts.left * 3 ^ names + remaining names s.trail.entries.items
+left_to_try names s = remaining names s.trail.entries.items
 
 -- another state over the same inputs and names, with less left to try
 pub record Advances (old new : Solver) : Type 0 where

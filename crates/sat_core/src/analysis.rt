@@ -84,7 +84,7 @@ fn highest_place(trail: &Trail, literals: &[NameLit], bound: usize) -> usize
 }
 
 /// The first decision from an index on, below a bound.
-pub fn decision_from(trail: &Trail, low: usize, bound: usize) -> Option<usize>
+fn decision_from(trail: &Trail, low: usize, bound: usize) -> Option<usize>
     requires { bound ≤ length trail.now.entries.items }
     ensures some { IfSome result (λ i. (low ≤ i) × (i < bound) × ((entry_at trail.now.entries.items i).reason ≡ None)) }
     ensures none { IfNone result ((i : ℕ) → low ≤ i → i < bound → IsSome (entry_at trail.now.entries.items i).reason) }

@@ -10,7 +10,6 @@ mod literals;
 mod marks;
 mod minimise;
 mod order;
-mod restarts;
 mod solver;
 mod trail;
 mod trimming;

@@ -11,13 +11,12 @@ ghost use Rattle.sat_core.specs.Conflict.{AreWithin};
 ghost use Rattle.sat_core.specs.Search.{IsConflict, HasNoTrue, AreAssigned, values_of};
 ghost use Rattle.sat_core.specs.Solver.{IsState, IsRefuted, Keeps, Advances, Steps, IsBegun, inputs_of};
 
-use crate::analysis::{Conflict, analyse, decision_from};
+use crate::analysis::{Conflict, analyse};
 use crate::answer::{Answer, Log, PropClauses, Truths};
 use crate::clauses::Clauses;
 use crate::forgetting::Forgetting;
 use crate::marks::Marks;
 use crate::order::Order;
-use crate::restarts::Restarts;
 use crate::trail::{Assigned, Trail};
 use crate::watches::Watches;
 use plain_types::{Mem, NameLit, Names};
@@ -46,7 +45,6 @@ pub struct Solver<'a> {
     pub watches: Watches,
     pub order: Order,
     pub forgetting: Forgetting,
-    pub restarts: Restarts,
 }
 
 impl<'a> Solver<'a> {
@@ -68,7 +66,6 @@ impl<'a> Solver<'a> {
             watches,
             order: Order::new(alloc, names)?,
             forgetting: Forgetting::new(alloc, inputs.len())?,
-            restarts: Restarts::new(),
         })
     }
 
@@ -164,31 +161,11 @@ impl<'a> Solver<'a> {
         self.order.next(&self.trail)
     }
 
-    /// Takes all decisions back.
-    fn restart(&mut self) -> Mem<()>
-        requires state { IsState self.old }
-        requires left { 0 < self.old.restarts.left }
-        ensures { IfOk result (λ _. Advances self.old self.new) }
-    {
-        let count = self.trail.entries.len();
-        let cut = decision_from(&self.trail, 0, count).unwrap_or(count);
-        self.order.put_back(&self.trail.entries[cut..])?;
-        self.trail.cut(cut);
-        self.watches.cut(cut);
-        self.restarts.count(self.clauses.learned.len());
-        Ok(())
-    }
-
-    /// Decides the next literal; where none is left, looks whether each input clause is true. Begins again where it is
-    /// time to.
+    /// Decides the next literal; where none is left, looks whether each input clause is true.
     fn choose(&mut self, alloc: Global) -> Mem<Step>
         requires { IsState self.old }
         ensures { IfOk result (Steps self.old self.new) }
     {
-        if self.restarts.is_due(self.clauses.learned.len()) {
-            self.restart()?;
-            return Ok(Step::Going);
-        }
         if let Some(literal) = self.next() {
             self.decide(literal)?;
             return Ok(Step::Going);
@@ -262,7 +239,7 @@ fn free_literal(trail: &Trail, literals: &[NameLit]) -> Option<NameLit>
 /// Finds truth values that make every clause true, or a log of resolutions that derives the empty clause. It
 /// learns clauses (Marques-Silva and Sakallah 1996) at the first unique implication point (Zhang and others
 /// 2001) and makes them smaller (Sörensson and Biere 2009), watches two literals of each clause, forgets learned
-/// clauses that it hasn't used for long, restarts (Luby, Sinclair and Zuckerman 1993), and always ends. The clauses are borrowed.
+/// clauses that it hasn't used for long, doesn't restart, and always ends. The clauses are borrowed.
 pub fn solve(alloc: Global, clauses: &PropClauses, names: u32) -> Mem<Answer>
     requires { IsTrue (names_below names clauses.now) }
     ensures { IfOk result (IsRightAnswer names clauses.now) }

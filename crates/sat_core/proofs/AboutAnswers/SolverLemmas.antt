@@ -1,8 +1,7 @@
 -- Steps of the solver.
 use Rattle.std.proofs.Common.{◌≡◌, ℕ, zero, suc, ◌+◌, ◌*◌, ◌<◌, ◌≤◌, Bool, true, false, not, ◌&&◌, List, [], ◌∷◌, ◌++◌, length, get_or, set, take, Option, Some, None, refl, ap, sym, ◌∙◌, subst, arith, ⊎_elim}
 use mathlib.Core.Bool.{beq}
-use Rattle.std.specs.Prelude.{IsTrue, slice_get, option_and_then, MatchOption, IfSome, nat_lt}
-use Rattle.std.specs.Option.{unwrap_or}
+use Rattle.std.specs.Prelude.{IsTrue, slice_get, option_and_then, MatchOption, nat_lt}
 use Rattle.std.specs.List.{list_any, list_all}
 use Rattle.std.proofs.lemmas.Bool.{cases_lt, or_cases, or_left, or_right, or_parts, and_parts, and_from, lt-ltb, ltb-true}
 use Rattle.std.proofs.lemmas.List.{get_or_push, get_or_past, get_or-map, length_push, length-map, append-nil, append_assoc}
@@ -160,13 +159,6 @@ assigned_more slots xs i x h e before at k there =
 
 -- ---- one step after another
 
--- the same restarts are left
-pub behind : (a b c : ℕ) → b < c → a + b < a + c
-behind a b c h = omega (arith, h)
-
-pub behind_le : (a b c : ℕ) → b ≤ c → a + b ≤ a + c
-behind_le a b c h = omega (arith, h)
-
 below_then : (old mid mid' new new' : ℕ) → mid ≤ old → new' < mid' → new' ≡ new → mid' ≡ mid → new < old
 below_then old mid mid' new new' a b c d = omega (arith, a, b, c, d)
 
@@ -180,11 +172,6 @@ advances_after old mid new first second = record {
       (left_to_try (length old.trail.slots.items) new) (left_to_try (length mid.trail.slots.items) new)
       first.no_more second.fewer (ap (λ (n : ℕ). left_to_try n new) first.names) (ap (λ (n : ℕ). left_to_try n mid) first.names);
 }
-
--- where a restart cuts the trail
-pub cut_within : (o : Option ℕ) (n : ℕ) (P : ℕ → Type 0) → IfSome o P → ((i : ℕ) → P i → i < n) → unwrap_or o n ≤ n
-cut_within None n P h f = omega arith
-cut_within (Some i) n P h f = let w = f i h in omega (arith, w)
 
 pub steps_after : (old mid new : Solver) (step : Step) → Keeps old mid → Steps mid new step → Steps old new step
 steps_after old mid new Going first second = advances_after old mid new first second

@@ -1,5 +1,5 @@
 -- Why the search ends: what is left to try falls.
-use Rattle.std.proofs.Common.{◌≡◌, ℕ, zero, suc, ◌+◌, ◌*◌, ◌^◌, ◌<◌, ◌≤◌, Bool, true, false, cond, List, [], ◌∷◌, ◌++◌, length, take, ap, sym, ◌∙◌, arith}
+use Rattle.std.proofs.Common.{◌≡◌, ℕ, zero, suc, ◌*◌, ◌^◌, ◌<◌, ◌≤◌, Bool, true, false, cond, List, [], ◌∷◌, ◌++◌, length, take, ap, ◌∙◌, arith}
 use Rattle.std.proofs.Math.Nat.{pow-succ'}
 use Rattle.sat_core.specs.declared.trail.Assigned.{Assigned}
 use Rattle.sat_core.specs.Trail.{entry_at}
@@ -26,21 +26,11 @@ digit_times e w = go (is_decision e)
     go true = omega arith
     go false = omega arith
 
-pub remaining_below : (n : ℕ) (entries : List Assigned) → remaining n entries < 3 ^ n
+remaining_below : (n : ℕ) (entries : List Assigned) → remaining n entries < 3 ^ n
 remaining_below zero entries = omega arith
 remaining_below (suc n) [] = let h = remaining_below n [] in let e = three_more n in omega (arith, h, e)
 remaining_below (suc n) (x ∷ entries) =
     let h = remaining_below n entries in let d = digit_times x (3 ^ n) in let e = three_more n in omega (arith, h, d, e)
-
--- a restart
-pub restarted : (left left' names : ℕ) (entries entries' : List Assigned) → left' + 1 ≡ left → left' * 3 ^ names + remaining names entries' < left * 3 ^ names + remaining names entries
-restarted left left' names entries entries' one =
-    let low = remaining_below names entries' in
-    let e : left * 3 ^ names ≡ left' * 3 ^ names + 3 ^ names = ap (λ (l : ℕ). l * 3 ^ names) (sym one) ∙ times left' (3 ^ names) in
-    omega (arith, low, e)
-  where
-    times : (a b : ℕ) → (a + 1) * b ≡ a * b + b
-    times a b = omega arith
 
 -- one more literal
 pub remaining_push : (n : ℕ) (entries : List Assigned) (e : Assigned) → length entries < n → remaining n (entries ++ e ∷ []) < remaining n entries

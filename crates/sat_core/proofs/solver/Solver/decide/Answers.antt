@@ -1,7 +1,7 @@
 use Rattle.std.proofs.Common.{◌≡◌, length, refl, ap, sym, ◌∙◌, arith}
 use Rattle.std.proofs.lemmas.List.{length-set}
 use Rattle.sat_core.proofs.AboutAnswers.SoundLemmas.{pushed_remaining}
-use Rattle.sat_core.proofs.AboutAnswers.SolverLemmas.{decided, behind}
+use Rattle.sat_core.proofs.AboutAnswers.SolverLemmas.{decided}
 use Rattle.sat_core.proofs.solver.Solver.decide.Goals as goal
 
 pub returns : goal.returns
@@ -18,5 +18,5 @@ returns c =
       };
       inputs = refl;
       names = names;
-      fewer = behind _ _ _ (pushed_remaining _ _ _ _ _ c.in_ok-push.ensures.trail c.in_ok-push.ensures.entries names);
+      fewer = pushed_remaining _ _ _ _ _ c.in_ok-push.ensures.trail c.in_ok-push.ensures.entries names;
     }

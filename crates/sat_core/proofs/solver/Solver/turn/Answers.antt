@@ -3,7 +3,7 @@ use Rattle.std.proofs.lemmas.List.{length-set}
 use Rattle.sat_core.specs.Clause.{PropClause}
 use Rattle.sat_core.specs.Known.{known}
 use Rattle.sat_core.proofs.AboutAnswers.SoundLemmas.{turn_remaining}
-use Rattle.sat_core.proofs.AboutAnswers.SolverLemmas.{derives_of, turn_of, learned_within, learned_lists, turn_sound, known_grown, behind}
+use Rattle.sat_core.proofs.AboutAnswers.SolverLemmas.{derives_of, turn_of, learned_within, learned_lists, turn_sound, known_grown}
 use Rattle.sat_core.proofs.solver.Solver.turn.Goals as goal
 
 pub add_learned-requires-clause-within : goal.add_learned-requires-clause-within
@@ -39,5 +39,5 @@ returns c =
       };
       inputs = c.in_ok-learn.ensures.inputs;
       names = names;
-      fewer = behind _ _ _ (turn_remaining _ _ _ _ _ _ c.in-Some.turn _ c.requires.state.sound.trail is c.cut.ensures c.in_ok-push.ensures.entries refl);
+      fewer = turn_remaining _ _ _ _ _ _ c.in-Some.turn _ c.requires.state.sound.trail is c.cut.ensures c.in_ok-push.ensures.entries refl;
     }
