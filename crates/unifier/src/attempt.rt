@@ -51,8 +51,8 @@ pub fn unify_by_equations(alloc: Global, left: &Term, right: &Term, apart: bool)
     }
 }
 
-/// The unifier that equations give which two terms' being equal forces. None where it isn't found, since a tree
-/// is too deep or the variables are many.
+/// The unifier that equations give which two terms' being equal forces. None where it isn't found: a tree is too
+/// deep, the variables are many, or one contains itself.
 fn resolved<'a>(
     alloc: Global,
     equations: &Equations<'a>,

@@ -32,6 +32,18 @@ impl<'a> Equations<'a> {
         None
     }
 
+    /// The mark of a variable's equation, one bit for each; none where it has no equation.
+    pub fn mark(&self, code: u64) -> u8 {
+        let mut mark = 1u8;
+        for equation in self.items[..self.len.min(MOST_EQUATIONS)].iter() {
+            if equation.code == code {
+                return mark;
+            }
+            mark = mark.wrapping_shl(1);
+        }
+        0
+    }
+
     /// Adds an equation of a variable that has none. False where there is no room.
     pub fn add(&mut self, code: u64, bound: SideTerm<'a>) -> bool
         requires { bound_in self.old code ≡ None }

@@ -19,6 +19,7 @@ ghost use Rattle.unifier.specs.Resolving.{
 use crate::cells::Cell;
 use crate::equation::{Equations, SideTerm, SideTerms};
 use crate::layout::{Layout, Place, code};
+use crate::solution::FEW_PLACES;
 use fol_base::{Side, Term};
 use plain_types::Mem;
 
@@ -27,6 +28,9 @@ const USUAL_CELLS: usize = 32;
 
 /// Room for the variables of such terms.
 const USUAL_PLACES: usize = 8;
+
+/// No equation's tree is being laid out.
+const NONE_OPEN: u8 = 0;
 
 /// So many levels of terms and of bindings are laid out at most.
 const MOST_LEVELS: u32 = 64;
@@ -52,6 +56,7 @@ impl Layout {
                     equations,
                     apart,
                     MOST_LEVELS,
+                    NONE_OPEN,
                     code(apart, side, *variable),
                 )?;
                 Ok(cell.is_some())
@@ -83,13 +88,15 @@ impl Layout {
         Ok(true)
     }
 
-    /// The cell of a variable's tree. None where the tree is too deep.
+    /// The cell of a variable's tree. None where the tree is too deep, the variable would contain itself or there
+    /// are too many variables. `open` has the marks of the equations whose trees are being laid out.
     #[cycle(resolve)]
     fn resolve_variable<'a>(
         &mut self,
         equations: &Equations<'a>,
         apart: bool,
         levels: u32,
+        open: u8,
         variable: u64,
     ) -> Mem<Option<usize>>
         requires { IsResolving apart equations.now self.old }
@@ -98,8 +105,11 @@ impl Layout {
         if let Some(cell) = place_among(self.places.as_slice(), variable) {
             return Ok(Some(cell));
         }
+        if self.places.len() >= FEW_PLACES {
+            return Ok(None);
+        }
         match equations.find(variable) {
-            Some(bound) => self.resolve_bound(equations, apart, levels, variable, bound),
+            Some(bound) => self.resolve_bound(equations, apart, levels, open, variable, bound),
             None => {
                 let cell = self.add_cell(Cell::Variable(variable))?;
                 self.add_place(variable, cell)?;
@@ -108,14 +118,15 @@ impl Layout {
         }
     }
 
-    /// The cell of the tree of a variable that has an equation, and no place yet. If it has one after its tree
-    /// is laid out, it contains itself.
+    /// The cell of the tree of a variable that has an equation, and no place yet. Where the equation is open, the
+    /// variable contains itself.
     #[cycle(resolve)]
     fn resolve_bound<'a>(
         &mut self,
         equations: &Equations<'a>,
         apart: bool,
         levels: u32,
+        open: u8,
         variable: u64,
         bound: SideTerm<'a>,
     ) -> Mem<Option<usize>>
@@ -126,7 +137,11 @@ impl Layout {
         if levels == 0 {
             return Ok(None);
         }
-        let Some(cell) = self.resolve_term(equations, apart, levels - 1, bound)? else {
+        let mark = equations.mark(variable);
+        if open & mark != 0 {
+            return Ok(None);
+        }
+        let Some(cell) = self.resolve_term(equations, apart, levels - 1, open | mark, bound)? else {
             return Ok(None);
         };
         if place_among(self.places.as_slice(), variable).is_some() {
@@ -143,6 +158,7 @@ impl Layout {
         equations: &Equations<'a>,
         apart: bool,
         levels: u32,
+        open: u8,
         bound: SideTerm<'a>,
     ) -> Mem<Option<usize>>
         requires { IsResolving apart equations.now self.old }
@@ -150,7 +166,13 @@ impl Layout {
     {
         match bound.term {
             Term::Var(variable) => {
-                self.resolve_variable(equations, apart, levels, code(apart, bound.side, *variable))
+                self.resolve_variable(
+                    equations,
+                    apart,
+                    levels,
+                    open,
+                    code(apart, bound.side, *variable),
+                )
             }
             Term::App(symbol, arguments) => {
                 if levels == 0 {
@@ -160,7 +182,7 @@ impl Layout {
                     side: bound.side,
                     terms: arguments.as_slice(),
                 };
-                match self.resolve_terms(equations, apart, levels - 1, arguments)? {
+                match self.resolve_terms(equations, apart, levels - 1, open, arguments)? {
                     Some(list) => Ok(Some(self.add_cell(Cell::Application(*symbol, list))?)),
                     None => Ok(None),
                 }
@@ -175,6 +197,7 @@ impl Layout {
         equations: &Equations<'a>,
         apart: bool,
         levels: u32,
+        open: u8,
         bound: SideTerms<'a>,
     ) -> Mem<Option<usize>>
         requires { IsResolving apart equations.now self.old }
@@ -187,7 +210,7 @@ impl Layout {
                 side: bound.side,
                 term: &bound.terms[index],
             };
-            match self.resolve_term(equations, apart, levels, item)? {
+            match self.resolve_term(equations, apart, levels, open, item)? {
                 Some(first) => list = self.add_cell(Cell::TreeThen(first, list))?,
                 None => return Ok(None),
             }
