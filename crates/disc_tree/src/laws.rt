@@ -4,7 +4,7 @@
 ghost use Rattle.std.specs.Prelude.{◌≡◌, true, false, None, Some, [], ◌∷◌, IsTrue, IsFalse};
 ghost use Rattle.fol_base.specs.Examples.{x, a, b, f, f₂, g};
 ghost use Rattle.fol_base.specs.Compatible.{compatible, compatible_generalisation, compatible_instance};
-ghost use Rattle.disc_tree.specs.Entries.{IsIn, numbers_where};
+ghost use Rattle.disc_tree.specs.Entries.{IsBeginning, IsIn, numbers_where};
 ghost use Rattle.disc_tree.specs.Examples.{accepts_two, three};
 ghost use Rattle.disc_tree.specs.Firsts.{IsFirst};
 ghost use Rattle.disc_tree.specs.Generalisations.{MatchersAreReadOff, generalisations, stood_for};
@@ -47,6 +47,9 @@ pub fn examples()
     ensures none_accepted { IsFirst accepts_two (1 ∷ 3 ∷ []) None }
     ensures none_is_wrong { ¬ IsFirst accepts_two (2 ∷ []) None }
     ensures other_is_wrong { ¬ IsFirst accepts_two (2 ∷ 3 ∷ []) (Some 8) }
+    ensures refusal_is_no_end { ¬ IsFirst accepts_two (1 ∷ 2 ∷ []) None }
+    ensures begins { IsBeginning (1 ∷ []) (1 ∷ 2 ∷ []) }
+    ensures begins_otherwise { ¬ IsBeginning (1 ∷ []) (2 ∷ 1 ∷ []) }
     ensures not_there { ¬ IsIn (f₂ b (x 1), 2) three }
 {}
 
