@@ -19,31 +19,31 @@ get-links-requires c =
 pub loop-index-preserved : goal.loop-index-preserved
 loop-index-preserved c = record {
   found = λ right.
-    elim c.if-index.branch [
-      | then-index+in_ok-renumbered+in_ok-push-2 w ↦ rw w.log-is
-          (trimmed_at c.args.clauses.now right c.in_ok-needed.needed.items c.loop-index.index _ _ c.loop-index.numbers.items _ _ c.loop-index.log.items _ _ _
-          c.requires.lined c.in_ok-needed.ensures (omega arith)
-          (sym (get_or_read c.in_ok-needed.needed.items c.loop-index.index c.index.result.now (omega arith) c.index.ensures false) ∙ w.if-index.true)
-          (c.loop-index.invariant.found right) c.in_ok-push.ensures.items (omega (arith, c.len-in-loop-index.ensures)) w.as_slice.ensures.value
-          w.index-then-index.ensures w.get-links.ensures w.in_ok-renumbered.ensures.start w.in_ok-renumbered.ensures.links w.in_ok-push-2.ensures.items)
-      | else-index w ↦ rw w.log-is
-          (trimmed_passed _ right.made c.in_ok-needed.needed.items c.loop-index.index _ c.loop-index.numbers.items _ c.loop-index.log.items
-          (c.loop-index.invariant.found right) c.in_ok-push.ensures.items
-          (sym (get_or_read c.in_ok-needed.needed.items c.loop-index.index c.index.result.now (omega arith) c.index.ensures false) ∙ w.if-index.false))
-    ];
+      elim c.if-index.branch [
+        | then-index+in_ok-renumbered+in_ok-push-2 w ↦ rw w.log-is
+            (trimmed_at c.args.clauses.now right c.in_ok-needed.needed.items c.loop-index.index _ _ c.loop-index.numbers.items _ _ c.loop-index.log.items _ _ _
+            c.requires.lined c.in_ok-needed.ensures (omega arith)
+            (sym (get_or_read c.in_ok-needed.needed.items c.loop-index.index c.index.result.now (omega arith) c.index.ensures false) ∙ w.if-index.true)
+            (c.loop-index.invariant.found right) c.in_ok-push.ensures.items (omega (arith, c.len-in-loop-index.ensures)) w.as_slice.ensures.value
+            w.index-then-index.ensures w.get-links.ensures w.in_ok-renumbered.ensures.start w.in_ok-renumbered.ensures.links w.in_ok-push-2.ensures.items)
+        | else-index w ↦ rw w.log-is
+            (trimmed_passed _ right.made c.in_ok-needed.needed.items c.loop-index.index _ c.loop-index.numbers.items _ c.loop-index.log.items
+            (c.loop-index.invariant.found right) c.in_ok-push.ensures.items
+            (sym (get_or_read c.in_ok-needed.needed.items c.loop-index.index c.index.result.now (omega arith) c.index.ensures false) ∙ w.if-index.false))
+      ];
   lean =
-    elim c.if-index.branch [
-      | then-index+in_ok-renumbered+in_ok-push-2 w ↦ rw w.log-is
-          (lean_at c.args.clauses.now c.in_ok-needed.needed.items c.loop-index.index _ _ c.loop-index.numbers.items _ _ c.loop-index.log.items _ _ _
-          c.requires.lined c.in_ok-needed.ensures (omega arith)
-          (sym (get_or_read c.in_ok-needed.needed.items c.loop-index.index c.index.result.now (omega arith) c.index.ensures false) ∙ w.if-index.true)
-          c.loop-index.invariant.lean c.in_ok-push.ensures.items (omega (arith, c.len-in-loop-index.ensures)) w.as_slice.ensures.value
-          w.index-then-index.ensures w.get-links.ensures w.in_ok-renumbered.ensures.start w.in_ok-renumbered.ensures.links w.in_ok-push-2.ensures.items)
-      | else-index w ↦ rw w.log-is
-          (lean_passed _ _ c.in_ok-needed.needed.items c.loop-index.index _ c.loop-index.numbers.items _ c.loop-index.log.items
-          c.loop-index.invariant.lean (omega (arith, c.in_ok-needed.ensures.count)) c.in_ok-push.ensures.items
-          (sym (get_or_read c.in_ok-needed.needed.items c.loop-index.index c.index.result.now (omega arith) c.index.ensures false) ∙ w.if-index.false))
-    ];
+      elim c.if-index.branch [
+        | then-index+in_ok-renumbered+in_ok-push-2 w ↦ rw w.log-is
+            (lean_at c.args.clauses.now c.in_ok-needed.needed.items c.loop-index.index _ _ c.loop-index.numbers.items _ _ c.loop-index.log.items _ _ _
+            c.requires.lined c.in_ok-needed.ensures (omega arith)
+            (sym (get_or_read c.in_ok-needed.needed.items c.loop-index.index c.index.result.now (omega arith) c.index.ensures false) ∙ w.if-index.true)
+            c.loop-index.invariant.lean c.in_ok-push.ensures.items (omega (arith, c.len-in-loop-index.ensures)) w.as_slice.ensures.value
+            w.index-then-index.ensures w.get-links.ensures w.in_ok-renumbered.ensures.start w.in_ok-renumbered.ensures.links w.in_ok-push-2.ensures.items)
+        | else-index w ↦ rw w.log-is
+            (lean_passed _ _ c.in_ok-needed.needed.items c.loop-index.index _ c.loop-index.numbers.items _ c.loop-index.log.items
+            c.loop-index.invariant.lean (omega (arith, c.in_ok-needed.ensures.count)) c.in_ok-push.ensures.items
+            (sym (get_or_read c.in_ok-needed.needed.items c.loop-index.index c.index.result.now (omega arith) c.index.ensures false) ∙ w.if-index.false))
+      ];
 }
 
 pub returns-clause-right : goal.returns-clause-right
