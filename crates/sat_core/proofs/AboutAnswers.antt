@@ -2,3 +2,4 @@
 pub mod SolverLemmas
 pub mod SoundLemmas
 pub mod TrimLemmas
+pub mod UseLemmas

@@ -1,9 +1,10 @@
 // The clauses that are known: those that were handed in, which are borrowed, and those derived from them.
 
-ghost use Rattle.std.specs.Prelude.{◌≡◌, ℕ, ◌<◌, ◌∷◌, ◌++◌, [], length, IfOk};
+ghost use Rattle.std.specs.Prelude.{◌≡◌, ℕ, ◌<◌, ◌∷◌, ◌++◌, [], length, IfOk, IsTrue};
 ghost use Rattle.sat_core.specs.Answer.{IsRightLog};
 ghost use Rattle.sat_core.specs.State.{Derives, clause_at};
 ghost use Rattle.sat_core.specs.Known.{known, IsKnown};
+ghost use Rattle.sat_core.specs.Trimming.{is_trimmed};
 
 use crate::answer::{Link, Log};
 use crate::lists::Lists;
@@ -75,7 +76,8 @@ impl<'a> Clauses<'a> {
     pub fn refutation(&mut self, alloc: Global, start: usize, links: &[Link]) -> Mem<Log>
         requires known { IsKnown self.old }
         requires chain { Derives (known self.old) (record { start = start; links = links.now }) [] }
-        ensures { IfOk result (IsRightLog self.old.inputs.now) }
+        ensures right { IfOk result (IsRightLog self.old.inputs.now) }
+        ensures trimmed { IfOk result (λ log. IsTrue (is_trimmed (length self.old.inputs.now) log)) }
     {
         let empty = [];
         self.learn(start, links, &empty)?;

@@ -1,7 +1,8 @@
 // The laws of the answers: each is the contract of a function without arguments and with an empty body.
 
-ghost use Rattle.std.specs.Prelude.{true, false, [], ◌∷◌};
+ghost use Rattle.std.specs.Prelude.{◌≡◌, true, false, [], ◌∷◌};
 ghost use Rattle.sat_core.specs.Answer.{IsRightModel, IsRightLog, RightLogsRefute, AnswersExclude};
+ghost use Rattle.sat_core.specs.Trimming.{is_trimmed};
 ghost use Rattle.sat_core.specs.Examples.{yes, no, unsatisfiable, one_of_two, link, chain, refutation, refutation_in_two};
 
 /// A list of clauses with a right log is true under no values at all, so a right model and a right log
@@ -23,6 +24,9 @@ pub fn answer_examples()
     ensures no_chains { IsRightLog unsatisfiable [] → ⊥ }
     ensures empty_clause { IsRightLog ([] ∷ []) (chain 0 [] ∷ []) }
     ensures empty_clause_not_cited { IsRightLog ([] ∷ []) [] → ⊥ }
+    ensures trimmed { is_trimmed 3 refutation_in_two ≡ true }
+    ensures not_trimmed { is_trimmed 3 (chain 0 (link (yes 0) 1 ∷ []) ∷ refutation) ≡ false }
+    ensures only_the_last { is_trimmed 3 refutation ≡ true }
     ensures model { IsRightModel 2 one_of_two (true ∷ false ∷ []) }
     ensures both_false { IsRightModel 2 one_of_two (false ∷ false ∷ []) → ⊥ }
     ensures too_short { IsRightModel 2 one_of_two (true ∷ []) → ⊥ }

@@ -4,6 +4,7 @@ ghost use Rattle.std.specs.Prelude.{◌≡◌, ◌*◌, ◌<◌, ◌≤◌, [], 
 ghost use Rattle.std.specs.List.{list_any};
 ghost use Rattle.sat_core.specs.Clause.{names_below, clauses_true, valuation_of};
 ghost use Rattle.sat_core.specs.Answer.{IsRightAnswer, IsRightLog};
+ghost use Rattle.sat_core.specs.Trimming.{is_trimmed, has_trimmed_log};
 ghost use Rattle.sat_core.specs.Trail.{is_true, place_of};
 ghost use Rattle.sat_core.specs.State.{clause_at};
 ghost use Rattle.sat_core.specs.Known.{known};
@@ -201,7 +202,8 @@ impl<'a> Solver<'a> {
     /// The log of what the empty clause needs.
     fn log(&mut self, alloc: Global) -> Mem<Log>
         requires { IsRefuted self.old }
-        ensures { IfOk result (IsRightLog (inputs_of self.old)) }
+        ensures right { IfOk result (IsRightLog (inputs_of self.old)) }
+        ensures trimmed { IfOk result (λ log. IsTrue (is_trimmed (length (inputs_of self.old)) log)) }
     {
         let (start, links) = (self.conflict.start, self.conflict.links.as_slice());
         self.clauses.refutation(alloc, start, links)
@@ -242,7 +244,8 @@ fn free_literal(trail: &Trail, literals: &[NameLit]) -> Option<NameLit>
 /// clauses that it hasn't used for long, doesn't restart, and always ends. The clauses are borrowed.
 pub fn solve(alloc: Global, clauses: &PropClauses, names: u32) -> Mem<Answer>
     requires { IsTrue (names_below names clauses.now) }
-    ensures { IfOk result (IsRightAnswer names clauses.now) }
+    ensures right { IfOk result (IsRightAnswer names clauses.now) }
+    ensures trimmed { IfOk result (λ answer. IsTrue (has_trimmed_log (length clauses.now) answer)) }
 {
     let no_values = [];
     solve_from(alloc, clauses, names, &no_values)
@@ -252,7 +255,8 @@ pub fn solve(alloc: Global, clauses: &PropClauses, names: u32) -> Mem<Answer>
 /// is false. This is a hint, on which only the time and the choice among right answers rest.
 pub fn solve_from(alloc: Global, clauses: &PropClauses, names: u32, first: &[bool]) -> Mem<Answer>
     requires { IsTrue (names_below names clauses.now) }
-    ensures { IfOk result (IsRightAnswer names clauses.now) }
+    ensures right { IfOk result (IsRightAnswer names clauses.now) }
+    ensures trimmed { IfOk result (λ answer. IsTrue (has_trimmed_log (length clauses.now) answer)) }
 {
     let mut solver = Solver::new(alloc, clauses.as_slice(), names, first)?;
     loop {

@@ -1,10 +1,10 @@
 // The log without the chains that its last one doesn't need, in a time that is linear in its length: backwards along
 // the log each chain that is needed marks those that it cites, and what is marked is numbered anew.
 
-ghost use Rattle.std.specs.Prelude.{◌≡◌, ℕ, ◌+◌, ◌<◌, ◌≤◌, ◌&&◌, ◌||◌, nat_lt, length, map, false, slice_index_or, IfOk};
+ghost use Rattle.std.specs.Prelude.{◌≡◌, ℕ, ◌+◌, ◌<◌, ◌≤◌, ◌&&◌, ◌||◌, nat_lt, length, map, false, slice_index_or, IfOk, IsTrue};
 ghost use Rattle.sat_core.specs.Answer.{IsRightLog};
 ghost use Rattle.sat_core.specs.Known.{log_of};
-ghost use Rattle.sat_core.specs.Trimming.{chain_at, is_cited, cites, new_number, new_link, AreNeeded};
+ghost use Rattle.sat_core.specs.Trimming.{chain_at, is_cited, cites, is_trimmed, new_number, new_link, AreNeeded};
 
 use crate::answer::{Chain, Link, Links, Log};
 use crate::clauses::Clauses;
@@ -97,7 +97,8 @@ fn renumbered(
 pub fn trimmed(alloc: Global, clauses: &Clauses<'_>) -> Mem<Log>
     requires log { IsRightLog clauses.now.inputs.now (log_of clauses.now) }
     requires lined { length clauses.now.starts.items ≡ length clauses.now.links }
-    ensures { IfOk result (IsRightLog clauses.now.inputs.now) }
+    ensures right { IfOk result (IsRightLog clauses.now.inputs.now) }
+    ensures trimmed { IfOk result (λ log. IsTrue (is_trimmed (length clauses.now.inputs.now) log)) }
 {
     let needed = needed_chains(alloc, clauses)?;
     let inputs = clauses.inputs.len();

@@ -223,13 +223,6 @@ needed_marked inputs log needed needed' i index step are count marks = record {
     later : (j : ℕ) → i ≤ j → get_or needed' j false ≡ true → get_or needed j false ≡ true
     later j from is = sym (marks j ∙ no (get_or needed j false) (nat_lt j i) (cites inputs j (chain_at log i)) (le-ltb j i from)) ∙ is
 
-pub needed_all : (inputs : ℕ) (log : List Chain) (needed : List Bool) (index : ℕ) → index ≡ 0 → AreNeededFrom inputs log needed index → AreNeeded inputs log needed
-needed_all inputs log needed index e are = record {
-  count = are.count;
-  last = are.last;
-  closed = λ k i below within is cited. are.closed k i below (omega (arith, e)) within is cited;
-}
-
 -- ---- new numbers
 
 pub new_links_more :

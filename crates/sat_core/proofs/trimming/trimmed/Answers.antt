@@ -1,6 +1,8 @@
 use Rattle.std.proofs.Common.{arith, false, sym, ◌∙◌}
 use Rattle.std.proofs.lemmas.List.{get_or_read}
+use Rattle.sat_core.specs.Known.{log_of}
 use Rattle.sat_core.proofs.AboutAnswers.TrimLemmas.{chains_length, trimmed_at, trimmed_passed, trimmed_all}
+use Rattle.sat_core.proofs.AboutAnswers.UseLemmas.{lean_at, lean_passed, lean_all}
 use Rattle.sat_core.proofs.trimming.trimmed.Goals as goal
 use Rattle.sat_core.proofs.trimming.trimmed.Goals.{then-index+in_ok-renumbered+in_ok-push-2, else-index}
 
@@ -15,21 +17,41 @@ get-links-requires c =
     omega (arith, n, c.in_ok-needed.ensures.count, c.requires.lined)
 
 pub loop-index-preserved : goal.loop-index-preserved
-loop-index-preserved c right =
-    elim c.if-index.branch [
-      | then-index+in_ok-renumbered+in_ok-push-2 w ↦ rw w.log-is
-          (trimmed_at c.args.clauses.now right c.in_ok-needed.needed.items c.loop-index.index _ _ c.loop-index.numbers.items _ _ c.loop-index.log.items _ _ _
-          c.requires.lined c.in_ok-needed.ensures (omega arith)
-          (sym (get_or_read c.in_ok-needed.needed.items c.loop-index.index c.index.result.now (omega arith) c.index.ensures false) ∙ w.if-index.true)
-          (c.loop-index.invariant right) c.in_ok-push.ensures.items (omega (arith, c.len-in-loop-index.ensures)) w.as_slice.ensures.value
-          w.index-then-index.ensures w.get-links.ensures w.in_ok-renumbered.ensures.start w.in_ok-renumbered.ensures.links w.in_ok-push-2.ensures.items)
-      | else-index w ↦ rw w.log-is
-          (trimmed_passed _ right.made c.in_ok-needed.needed.items c.loop-index.index _ c.loop-index.numbers.items _ c.loop-index.log.items
-          (c.loop-index.invariant right) c.in_ok-push.ensures.items
-          (sym (get_or_read c.in_ok-needed.needed.items c.loop-index.index c.index.result.now (omega arith) c.index.ensures false) ∙ w.if-index.false))
-    ]
+loop-index-preserved c = record {
+  found = λ right.
+      elim c.if-index.branch [
+        | then-index+in_ok-renumbered+in_ok-push-2 w ↦ rw w.log-is
+            (trimmed_at c.args.clauses.now right c.in_ok-needed.needed.items c.loop-index.index _ _ c.loop-index.numbers.items _ _ c.loop-index.log.items _ _ _
+            c.requires.lined c.in_ok-needed.ensures (omega arith)
+            (sym (get_or_read c.in_ok-needed.needed.items c.loop-index.index c.index.result.now (omega arith) c.index.ensures false) ∙ w.if-index.true)
+            (c.loop-index.invariant.found right) c.in_ok-push.ensures.items (omega (arith, c.len-in-loop-index.ensures)) w.as_slice.ensures.value
+            w.index-then-index.ensures w.get-links.ensures w.in_ok-renumbered.ensures.start w.in_ok-renumbered.ensures.links w.in_ok-push-2.ensures.items)
+        | else-index w ↦ rw w.log-is
+            (trimmed_passed _ right.made c.in_ok-needed.needed.items c.loop-index.index _ c.loop-index.numbers.items _ c.loop-index.log.items
+            (c.loop-index.invariant.found right) c.in_ok-push.ensures.items
+            (sym (get_or_read c.in_ok-needed.needed.items c.loop-index.index c.index.result.now (omega arith) c.index.ensures false) ∙ w.if-index.false))
+      ];
+  lean =
+      elim c.if-index.branch [
+        | then-index+in_ok-renumbered+in_ok-push-2 w ↦ rw w.log-is
+            (lean_at c.args.clauses.now c.in_ok-needed.needed.items c.loop-index.index _ _ c.loop-index.numbers.items _ _ c.loop-index.log.items _ _ _
+            c.requires.lined c.in_ok-needed.ensures (omega arith)
+            (sym (get_or_read c.in_ok-needed.needed.items c.loop-index.index c.index.result.now (omega arith) c.index.ensures false) ∙ w.if-index.true)
+            c.loop-index.invariant.lean c.in_ok-push.ensures.items (omega (arith, c.len-in-loop-index.ensures)) w.as_slice.ensures.value
+            w.index-then-index.ensures w.get-links.ensures w.in_ok-renumbered.ensures.start w.in_ok-renumbered.ensures.links w.in_ok-push-2.ensures.items)
+        | else-index w ↦ rw w.log-is
+            (lean_passed _ _ c.in_ok-needed.needed.items c.loop-index.index _ c.loop-index.numbers.items _ c.loop-index.log.items
+            c.loop-index.invariant.lean (omega (arith, c.in_ok-needed.ensures.count)) c.in_ok-push.ensures.items
+            (sym (get_or_read c.in_ok-needed.needed.items c.loop-index.index c.index.result.now (omega arith) c.index.ensures false) ∙ w.if-index.false))
+      ];
+}
 
-pub returns : goal.returns
-returns c =
+pub returns-clause-right : goal.returns-clause-right
+returns-clause-right c =
     rw c.from_vec.ensures
-    (trimmed_all _ _ c.requires.log c.in_ok-needed.needed.items c.loop-index.index _ _ c.in_ok-needed.ensures (omega (arith, c.in_ok-needed.ensures.count)) (c.loop-index.invariant c.requires.log))
+    (trimmed_all _ _ c.requires.log c.in_ok-needed.needed.items c.loop-index.index _ _ c.in_ok-needed.ensures (omega (arith, c.in_ok-needed.ensures.count)) (c.loop-index.invariant.found c.requires.log))
+
+pub returns-clause-trimmed : goal.returns-clause-trimmed
+returns-clause-trimmed c =
+    rw c.from_vec.ensures
+    (lean_all _ (log_of c.args.clauses.now) c.in_ok-needed.needed.items c.loop-index.index _ _ (omega (arith, c.in_ok-needed.ensures.count)) c.loop-index.invariant.lean)
