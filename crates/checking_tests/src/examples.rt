@@ -13,6 +13,8 @@ pub(crate) enum ExampleName {
     UnequalVariable,
     UnequalVariables,
     NamedProduct,
+    Factored,
+    NameOfConstant,
 }
 
 impl ExampleName {
@@ -28,6 +30,8 @@ impl ExampleName {
             ExampleName::UnequalVariable => UNEQUAL_VARIABLE,
             ExampleName::UnequalVariables => UNEQUAL_VARIABLES,
             ExampleName::NamedProduct => NAMED_PRODUCT,
+            ExampleName::Factored => FACTORED,
+            ExampleName::NameOfConstant => NAME_OF_CONSTANT,
         }
     }
 }
@@ -194,5 +198,37 @@ const NAMED_PRODUCT: Example = Example {
         b"cnf(c12,plain,p,inference(merge,[status(thm),lit(0),lit(1),bind([])],[c11])).",
         b"cnf(c13,plain,~$true,inference(para,[status(thm),from(0,left),into(0,left,[]),bind([]),bind([])],[c12,c4])).",
         b"cnf(c14,plain,$false,inference(refl,[status(thm),lit(0),bind([])],[c13])).",
+    ],
+};
+
+/// A literal that is factored with an equal one.
+const FACTORED: Example = Example {
+    problem: b"cnf(a,axiom,p | p). cnf(b,axiom,~p).",
+    lines: &[
+        b"cnf(c0,axiom,p | p,file('f.p',a)).",
+        b"cnf(c1,axiom,~p,file('f.p',b)).",
+        b"cnf(c2,plain,p | p,inference(clausify,[status(esa),index(0)],[c0])).",
+        b"cnf(c3,plain,~p,inference(clausify,[status(esa),index(1)],[c1])).",
+        b"cnf(c4,plain,~$true | p,inference(factor,[status(thm),lit(0,left),lit(1,left),bind([])],[c2])).",
+        b"cnf(c5,plain,p,inference(refl,[status(thm),lit(0),bind([])],[c4])).",
+        b"cnf(c6,plain,~$true,inference(para,[status(thm),from(0,left),into(0,left,[]),bind([]),bind([])],[c5,c3])).",
+        b"cnf(c7,plain,$false,inference(refl,[status(thm),lit(0),bind([])],[c6])).",
+    ],
+};
+
+/// Components that are named as a constant and a predicate with an argument are: neither is a predicate without arguments.
+const NAME_OF_CONSTANT: Example = Example {
+    problem: b"cnf(a,axiom,p(a)). cnf(b,axiom,~p(a)).",
+    lines: &[
+        b"cnf(c0,axiom,p(a),file('s.p',a)).",
+        b"cnf(c1,axiom,~p(a),file('s.p',b)).",
+        b"cnf(c2,plain,p(a),inference(clausify,[status(esa),index(0)],[c0])).",
+        b"cnf(c3,plain,~p(a),inference(clausify,[status(esa),index(1)],[c1])).",
+        b"cnf(c4,plain,p(a) | ~a,introduced(definition,[component(a)])).",
+        b"cnf(c5,plain,p(a) | ~p,introduced(definition,[component(p)])).",
+        b"cnf(c6,plain,a,inference(split,[status(esa),parts([[0]])],[c2,c4])).",
+        b"cnf(c7,plain,~$true | ~a,inference(para,[status(thm),from(0,left),into(0,left,[]),bind([]),bind([])],[c4,c3])).",
+        b"cnf(c8,plain,~a,inference(refl,[status(thm),lit(0),bind([])],[c7])).",
+        b"cnf(c9,plain,$false,inference(chain,[status(thm),pivots([a])],[c6,c8])).",
     ],
 };

@@ -7,6 +7,8 @@ mod examples;
 #[cfg(test)]
 mod large;
 #[cfg(test)]
+mod near_misses;
+#[cfg(test)]
 mod outcome;
 #[cfg(test)]
 mod rows;

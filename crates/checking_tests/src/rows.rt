@@ -214,47 +214,6 @@ pub(crate) const REFUSED: &[Row] = &[
         ),
         answer: Outcome::Refused(11, Cause::Rule),
     },
-    // Each of these is refused by one word of a definition.
-    Row {
-        example: ExampleName::UnequalVariables,
-        change: Change::Line(
-            2,
-            b"cnf(c2,plain,$false,inference(refl,[status(thm),lit(0),bind([zz,yy])],[c1])).",
-        ),
-        answer: Outcome::Refused(3, Cause::Rule),
-    },
-    Row {
-        example: ExampleName::TwoUnits,
-        change: Change::Line(
-            5,
-            b"cnf(c5,plain,$false,inference(refl,[status(thm),lit(0),bind([]),lit(1)],[c4])).",
-        ),
-        answer: Outcome::Refused(6, Cause::Rule),
-    },
-    Row {
-        example: ExampleName::TwoUnits,
-        change: Change::Line(
-            5,
-            b"cnf(c5,plain,$false,inference(refl,[status(thm,x),lit(0),bind([])],[c4])).",
-        ),
-        answer: Outcome::Refused(6, Cause::Rule),
-    },
-    Row {
-        example: ExampleName::TwoUnits,
-        change: Change::Line(
-            4,
-            b"cnf(c4,plain,~$true,inference(para,[status(thm),from(0,left,7),into(0,left,[]),bind([]),bind([])],[c2,c3])).",
-        ),
-        answer: Outcome::Refused(5, Cause::Rule),
-    },
-    Row {
-        example: ExampleName::TwoUnits,
-        change: Change::Line(
-            4,
-            b"cnf(c4,plain,~$true,inference(para(x),[status(thm),from(0,left),into(0,left,[])],[c2,c3])).",
-        ),
-        answer: Outcome::Refused(5, Cause::Rule),
-    },
 ];
 
 /// More derivations that are refused.

@@ -2,6 +2,7 @@
 
 use crate::examples::TWO_UNITS;
 use crate::large::{NESTED, bound_to, bracketed, nested_text};
+use crate::near_misses::{NOT_TAKEN, TAKEN};
 use crate::outcome::{Outcome, answer_on};
 use crate::rows::{ACCEPTED, Change, REFUSED, REFUSED_TOO, Row};
 use std::alloc::Global;
@@ -29,7 +30,7 @@ fn text_of(rt: &impl Abort, alloc: Global, row: &Row) -> Vec<u8> {
 #[test]
 fn derivations_are_answered(rt: HostRuntime) {
     let alloc = rt.alloc();
-    for rows in [ACCEPTED, REFUSED, REFUSED_TOO] {
+    for rows in [ACCEPTED, TAKEN, REFUSED, REFUSED_TOO, NOT_TAKEN] {
         for (index, row) in rows.iter().enumerate() {
             let text = text_of(&rt, alloc, row);
             let found = answer_on(&rt, alloc, row.example.example().problem, text.as_slice());
