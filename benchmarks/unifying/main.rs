@@ -1,7 +1,7 @@
 // Times `unify` on the pairs of robinson.rs: how many unify apart and together, and the nanoseconds a symbol, of each list's best round.
 #![tactic(auto)]
 
-use fol_base::Term;
+use fol_base::{Term, Terms};
 use plain_types::Mem;
 use sample_numbers::Random;
 use sample_terms::{binary, constant, unary};
@@ -150,6 +150,42 @@ fn unifying(rt: &impl Abort, alloc: Global, pairs: Vec<Pair>) -> Vec<Pair> {
     kept
 }
 
+/// A full binary tree of that many levels, all leaves of which are a.
+fn ground_tree(rt: &impl Abort, alloc: Global, levels: u32) -> Term {
+    let mut made = constant(alloc, A);
+    for _ in 0..levels {
+        let other = made.copy(alloc).expect(rt, "memory");
+        made = binary(alloc, F, made, other).expect(rt, "memory");
+    }
+    made
+}
+
+/// X0 with `f(X0,t)`, where t has no variable: X0 would contain itself.
+fn contained(rt: &impl Abort, alloc: Global, levels: u32) -> Pair {
+    let tree = ground_tree(rt, alloc, levels);
+    Pair { left: Term::Var(0), right: binary(alloc, F, Term::Var(0), tree).expect(rt, "memory") }
+}
+
+/// X0 with one symbol over so many other variables.
+fn bound_to_variables(rt: &impl Abort, alloc: Global, count: u32) -> Pair {
+    let mut arguments = Terms::new(alloc);
+    for index in 0..count {
+        arguments.push(Term::Var(index.saturating_add(1))).expect(rt, "memory");
+    }
+    Pair { left: Term::Var(0), right: Term::App(G, arguments) }
+}
+
+/// A pair so often that a round is long beside the clock's own time.
+fn repeated(rt: &impl Abort, alloc: Global, pair: Pair, times: u32) -> Vec<Pair> {
+    let mut made = Vec::new(alloc);
+    for _ in 0..times {
+        let left = pair.left.copy(alloc).expect(rt, "memory");
+        let right = pair.right.copy(alloc).expect(rt, "memory");
+        made.push(Pair { left, right }).expect(rt, "memory");
+    }
+    made
+}
+
 fn row(rt: &HostRuntime, name: &str, pairs: &[Pair], apart: bool) -> io::Result<()> {
     let mut symbols: u64 = 0;
     for pair in pairs {
@@ -182,5 +218,14 @@ fn main(rt: HostRuntime) -> io::Result<()> {
     let mut families = Vec::new(alloc);
     families.push(Pair { left: family(&rt, alloc, 200, false), right: family(&rt, alloc, 200, true) }).expect(&rt, "memory");
     row(&rt, "family 200", families.as_slice(), true)?;
+    let small = repeated(&rt, alloc, contained(&rt, alloc, 0), 100);
+    row(&rt, "X0 with f(X0,a)", small.as_slice(), false)?;
+    let large = repeated(&rt, alloc, contained(&rt, alloc, 4), 100);
+    row(&rt, "X0 with f(X0,t), t of 31 symbols", large.as_slice(), false)?;
+    for count in [8, 15, 16, 100, 1_000] {
+        let many = repeated(&rt, alloc, bound_to_variables(&rt, alloc, count), 10);
+        println!(rt; "{count} variables:")?;
+        row(&rt, "X0 with g of them", many.as_slice(), false)?;
+    }
     Ok(())
 }
