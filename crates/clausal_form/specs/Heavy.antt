@@ -1,6 +1,6 @@
 -- Literals of over MOST_SYMBOLS symbols in the clauses of a matrix, and of a normal form as it is written. A product with a member that has no
 -- clauses has none itself, and so no such literal.
-use Rattle.std.specs.Prelude.{ℕ, ◌+◌, nat_lt, Bool, true, false, ◌&&◌, ◌||◌}
+use Rattle.std.specs.Prelude.{◌+◌, nat_lt, Bool, true, false, ◌&&◌, ◌||◌}
 use Rattle.tptp_tree.specs.Term.{term_size, terms_size}
 use Rattle.tptp_tree.specs.Formula.{FormulaTree, truth, falsity, predicate, equation, negation, conjunction, disjunction, connected, quantified, FormulaTrees, no_formulas, formula_then}
 use Rattle.fol_base.specs.Clause.{literal_size}

@@ -1,5 +1,5 @@
 -- A literal that is too heavy, in a part that has clauses, makes a clause of the formula too heavy: one of its own, or one that defines a name.
-use Rattle.std.proofs.Common.{◌≡◌, ℕ, ◌+◌, ◌<◌, ◌≤◌, ◌⊎◌, inl, inr, Bool, true, false, not, ◌&&◌, ◌||◌, List, [], ◌∷◌, ◌++◌, map, length, refl, ap, sym, ◌∙◌, arith}
+use Rattle.std.proofs.Common.{◌≡◌, ℕ, ◌+◌, ◌<◌, ◌≤◌, ◌⊎◌, inl, inr, Bool, true, false, not, ◌&&◌, ◌||◌, List, [], ◌∷◌, ◌++◌, map, length, refl, ap, ◌∙◌, arith}
 use Rattle.std.specs.Prelude.{nat_lt, if◌then◌else◌}
 use Rattle.std.specs.List.{list_any}
 use Rattle.std.proofs.lemmas.Bool.{and_parts, ltb-true, lt-ltb}
@@ -13,7 +13,7 @@ use Rattle.fol_base.specs.declared.limits.TheConstants.{MOST_SYMBOLS}
 use Rattle.fol_base.proofs.AboutTerms.TreeLemmas.{tree_size-positive}
 use Rattle.signature.specs.declared.symbol.Symbol.{Symbol}
 use Rattle.signature.specs.Environment.{Environment, term_in_force, term_under, terms_under}
-use Rattle.signature.specs.Clausal.{SymbolNumbers, Made, Worked, Scope, Literals, all_pairs, is_large, named, product, atom_literal, scope_of, makes_variables}
+use Rattle.signature.specs.Clausal.{SymbolNumbers, Made, Worked, Scope, Literals, all_pairs, is_large, named, product, scope_of, makes_variables}
 use Rattle.skolem.specs.Matrix.{MatrixTree, truth as true_matrix, falsity as false_matrix, literal, conjunction as all_of, disjunction as some_of, MatrixTrees, no_matrices, matrix_then}
 use Rattle.skolem.specs.MatrixClauses.{matrix_clauses, listed_matrices, product_of_matrices}
 use Rattle.skolem.specs.Skolemized.{Skolemized, skolemized, skolemized_list}

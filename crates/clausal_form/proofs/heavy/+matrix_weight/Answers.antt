@@ -1,4 +1,4 @@
-use Rattle.std.proofs.Common.{arith, ap, refl}
+use Rattle.std.proofs.Common.{arith, ap}
 use Rattle.skolem.specs.Matrix.{matrix_size, matrices_size, matrices_of}
 use Rattle.skolem.specs.Shape.{matrix_tree}
 use Rattle.clausal_form.proofs.AboutWriting.AgendaLemmas.{member-size}

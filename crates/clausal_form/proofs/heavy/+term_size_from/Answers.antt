@@ -1,6 +1,5 @@
 use Rattle.std.proofs.Common.{arith}
 use Rattle.tptp_tree.proofs.SizeLemmas.{term-item-is}
-use Rattle.clausal_form.proofs.AboutCounts.WeightLemmas.{sizes-then, sizes-end}
 use Rattle.clausal_form.proofs.heavy.+term_size_from.Goals as goal
 
 pub terms_size_from-term_size_from-total-requires : goal.terms_size_from-term_size_from-total-requires
