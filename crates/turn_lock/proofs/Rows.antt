@@ -1,9 +1,9 @@
 -- Worked rows of the definitions, over entries that are their own keys.
-use Rattle.std.proofs.Common.{◌≡◌, ℕ, zero, suc, ◌<◌, ◌⊎◌, List, [], ◌∷◌, Some, get_or, slice_get, refl, sym, ◌∙◌, subst, inl, inr, ⊎_elim, arith}
+use Rattle.std.proofs.Common.{◌≡◌, ℕ, zero, suc, ◌<◌, ◌⊎◌, List, [], ◌∷◌, Some, get_or, slice_get, refl, ap, sym, ◌∙◌, subst, inl, inr, ⊎_elim, arith}
 use Rattle.std.specs.List.{Contains}
 use Rattle.std.proofs.lemmas.Bool.{cases_eq}
 use Rattle.std.proofs.lemmas.Option.{same_Some, none-some}
-use Rattle.turn_lock.specs.History.{longer, added_places, OwnsAdded, OwnsKeys, AreKeysApart, AddsOwnKeys}
+use Rattle.turn_lock.specs.History.{added_places, AreApart, OwnsAdded, OwnsKeys, AreKeysApart, AddsOwnKeys}
 use Rattle.turn_lock.proofs.Lists.{one_place}
 
 abbrev two : List ℕ
@@ -11,10 +11,6 @@ two = 7 ∷ 8 ∷ []
 
 abbrev four : List ℕ
 four = 7 ∷ 8 ∷ 9 ∷ 9 ∷ []
-
--- of two that are equally long
-first_is_longer : longer two (1 ∷ 2 ∷ []) ≡ two
-first_is_longer = refl
 
 none_added : added_places two two ≡ []
 none_added = refl
@@ -47,6 +43,42 @@ owns_both_added = record {
 
 pub owns_one_added : OwnsAdded two four (2 ∷ []) → ⊥
 owns_one_added owns = let place = owns.all 3 (omega arith) (omega arith) in omega (arith, one_place 2 3 place)
+
+-- place 0 stood already
+pub owns_an_old : OwnsAdded two four (0 ∷ 2 ∷ 3 ∷ []) → ⊥
+owns_an_old owns = let old = owns.added 0 (0, omega arith, refl) in omega (arith, old.0)
+
+-- the history ends before place 4
+pub owns_one_beyond : OwnsAdded two four (2 ∷ 3 ∷ 4 ∷ []) → ⊥
+owns_one_beyond owns = let beyond = owns.added 4 (2, omega arith, refl) in omega (arith, beyond.1)
+
+pub owns_one_twice : OwnsAdded two four (2 ∷ 3 ∷ 3 ∷ []) → ⊥
+owns_one_twice owns = owns.once 1 2 0 (omega arith) (omega arith) refl
+
+pub begins_otherwise : OwnsAdded (1 ∷ 8 ∷ []) four (2 ∷ 3 ∷ []) → ⊥
+begins_otherwise owns = let first : 1 ≡ 7 = ap (λ (l : List ℕ). get_or l 0 0) owns.begins.1 in omega (arith, first)
+
+pub apart : AreApart (0 ∷ 2 ∷ []) (1 ∷ 3 ∷ [])
+apart k has also = ⊎_elim
+    (λ (e : 0 ≡ k). ⊎_elim (λ (f : 1 ≡ k). omega (arith, e, f)) (λ (f : 3 ≡ k). omega (arith, e, f)) (one_of_two 1 3 k also))
+    (λ (e : 2 ≡ k). ⊎_elim (λ (f : 1 ≡ k). omega (arith, e, f)) (λ (f : 3 ≡ k). omega (arith, e, f)) (one_of_two 1 3 k also))
+    (one_of_two 0 2 k has)
+
+-- both have the 2
+pub not_apart : AreApart (0 ∷ 2 ∷ []) (1 ∷ 2 ∷ []) → ⊥
+not_apart apart = apart 2 (1, omega arith, refl) (1, omega arith, refl)
+
+-- both fives are owned, and nobody else's entry is a 5
+pub keys_owned : OwnsKeys (λ n. n) (5 ∷ 6 ∷ 5 ∷ []) (0 ∷ 2 ∷ [])
+keys_owned i zero a b has at_i at_j same = (0, omega arith, refl)
+keys_owned i (suc zero) a b has at_i at_j same =
+    let six = same_Some 6 b at_j in
+    ⊎_elim
+    (λ e. let five = same_Some 5 a (subst (λ (k : ℕ). slice_get (5 ∷ 6 ∷ 5 ∷ []) k ≡ Some a) (sym e) at_i) in absurd (omega (arith, five, six, same)))
+    (λ e. let five = same_Some 5 a (subst (λ (k : ℕ). slice_get (5 ∷ 6 ∷ 5 ∷ []) k ≡ Some a) (sym e) at_i) in absurd (omega (arith, five, six, same)))
+    (one_of_two 0 2 i has)
+keys_owned i (suc (suc zero)) a b has at_i at_j same = (1, omega arith, refl)
+keys_owned i (suc (suc (suc j))) a b has at_i at_j same = absurd (none-some b at_j)
 
 pub keys_apart : AreKeysApart (λ n. n) (5 ∷ 6 ∷ 5 ∷ []) (0 ∷ 2 ∷ []) (1 ∷ [])
 keys_apart i j a b has also at_i at_j same =

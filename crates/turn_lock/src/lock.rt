@@ -186,15 +186,15 @@ impl<S: Historied> TurnLock<S> {
         ensures start { (result.start ≡ pass.start) × (other.start ≡ pass.start) }
         ensures origin { (result.origin ≡ pass.origin) × (other.origin ≡ pass.origin) }
     {
-        let Pass { mut seat } = pass;
+        let Pass { seat: mut kept } = pass;
         let Pass { seat: mut spent } = other;
         let shared = &self.table.shared;
         // A join tells nothing: what the rule says of the two views, and then of the joined one, is learnt by loads.
-        shared.load::<Look>(&mut seat, LENGTH);
+        shared.load::<Look>(&mut kept, LENGTH);
         shared.load::<Look>(&mut spent, LENGTH);
-        shared.join_seat::<Unite>(&mut seat, spent);
-        shared.load::<Look>(&mut seat, LENGTH);
-        Pass { seat }
+        shared.join_seat::<Unite>(&mut kept, spent);
+        shared.load::<Look>(&mut kept, LENGTH);
+        Pass { seat: kept }
     }
 
     /// Takes the lock apart, with a pass that has all its shares, so that no other turn is under way. The history is that with which the lock was made, followed by entries at places that the pass owns.
