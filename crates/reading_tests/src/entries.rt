@@ -205,7 +205,7 @@ fn keeps_names_roles_and_ranges(rt: HostRuntime) {
     let read = answer(&rt, alloc, text, 9, 1).ok().expect(&rt, "an entry");
     assert!(rt; read.annotated.name.as_slice() == b"012".as_slice());
     assert!(rt; read.annotated.clause && read.annotated.role == Role::NegatedConjecture);
-    assert!(rt; read.annotated.file.is_empty() && read.annotated.place == 16);
+    assert!(rt; read.annotated.file.as_slice().is_empty() && read.annotated.place == 16);
     assert!(rt; (read.notes_start, read.notes_end, read.next) == (17, 21, 23));
 }
 

@@ -11,7 +11,7 @@ use Rattle.tptp_token.specs.declared.token.LexFault.{LexFault}
 use Rattle.tptp_token.specs.Words.{Word, name_of}
 use Rattle.tptp_tree.specs.Entries.{NamePhrase, names_meant, is_conjecture}
 use Rattle.tptp_reader.specs.Annotating.{IsReading, IsFaultAt}
-use Rattle.tptp_reader.specs.TellingEntries.{IsEndFault}
+use Rattle.tptp_reader.specs.Faults.{IsEndFault}
 use Rattle.tptp_reader.specs.declared.cause.ReadCause.{ReadCause}
 use Rattle.tptp_reader.specs.declared.cause.ReadCause.TheVariants.{Syntax, SecondConjecture, SelectionMissing, IncludeDepth, TooLong, Load}
 use Rattle.tptp_reader.specs.declared.entry.Read.{Read}

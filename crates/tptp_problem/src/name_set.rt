@@ -1,7 +1,10 @@
-// Sets of names, in which each is found in the time of reading it.
+// Sets of names, in which each is found in the time of reading it, but for names made to collide.
 
-ghost use Rattle.std.specs.Prelude.{◌≡◌, ℕ, List, IfOk};
+ghost use Rattle.std.specs.Prelude.{◌≡◌, ◌&&◌, ℕ, not, List, IfOk};
+ghost use Rattle.std.specs.HashSet.{contains};
 ghost use Rattle.tptp_token.specs.Spelling.{is_one_of};
+ghost use Rattle.tptp_reader.specs.declared.source.Name.{Name};
+ghost use Rattle.tptp_reader.specs.Bound.{bytes_of, same_name};
 ghost use Rattle.tptp_problem.specs.NameSets.{HasNames, names_among};
 
 use plain_types::{Mem, Text};
@@ -26,22 +29,22 @@ pub fn set_of<'a>(alloc: Global, names: &'a [Text]) -> Mem<NameSet<'a>>
     Ok(set)
 }
 
-/// The set of the formulas' names.
-pub fn names_of<'a>(alloc: Global, formulas: &'a [Annotated]) -> Mem<NameSet<'a>>
-    ensures { IfOk result (HasNames (names_among formulas.now)) }
+/// Takes the names of formulas out of a set.
+pub fn take_out<'a>(set: &mut NameSet<'a>, formulas: &'a [Annotated])
+    ensures { (n : Name) → contains same_name set.new n
+        ≡ (contains same_name set.old n && not (is_one_of (names_among formulas.now) (bytes_of n))) }
 {
-    let mut set = HashSet::new(alloc);
     for formula in formulas {
-        set.insert(Name {
+        set.remove(&Name {
             bytes: formula.name.as_slice(),
-        })?;
+        });
     }
-    Ok(set)
 }
 
 /// Whether a name is one of a set.
 pub fn has_name<'a>(set: &NameSet<'a>, bytes: &'a [u8]) -> bool
-    ensures { (names : List (List ℕ)) → HasNames names set.now → result ≡ is_one_of names bytes.now }
+    ensures found { (n : Name) → bytes_of n ≡ bytes.now → result ≡ contains same_name set.now n }
+    ensures listed { (names : List (List ℕ)) → HasNames names set.now → result ≡ is_one_of names bytes.now }
 {
     set.contains(&Name { bytes })
 }

@@ -18,11 +18,10 @@ use crate::reading::Reading;
 use crate::selection::Selection;
 use crate::source::Source;
 use outside::{Library, LoadFault};
-use plain_types::Text;
 use std::alloc::Global;
 use tptp_reader::{ReadCause, ReadFault, annotated};
 use tptp_token::{MOST_TEXT_BYTES, tokens};
-use tptp_tree::{Annotated, AnnotatedList, MOST_NESTING, Problem};
+use tptp_tree::{Annotated, AnnotatedList, FileName, MOST_NESTING, Problem};
 
 /// Reads the problem of a file: its formulas after includes and selections, in reading order.
 pub fn read_problem<L: Library>(
@@ -76,8 +75,9 @@ impl Reading<'_> {
     {
         let bytes = self.load(alloc, library, name)?;
         let lexed = tokens(alloc, bytes.as_slice())?;
+        let shared = FileName::from_slice(alloc, name.as_bytes())?;
         let source = Source {
-            name: &*name,
+            name: &shared,
             bytes: bytes.as_slice(),
             lexed: &lexed,
             around: &*around,
@@ -117,7 +117,7 @@ impl Reading<'_> {
             }
         }
         match source.lexed.fault {
-            Some(fault) => Err(source.lexical_fault(alloc, fault)),
+            Some(_) => Err(source.end_fault(alloc)),
             None => Ok(formulas),
         }
     }
@@ -199,13 +199,13 @@ impl Reading<'_> {
             Err(ReadFault::At(cause, _, place)) => Err(ReadFault::at(
                 alloc,
                 cause,
-                source.name,
+                source.name.as_slice(),
                 place,
             )),
             Ok(read) => {
                 let next = read.next;
                 let mut formula = read.annotated;
-                formula.file = Text::from_slice(alloc, source.name.as_bytes())?;
+                formula.file = source.name.share()?;
                 if source.counts_as_conjecture(&formula) {
                     self.met = true;
                 }
@@ -239,8 +239,18 @@ impl Reading<'_> {
                 self.loaded += bytes.len();
                 Ok(bytes)
             }
-            Err(LoadFault::TooLong) => Err(ReadFault::at(alloc, ReadCause::TooLong, name, 0)),
-            Err(LoadFault::Failed) => Err(ReadFault::at(alloc, ReadCause::Load, name, 0)),
+            Err(LoadFault::TooLong) => Err(ReadFault::at(
+                alloc,
+                ReadCause::TooLong,
+                name.as_bytes(),
+                0,
+            )),
+            Err(LoadFault::Failed) => Err(ReadFault::at(
+                alloc,
+                ReadCause::Load,
+                name.as_bytes(),
+                0,
+            )),
             Err(LoadFault::NoMemory) => Err(ReadFault::NoMemory),
         }
     }

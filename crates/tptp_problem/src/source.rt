@@ -1,11 +1,10 @@
 // The text of a file, by its tokens.
 
-ghost use Rattle.std.specs.Prelude.{◌≡◌, ◌+◌, ◌<◌, ◌≤◌, ◌^◌, ◌&&◌, [], ◌∷◌, length, drop, true, IfOk, IsSome, MatchOption, slice_get, option_map, Some};
+ghost use Rattle.std.specs.Prelude.{◌≡◌, ◌+◌, ◌<◌, ◌≤◌, ◌^◌, ◌&&◌, [], ◌∷◌, length, drop, true, IfOk, IsSome, MatchOption, slice_get, option_map};
 ghost use Rattle.tptp_token.specs.Words.{token_name};
 ghost use Rattle.tptp_token.specs.TextTokens.{lexeme_of};
 ghost use Rattle.tptp_tree.specs.Entries.{is_conjecture as conjecture_is};
-ghost use Rattle.tptp_reader.specs.Faults.{IsFaultWhere};
-ghost use Rattle.tptp_reader.specs.TellingEntries.{IsEndFault};
+ghost use Rattle.tptp_reader.specs.Faults.{IsFaultWhere, IsEndFault};
 ghost use Rattle.tptp_problem.specs.Formulas.{counts as counts_within, conjecture_begun, begun_counts};
 ghost use Rattle.tptp_problem.specs.Includes.{is_include as include_is};
 ghost use Rattle.tptp_problem.specs.Problem.{start_of};
@@ -14,14 +13,14 @@ ghost use Rattle.tptp_problem.specs.Shape.{lexemes_told, selections};
 use crate::selection::Selection;
 use plain_types::Mem;
 use std::alloc::Global;
-use tptp_reader::{ReadCause, ReadFault};
-use tptp_token::{Kind, LexFault, Lexed, MOST_TEXT_BYTES, TextToken};
-use tptp_tree::{Annotated, Role};
+use tptp_reader::{ReadCause, ReadFault, fault_at_end};
+use tptp_token::{Kind, Lexed, MOST_TEXT_BYTES, TextToken};
+use tptp_tree::{Annotated, FileName, Role};
 
 /// A file that was loaded, by its name, bytes and tokens, with the selections around it, the outermost first.
 #[derive(Clone, Copy)]
 pub struct Source<'a> {
-    pub name: &'a str,
+    pub name: &'a FileName,
     pub bytes: &'a [u8],
     pub lexed: &'a Lexed,
     pub around: &'a [Selection<'a, 'a>],
@@ -106,7 +105,7 @@ impl<'a> Source<'a> {
         ensures { IsFaultWhere
             (λ c f p. (c ≡ cause) × (f ≡ self.now.name.now) × (p ≡ start_of (slice_get self.now.lexed.now.tokens at))) result }
     {
-        ReadFault::at(alloc, cause, self.name, self.place_of(at))
+        ReadFault::at(alloc, cause, self.name.as_slice(), self.place_of(at))
     }
 
     /// The fault behind the last token: that of the tokens, or else the end of the text.
@@ -115,26 +114,8 @@ impl<'a> Source<'a> {
         ensures { IsFaultWhere
             (λ c f p. (f ≡ self.now.name.now) × IsEndFault self.now.lexed.now.fault (length self.now.bytes.now) c p) result }
     {
-        match self.lexed.fault {
-            Some(fault) => self.lexical_fault(alloc, fault),
-            None => ReadFault::at(alloc, ReadCause::Syntax, self.name, self.bytes.len() as u32),
-        }
-    }
-
-    /// The fault of the tokens.
-    pub fn lexical_fault(&self, alloc: Global, fault: LexFault) -> ReadFault
-        ensures { IsFaultWhere
-            (λ c f p. (f ≡ self.now.name.now) × IsEndFault (Some fault) (length self.now.bytes.now) c p) result }
-    {
-        match fault {
-            LexFault::BadByte(place) => ReadFault::at(alloc, ReadCause::BadByte, self.name, place),
-            LexFault::Unclosed(place) => ReadFault::at(
-                alloc,
-                ReadCause::Unclosed,
-                self.name,
-                place,
-            ),
-        }
+        let (cause, place) = fault_at_end(self.lexed.fault, self.bytes.len() as u32);
+        ReadFault::at(alloc, cause, self.name.as_slice(), place)
     }
 
     /// Where a token begins in the text; 0 behind the last one.

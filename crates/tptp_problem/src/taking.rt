@@ -4,7 +4,7 @@ ghost use Rattle.std.specs.Prelude.{◌≡◌, ◌++◌, [], ◌∷◌, map, IfO
 ghost use Rattle.tptp_problem.specs.Formulas.{placed, selects as selects_name, selected, missing as missing_among};
 ghost use Rattle.tptp_problem.specs.Shape.{selections};
 
-use crate::name_set::{has_name, names_of};
+use crate::name_set::{has_name, set_of, take_out};
 use crate::selection::Selection;
 use plain_types::Mem;
 use std::alloc::Global;
@@ -18,16 +18,17 @@ impl<'a, 'k> Selection<'a, 'k> {
         self.names.is_empty() || has_name(self.known, name)
     }
 
-    /// The index of its first name that none of the formulas has.
+    /// The index of its first name that none of the formulas has. It takes memory for its own names alone.
     pub fn missing(&self, alloc: Global, formulas: &[Annotated]) -> Mem<Option<usize>>
         ensures { IfOk result (λ index. index ≡ missing_among self.now.names.now (map placed formulas.now)) }
     {
         if self.names.is_empty() {
             return Ok(None);
         }
-        let present = names_of(alloc, formulas)?;
+        let mut absent = set_of(alloc, self.names)?;
+        take_out(&mut absent, formulas);
         for (index, name) in self.names.iter().enumerate() {
-            if !has_name(&present, name.as_slice()) {
+            if has_name(&absent, name.as_slice()) {
                 return Ok(Some(index));
             }
         }

@@ -1,5 +1,5 @@
 -- What reading an annotated formula from a text's tokens answers.
-use Rattle.std.specs.Prelude.{◌≡◌, ◌⊎◌, ⊤, ℕ, ◌+◌, ◌≤◌, ◌++◌, List, [], drop, length, Some, None, IfSome, slice_get}
+use Rattle.std.specs.Prelude.{◌≡◌, ◌⊎◌, ℕ, ◌+◌, ◌≤◌, ◌++◌, List, [], drop, length, Some, None, IfSome, slice_get}
 use Rattle.tptp_token.specs.Lexemes.{lexemes_of}
 use Rattle.tptp_token.specs.declared.token.Token.{Token}
 use Rattle.tptp_token.specs.declared.token.Lexed.{Lexed}
@@ -7,11 +7,11 @@ use Rattle.tptp_token.specs.declared.token.LexFault.TheVariants.{BadByte as BadB
 use Rattle.tptp_tree.specs.Entries.{AnnotatedPhrase, IsAnnotatedOf}
 use Rattle.tptp_tree.specs.Causes.{Refusal, syntax, free_variable, role_not_taken, too_deep, left_out}
 use Rattle.tptp_reader.specs.Placed.{IsReadFrom, IsRefusedFrom, RunsOutFrom}
+use Rattle.tptp_reader.specs.Faults.{IsFaultWhere}
 use Rattle.tptp_reader.specs.Shape.{form_of, tree_of}
 use Rattle.tptp_reader.specs.declared.cause.ReadCause.{ReadCause}
 use Rattle.tptp_reader.specs.declared.cause.ReadCause.TheVariants.{BadByte, Unclosed, Syntax, FreeVariable, Role, SecondConjecture, SelectionMissing, IncludeDepth, TooLong, Nesting, Inappropriate, Load}
 use Rattle.tptp_reader.specs.declared.cause.ReadFault.{ReadFault}
-use Rattle.tptp_reader.specs.declared.cause.ReadFault.TheVariants.{NoMemory, At}
 use Rattle.tptp_reader.specs.declared.entry.Read.{Read}
 
 -- The formula that begins at the token `first` is read, within that limit of nesting. It is followed by the token `next`; its
@@ -65,7 +65,7 @@ IsFaultAt limit bytes lexed first Nesting place = StandsAt limit bytes lexed.tok
 IsFaultAt limit bytes lexed first (Inappropriate form) place = StandsAt limit bytes lexed.tokens first (left_out (form_of form)) place
 IsFaultAt limit bytes lexed first Load place = ⊥
 
--- The fault of the formula that begins at the token `first`. Want of memory may be answered anywhere.
+-- The fault of the formula that begins at the token `first`.
 abbrev pub IsFaultOf : ℕ → List ℕ → Lexed → ℕ → ReadFault → Type 0
-IsFaultOf limit bytes lexed first NoMemory = ⊤
-IsFaultOf limit bytes lexed first (At cause file place) = (file ≡ []) × IsFaultAt limit bytes lexed first cause place
+IsFaultOf limit bytes lexed first fault =
+    IsFaultWhere (λ cause file place. (file ≡ []) × IsFaultAt limit bytes lexed first cause place) fault

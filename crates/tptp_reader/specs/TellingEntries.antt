@@ -1,5 +1,5 @@
 -- What the functions that read an entry say of the tokens before and after.
-use Rattle.std.specs.Prelude.{◌≡◌, ◌<◌, ◌+◌, ⊤, ℕ, Bool, true, false, List, [], ◌∷◌, ◌++◌, drop, length, codes, Option, None, Some, slice_get}
+use Rattle.std.specs.Prelude.{◌≡◌, ◌<◌, ◌+◌, ⊤, ℕ, Bool, true, false, List, [], ◌∷◌, ◌++◌, drop, length, codes, Some, slice_get}
 use Rattle.tptp_token.specs.Lexemes.{Lexeme, lexeme}
 use Rattle.tptp_token.specs.declared.token.Kind.TheVariants.{Lower, Mark}
 use Rattle.tptp_tree.specs.Formula.{FormulaTree}
@@ -7,6 +7,7 @@ use Rattle.tptp_tree.specs.Brackets.{are_balanced}
 use Rattle.tptp_tree.specs.Entries.{NamePhrase, name_lexeme, name_meant, is_right_name, role_of, language_word, Body, is_clause_body, body_lexemes, body_meant, AnnotatedPhrase, is_right_annotated, notes_lexemes, annotated_lexemes, IsAnnotatedOf}
 use Rattle.tptp_tree.specs.Causes.{outermost}
 use Rattle.tptp_tree.specs.declared.role.Role.{Role}
+use Rattle.tptp_reader.specs.Faults.{IsEndFault}
 use Rattle.tptp_reader.specs.Shape.{tree_of}
 use Rattle.tptp_reader.specs.Machine.{Symbol, a_name, a_role, a_clause, an_annotated, end_of_body, before_body, formula_symbols, read_up_to}
 use Rattle.tptp_reader.specs.Telling.{lexemes, IsNext, Leads, told}
@@ -14,14 +15,12 @@ use Rattle.tptp_reader.specs.declared.source.Reader.{Reader}
 use Rattle.tptp_reader.specs.declared.entry.Read.{Read}
 use Rattle.tptp_token.specs.declared.token.Token.{Token}
 use Rattle.tptp_token.specs.declared.token.Lexed.{Lexed}
-use Rattle.tptp_token.specs.declared.token.LexFault.{LexFault}
-use Rattle.tptp_token.specs.declared.token.LexFault.TheVariants.{BadByte, Unclosed}
 use Rattle.tptp_reader.specs.declared.cause.Halt.{Halt}
 use Rattle.tptp_reader.specs.declared.cause.Halt.TheVariants.{NoMemory, At, Ended}
 use Rattle.tptp_reader.specs.declared.cause.Refusal.{Refusal as ToldRefusal}
 use Rattle.tptp_reader.specs.declared.cause.Refusal.TheVariants.{Syntax, FreeVariable, Role as RoleRefusal, Nesting, Inappropriate}
 use Rattle.tptp_reader.specs.declared.cause.ReadCause.{ReadCause}
-use Rattle.tptp_reader.specs.declared.cause.ReadCause.TheVariants.{BadByte as BadByteCause, Unclosed as UnclosedCause, Syntax as SyntaxCause, FreeVariable as FreeVariableCause, Role as RoleCause, Nesting as NestingCause, Inappropriate as InappropriateCause}
+use Rattle.tptp_reader.specs.declared.cause.ReadCause.TheVariants.{Syntax as SyntaxCause, FreeVariable as FreeVariableCause, Role as RoleCause, Nesting as NestingCause, Inappropriate as InappropriateCause}
 use Rattle.tptp_reader.specs.declared.cause.ReadFault.{ReadFault}
 use Rattle.tptp_reader.specs.declared.cause.ReadFault.TheVariants.{NoMemory as NoFaultMemory, At as FaultAt}
 
@@ -81,12 +80,6 @@ cause_told FreeVariable = FreeVariableCause
 cause_told RoleRefusal = RoleCause
 cause_told Nesting = NestingCause
 cause_told (Inappropriate form) = InappropriateCause form
-
--- at the end of the tokens: the fault of the tokens, or else the end of the text
-abbrev pub IsEndFault : Option LexFault → ℕ → ReadCause → ℕ → Type 0
-IsEndFault None end cause place = (cause ≡ SyntaxCause) × (place ≡ end)
-IsEndFault (Some (BadByte n)) end cause place = (cause ≡ BadByteCause) × (place ≡ n)
-IsEndFault (Some (Unclosed n)) end cause place = (cause ≡ UnclosedCause) × (place ≡ n)
 
 -- the cause and the place by where and why reading halted
 abbrev pub IsCauseBy : List ℕ → Lexed → Halt → ReadCause → ℕ → Type 0

@@ -16,7 +16,7 @@ use std::marker::Model;
 const SCANNED: usize = 16;
 
 /// The variables that are bound, which contracts see as the list of their names, the innermost last. Whether a name is one of
-/// them is found in the time of reading it, however many there are.
+/// them is found in the time of reading it, however many there are, but for names made to collide in the table.
 #[derive(Drop)]
 pub struct Bound<'a> {
     names: Vec<Name<'a>>,

@@ -1,10 +1,11 @@
 // Why a text isn't read, and where.
 
 ghost use Rattle.std.specs.Prelude.{◌≡◌};
-ghost use Rattle.tptp_reader.specs.Faults.{IsFaultWhere};
+ghost use Rattle.tptp_reader.specs.Faults.{IsFaultWhere, IsEndFault};
 
 use plain_types::{NoMemory, Text};
 use std::alloc::{AllocError, AllocFailed, Global};
+use tptp_token::LexFault;
 
 /// A form of TPTP (Sutcliffe 2017) that this product leaves out by name.
 #[derive(Clone, Copy, Debug, PartialEq, Eq)]
@@ -59,13 +60,25 @@ pub enum ReadFault {
 
 impl ReadFault {
     /// A fault in the file of that name.
-    pub fn at(alloc: Global, cause: ReadCause, file: &str, place: u32) -> ReadFault
+    pub fn at(alloc: Global, cause: ReadCause, file: &[u8], place: u32) -> ReadFault
         ensures { IsFaultWhere (λ c f p. (c ≡ cause) × (f ≡ file.now) × (p ≡ place)) result }
     {
-        match Text::from_slice(alloc, file.as_bytes()) {
+        match Text::from_slice(alloc, file) {
             Ok(name) => ReadFault::At(cause, name, place),
             Err(_) => ReadFault::NoMemory,
         }
+    }
+}
+
+/// The cause and the place of a fault behind the last token of a text: those of the tokens' own fault, or else `Syntax` at the
+/// end of the text, which is handed in as its length in bytes.
+pub fn fault_at_end(fault: Option<LexFault>, end: u32) -> (ReadCause, u32)
+    ensures { IsEndFault fault end result.0 result.1 }
+{
+    match fault {
+        Some(LexFault::BadByte(place)) => (ReadCause::BadByte, place),
+        Some(LexFault::Unclosed(place)) => (ReadCause::Unclosed, place),
+        None => (ReadCause::Syntax, end),
     }
 }
 

@@ -12,12 +12,12 @@ ghost use Rattle.tptp_reader.specs.Annotating.{IsReading, IsFaultOf};
 ghost use Rattle.tptp_reader.specs.TellingEntries.{IsFaultOfHalt, IsWithin, cause_told, body_symbols, ReadsLanguage, ReadsName, ReadsRole, ReadsBody, ReadsEnding, ReadsEntry};
 
 use crate::bound::Bound;
-use crate::cause::{Form, Halt, ReadCause, ReadFault, Refusal};
+use crate::cause::{Form, Halt, ReadCause, ReadFault, Refusal, fault_at_end};
 use crate::source::Reader;
 use plain_types::Text;
 use std::alloc::Global;
-use tptp_token::{LexFault, Lexed, MOST_TEXT_BYTES};
-use tptp_tree::{Annotated, Formula, Role};
+use tptp_token::{Lexed, MOST_TEXT_BYTES};
+use tptp_tree::{Annotated, FileName, Formula, Role};
 
 /// An annotated formula, with the tokens of its notes and the token behind it, by their indices.
 #[derive(Drop)]
@@ -47,8 +47,8 @@ struct Ending {
 /// `Inappropriate` at such a token that is a form left out by name, `FreeVariable` at a variable of a `fof` formula that no
 /// quantifier binds, `Role` at a role that isn't taken or a conjecture in `cnf`, `Nesting` at the token that begins a level
 /// over the limit. Where the tokens end before the formula does, the fault is that of the tokens, or else `Syntax` at the
-/// end of the text. The first fault in reading order wins. The time is linear in the bytes, but for the look-up of a
-/// variable, which is linear in the variables that are bound there.
+/// end of the text. The first fault in reading order wins. The time is linear in the bytes, but for variables' names that
+/// are made to collide in the table of those that are bound.
 pub fn annotated(
     alloc: Global,
     bytes: &[u8],
@@ -87,11 +87,10 @@ fn fault_of(alloc: Global, bytes: &[u8], lexed: &Lexed, halt: Halt) -> ReadFault
             let token = lexed.tokens.as_slice()[index];
             ReadFault::At(cause_of(refusal), none, token.start)
         }
-        Halt::Ended => match lexed.fault {
-            Some(LexFault::BadByte(place)) => ReadFault::At(ReadCause::BadByte, none, place),
-            Some(LexFault::Unclosed(place)) => ReadFault::At(ReadCause::Unclosed, none, place),
-            None => ReadFault::At(ReadCause::Syntax, none, bytes.len() as u32),
-        },
+        Halt::Ended => {
+            let (cause, place) = fault_at_end(lexed.fault, bytes.len() as u32);
+            ReadFault::At(cause, none, place)
+        }
     }
 }
 
@@ -131,7 +130,7 @@ impl<'a> Reader<'a> {
                 role,
                 clause,
                 formula,
-                file: Text::new(alloc),
+                file: FileName::empty(),
                 place: self.place_of(first),
             },
             notes_start: ending.start,

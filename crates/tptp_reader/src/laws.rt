@@ -17,7 +17,7 @@ ghost use Rattle.tptp_reader.specs.Answers.{AreFaultless};
 ghost use Rattle.tptp_reader.specs.declared.cause.ReadCause.{ReadCause};
 ghost use Rattle.tptp_reader.specs.Shape.{tree_of};
 ghost use Rattle.tptp_reader.specs.Printed.{IsPrintedAgain};
-ghost use Rattle.tptp_reader.specs.Rising.{TokensRise};
+ghost use Rattle.tptp_reader.specs.Rising.{TokensRise, TwoTokens, EmptyToken, CrossingTokens, TokenTooFar};
 ghost use Rattle.tptp_reader.specs.declared.entry.Read.{Read};
 ghost use Rattle.tptp_reader.specs.AnswerExamples.{WholeClause, MixedConnectives, NegatedInequality, TruthAsTerm, EmptyNotes, CrossedNotes, FreeVariable, Unbound, UnknownRole, ConjectureClause, TooDeep, TypedFormula, LeftOutRole, NumberTerm, DistinctTerm, DollarAtom, IncludeEntry, NumberRole, CutOff};
 
@@ -86,6 +86,14 @@ pub fn whole_texts()
 /// The tokens of a text stand one behind the other, none of them empty, within the text.
 pub fn tokens_rise()
     ensures { TokensRise }
+{}
+
+/// Tokens that stand so in a text, and tokens that don't.
+pub fn rising_examples()
+    ensures two_tokens { TwoTokens }
+    ensures empty_token { EmptyToken }
+    ensures crossing_tokens { CrossingTokens }
+    ensures token_too_far { TokenTooFar }
 {}
 
 /// The machine's verdict on small texts, one for each cause.

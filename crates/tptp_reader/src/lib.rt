@@ -13,6 +13,6 @@ mod notes;
 mod source;
 mod terms;
 
-pub use cause::{Form, ReadCause, ReadFault};
+pub use cause::{Form, ReadCause, ReadFault, fault_at_end};
 pub use entry::{Read, annotated};
 pub use source::Name;

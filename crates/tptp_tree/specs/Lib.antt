@@ -3,6 +3,7 @@ pub mod Formula
 pub mod TermCodes
 pub mod Codes
 pub mod Shape
+pub mod FileNames
 pub mod ProblemSize
 pub mod Falls
 pub mod Printing

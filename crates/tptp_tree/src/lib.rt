@@ -2,6 +2,7 @@
 #![tactic(auto)]
 
 mod equality;
+mod file_name;
 mod formula;
 pub mod laws;
 mod limits;
@@ -11,6 +12,7 @@ mod role;
 mod term;
 
 pub use equality::same_formula;
+pub use file_name::FileName;
 pub use formula::{Formula, FormulaBox, Formulas};
 pub use limits::{MOST_DERIVATION_NESTING, MOST_NESTING, MOST_PRINTED_NESTING};
 pub use print::{print_formula, print_formula_name, print_name, push_formula_name};

@@ -1,5 +1,6 @@
 // Annotated formulas.
 
+use crate::file_name::FileName;
 use crate::formula::Formula;
 use crate::role::Role;
 use plain_types::{Sequence, Text};
@@ -12,8 +13,8 @@ pub struct Annotated {
     /// Whether it is written with `cnf`, and with `fof` otherwise.
     pub clause: bool,
     pub formula: Formula,
-    /// The name of the file that has it.
-    pub file: Text,
+    /// The name of the file that has it, which the formulas of the file share.
+    pub file: FileName,
     /// The place of its first byte in that file, from 0.
     pub place: u32,
 }

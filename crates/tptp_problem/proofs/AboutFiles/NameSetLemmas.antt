@@ -1,5 +1,5 @@
 -- Sets of names, and the names that are missing.
-use Rattle.std.proofs.Common.{◌≡◌, ◌≤◌, ◌<◌, ℕ, zero, suc, ◌+◌, Bool, true, false, ◌||◌, cond, Some, List, [], ◌∷◌, ◌++◌, length, take, drop, get_or, map, refl, ap, ap₂, sym, ◌∙◌, subst, arith, bytes_eq}
+use Rattle.std.proofs.Common.{◌≡◌, ◌≤◌, ◌<◌, ℕ, zero, suc, ◌+◌, Bool, true, false, ◌||◌, ◌&&◌, not, cond, Some, List, [], ◌∷◌, ◌++◌, length, take, drop, get_or, map, refl, ap, ap₂, sym, ◌∙◌, subst, arith, bytes_eq}
 use Rattle.std.specs.Prelude.{if◌then◌else◌}
 use Rattle.std.specs.HashSet.{HashSet, contains}
 use Rattle.std.specs.declared.hash.FoldHasher.{FoldHasher}
@@ -79,12 +79,81 @@ pub named-among : (fs : List Annotated) (x : List ℕ) → is_one_of (names_amon
 named-among [] x = refl
 named-among (f ∷ fs) x = ap₂ (λ a b. a || b) (bytes-sym x f.name) (named-among fs x)
 
+-- ---- names that are taken out
+
+or-left : (b c : Bool) → b ≡ true → (b || c) ≡ true
+or-left b c h = ap (λ t. t || c) h
+
+and-none : (b : Bool) → (b && false) ≡ false
+and-none true = refl
+and-none false = refl
+
+and-all : (b : Bool) → (b && true) ≡ b
+and-all true = refl
+and-all false = refl
+
+-- the set is the other one without these names
+abbrev pub IsWithout : List (List ℕ) → Names → Names → Type 0
+IsWithout names start set = (n : Name) → contains same_name set n ≡ (contains same_name start n && not (is_one_of names (bytes_of n)))
+
+pub without-none : (set : Names) → IsWithout [] set set
+without-none set n = sym (and-all (contains same_name set n))
+
+without-more :
+    (names : List (List ℕ)) (start old new : Names) (a : Name)
+    → IsWithout names start old → ((q : Name) → contains same_name new q ≡ cond (same_name a q) false (contains same_name old q))
+    → IsWithout (names ++ bytes_of a ∷ []) start new
+without-more names start old new a h u q =
+    u q ∙ by (same_name a q) refl ∙ sym (ap (λ b. contains same_name start q && not b) (one-more names (bytes_of a) (bytes_of q)))
+  where
+    by :
+        (t : Bool) → same_name a q ≡ t
+        → cond t false (contains same_name old q)
+        ≡ (contains same_name start q && not (is_one_of names (bytes_of q) || bytes_eq (bytes_of a) (bytes_of q)))
+    by true e =
+        sym (ap (λ b. contains same_name start q && not (is_one_of names (bytes_of q) || b)) e
+        ∙ ap (λ b. contains same_name start q && not b) (or-right (is_one_of names (bytes_of q))) ∙ and-none (contains same_name start q))
+    by false e =
+        h q
+        ∙ sym (ap (λ b. contains same_name start q && not (is_one_of names (bytes_of q) || b)) e
+        ∙ ap (λ b. contains same_name start q && not b) (or-none (is_one_of names (bytes_of q))))
+
+-- one name more of a list
+pub without-next :
+    (names : List (List ℕ)) (i : ℕ) (start old new : Names) (a : Name) (x : List ℕ)
+    → i < length names → bytes_of a ≡ x → x ≡ get_or names i x → IsWithout (take i names) start old
+    → ((q : Name) → contains same_name new q ≡ cond (same_name a q) false (contains same_name old q)) → IsWithout (take (i + 1) names) start new
+without-next names i start old new a x l e g h u =
+    subst (λ ns. IsWithout ns start new) (ap (λ y. take i names ++ y ∷ []) (e ∙ g) ∙ sym (take_more names i x l))
+    (without-more (take i names) start old new a h u)
+
+pub without-all : (names : List (List ℕ)) (i : ℕ) (start set : Names) → length names ≤ i → IsWithout (take i names) start set → IsWithout names start set
+without-all names i start set l h = subst (λ ns. IsWithout ns start set) (take_all i names l) h
+
 -- ---- missing names
 
--- what a set of the formulas' names tells
-is-there :
-    (fs : List Annotated) (x y : List ℕ) (b c : Bool) → b ≡ is_one_of (names_among fs) y → y ≡ x → b ≡ c → is_named (map placed fs) x ≡ c
-is-there fs x y b c h e k = sym (named-among fs x) ∙ ap (is_one_of (names_among fs)) (sym e) ∙ sym h ∙ k
+one-of-at : (names : List (List ℕ)) (i : ℕ) (x : List ℕ) → i < length names → x ≡ get_or names i x → is_one_of names x ≡ true
+one-of-at [] i x l e = absurd (omega (arith, l))
+one-of-at (n ∷ ns) zero x l e = or-left (bytes_eq x n) (is_one_of ns x) ((bytes_eq-Decides x n).1 e)
+one-of-at (n ∷ ns) (suc i) x l e = ap (λ b. bytes_eq x n || b) (one-of-at ns i x (omega (arith, l)) e) ∙ or-right (bytes_eq x n)
+
+-- A listed name is left in the set where no formula has it.
+left-is :
+    (names : List (List ℕ)) (fs : List Annotated) (i : ℕ) (x : List ℕ) (set absent : Names) (n : Name) (b : Bool)
+    → i < length names → x ≡ get_or names i x → bytes_of n ≡ x → HasNames names set → IsWithout (names_among fs) set absent
+    → b ≡ contains same_name absent n → b ≡ not (is_named (map placed fs) x)
+left-is names fs i x set absent n b l g e h w k =
+    k ∙ w n
+    ∙ ap (λ t. t && not (is_one_of (names_among fs) (bytes_of n))) (h n ∙ ap (is_one_of names) e ∙ one-of-at names i x l g)
+    ∙ ap (λ y. not (is_one_of (names_among fs) y)) e ∙ ap not (named-among fs x)
+
+named-by : (b : Bool) → true ≡ not b → b ≡ false
+named-by false h = refl
+named-by true h = sym h
+
+named-unless : (b : Bool) → false ≡ not b → b ≡ true
+named-unless true h = refl
+named-unless false h = sym h
 
 missing-at :
     (names : List (List ℕ)) (fs : List Placed) (i : ℕ) (x : List ℕ) → i < length names → x ≡ get_or names i x
@@ -94,18 +163,21 @@ missing-at names fs i x l e =
     ∙ ap (λ y. if is_named fs y then missing_from (i + 1) (drop (i + 1) names) fs else Some i) (sym e)
 
 pub missing-here :
-    (names : List (List ℕ)) (fs : List Annotated) (i : ℕ) (x y : List ℕ) (b : Bool) → i < length names → x ≡ get_or names i x
-    → missing_from 0 names (map placed fs) ≡ missing_from i (drop i names) (map placed fs)
-    → b ≡ is_one_of (names_among fs) y → y ≡ x → b ≡ false → Some i ≡ missing_from 0 names (map placed fs)
-missing-here names fs i x y b l e h k g t =
-    sym (h ∙ missing-at names (map placed fs) i x l e
-    ∙ ap (λ c. if c then missing_from (i + 1) (drop (i + 1) names) (map placed fs) else Some i) (is-there fs x y b false k g t))
+    (names : List (List ℕ)) (fs : List Annotated) (i : ℕ) (x : List ℕ) (set absent : Names) (n : Name) (b : Bool)
+    → i < length names → x ≡ get_or names i x → bytes_of n ≡ x → HasNames names set → IsWithout (names_among fs) set absent
+    → b ≡ contains same_name absent n → missing_from 0 names (map placed fs) ≡ missing_from i (drop i names) (map placed fs)
+    → b ≡ true → Some i ≡ missing_from 0 names (map placed fs)
+missing-here names fs i x set absent n b l g e h w k m t =
+    sym (m ∙ missing-at names (map placed fs) i x l g
+    ∙ ap (λ c. if c then missing_from (i + 1) (drop (i + 1) names) (map placed fs) else Some i)
+    (named-by (is_named (map placed fs) x) (sym t ∙ left-is names fs i x set absent n b l g e h w k)))
 
 pub missing-next :
-    (names : List (List ℕ)) (fs : List Annotated) (i : ℕ) (x y : List ℕ) (b : Bool) → i < length names → x ≡ get_or names i x
-    → missing_from 0 names (map placed fs) ≡ missing_from i (drop i names) (map placed fs)
-    → b ≡ is_one_of (names_among fs) y → y ≡ x → b ≡ true
-    → missing_from 0 names (map placed fs) ≡ missing_from (i + 1) (drop (i + 1) names) (map placed fs)
-missing-next names fs i x y b l e h k g t =
-    h ∙ missing-at names (map placed fs) i x l e
-    ∙ ap (λ c. if c then missing_from (i + 1) (drop (i + 1) names) (map placed fs) else Some i) (is-there fs x y b true k g t)
+    (names : List (List ℕ)) (fs : List Annotated) (i : ℕ) (x : List ℕ) (set absent : Names) (n : Name) (b : Bool)
+    → i < length names → x ≡ get_or names i x → bytes_of n ≡ x → HasNames names set → IsWithout (names_among fs) set absent
+    → b ≡ contains same_name absent n → missing_from 0 names (map placed fs) ≡ missing_from i (drop i names) (map placed fs)
+    → b ≡ false → missing_from 0 names (map placed fs) ≡ missing_from (i + 1) (drop (i + 1) names) (map placed fs)
+missing-next names fs i x set absent n b l g e h w k m t =
+    m ∙ missing-at names (map placed fs) i x l g
+    ∙ ap (λ c. if c then missing_from (i + 1) (drop (i + 1) names) (map placed fs) else Some i)
+    (named-unless (is_named (map placed fs) x) (sym t ∙ left-is names fs i x set absent n b l g e h w k))

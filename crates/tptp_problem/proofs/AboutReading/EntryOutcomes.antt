@@ -9,7 +9,7 @@ use Rattle.tptp_token.specs.declared.token.LexFault.{LexFault}
 use Rattle.tptp_token.specs.declared.token.LexFault.TheVariants.{BadByte as BadByteAt, Unclosed as UnclosedAt}
 use Rattle.tptp_token.specs.Words.{Word, name_of, token_name}
 use Rattle.tptp_tree.specs.Entries.{NamePhrase, name_lexeme, name_meant, names_meant}
-use Rattle.tptp_reader.specs.TellingEntries.{IsEndFault}
+use Rattle.tptp_reader.specs.Faults.{IsEndFault}
 use Rattle.tptp_reader.specs.declared.cause.ReadCause.{ReadCause}
 use Rattle.tptp_reader.specs.declared.cause.ReadCause.TheVariants.{Load}
 use Rattle.tptp_reader.proofs.AboutTexts.OutcomeLemmas.{read_or_fault, one_fault, one_reading}

@@ -15,7 +15,7 @@ use Rattle.tptp_reader.specs.Annotating.{IsReading, IsFaultAt}
 use Rattle.tptp_tree.specs.declared.problem.Annotated.{Annotated}
 use Rattle.tptp_reader.specs.Shape.{tree_of}
 use Rattle.tptp_reader.specs.declared.entry.Read.{Read}
-use Rattle.tptp_reader.specs.TellingEntries.{IsEndFault}
+use Rattle.tptp_reader.specs.Faults.{IsEndFault}
 use Rattle.tptp_reader.specs.declared.cause.ReadCause.{ReadCause}
 use Rattle.tptp_reader.specs.declared.cause.ReadCause.TheVariants.{Syntax, SecondConjecture}
 use Rattle.tptp_reader.specs.declared.cause.ReadFault.{ReadFault}

@@ -4,7 +4,7 @@ use Rattle.std.specs.Prelude.{IsSomeAnd}
 use Rattle.tptp_problem.specs.declared.limits.TheConstants.{MOST_INCLUDES}
 use Rattle.outside.specs.Library.{Holdings, FoundMore}
 use Rattle.tptp_token.specs.declared.token.LexFault.{LexFault}
-use Rattle.tptp_reader.specs.TellingEntries.{IsEndFault}
+use Rattle.tptp_reader.specs.Faults.{IsEndFault}
 use Rattle.tptp_reader.specs.declared.cause.ReadCause.{ReadCause}
 use Rattle.tptp_reader.specs.declared.cause.ReadCause.TheVariants.{TooLong, Load}
 use Rattle.tptp_problem.specs.Files.{base_of, room_after, MayGive}

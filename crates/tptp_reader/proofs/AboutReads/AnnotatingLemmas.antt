@@ -12,7 +12,8 @@ use Rattle.tptp_reader.specs.Machine.{refused_at, an_annotated}
 use Rattle.tptp_reader.specs.Annotating.{IsReading, StandsAt, TokensRunOut, IsFaultAt, IsFaultOf}
 use Rattle.tptp_reader.specs.Telling.{lexemes, refusal_of, IsEnd, Ends, told}
 use Rattle.tptp_reader.specs.Placed.{verdict_at}
-use Rattle.tptp_reader.specs.TellingEntries.{cause_told, IsEndFault, IsCauseBy, IsWithin, ReadsEntry}
+use Rattle.tptp_reader.specs.Faults.{IsEndFault}
+use Rattle.tptp_reader.specs.TellingEntries.{cause_told, IsCauseBy, IsWithin, ReadsEntry}
 use Rattle.tptp_reader.specs.declared.cause.Halt.{Halt}
 use Rattle.tptp_reader.specs.declared.cause.Halt.TheVariants.{NoMemory as HaltMemory, At as HaltAt, Ended}
 use Rattle.tptp_reader.specs.declared.cause.Refusal.{Refusal as ToldRefusal}

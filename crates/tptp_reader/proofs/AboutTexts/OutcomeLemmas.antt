@@ -15,7 +15,7 @@ use Rattle.tptp_reader.specs.Machine.{Verdict, read_up_to, refused_at, ran_out}
 use Rattle.tptp_reader.specs.Placed.{verdict_at}
 use Rattle.tptp_reader.specs.Shape.{form_of, tree_of}
 use Rattle.tptp_reader.specs.Annotating.{IsReading, StandsAt, TokensRunOut, IsFaultAt, IsSameReading}
-use Rattle.tptp_reader.specs.TellingEntries.{IsEndFault}
+use Rattle.tptp_reader.specs.Faults.{IsEndFault}
 use Rattle.tptp_reader.specs.declared.cause.Form.{Form as ToldForm}
 use Rattle.tptp_reader.specs.declared.cause.Form.TheVariants.{Typed, RoleForm, Number, Distinct, Dollar}
 use Rattle.tptp_reader.specs.declared.cause.ReadCause.{ReadCause}
