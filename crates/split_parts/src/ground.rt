@@ -16,11 +16,11 @@ pub(crate) fn is_ground_unit(literals: &[Literal]) -> bool
     literals.len() == 1 && is_ground_term(&literals[0].left) && is_ground_term(&literals[0].right)
 }
 
-/// Whether they are one ground negative literal.
+/// Whether they are one ground negative literal. The sign is asked first, since the test of the sides walks them.
 pub(crate) fn is_ground_negative(literals: &[Literal]) -> bool
     ensures { result ≡ ground_negative (map literal_of literals.now) }
 {
-    is_ground_unit(literals) && !literals[0].positive
+    literals.len() == 1 && !literals[0].positive && is_ground_unit(literals)
 }
 
 #[cycle(ground)]

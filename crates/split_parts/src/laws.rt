@@ -6,6 +6,7 @@ ghost use Rattle.fol_base.specs.Rules.{disequation};
 ghost use Rattle.kernel_steps.specs.Derivation.{complement};
 ghost use Rattle.split_parts.specs.Components.{IsComponents};
 ghost use Rattle.split_parts.specs.ComponentLaws.{ComponentsAreUnique, ComponentsAreWhole, ComponentsSplit};
+ghost use Rattle.split_parts.specs.PartHash.{part_hash};
 ghost use Rattle.split_parts.specs.Tags.{has_part, with_part, tag_of};
 ghost use Rattle.split_parts.specs.TagLaws.{TagsTellParts, TagsStay, PartsStandAtTheirTags, MetPartsAreThere};
 ghost use Rattle.split_parts.specs.SignedNames.{is_ground_negative, named, signed_name};
@@ -83,4 +84,17 @@ pub fn signed_examples()
     ensures with_variables { is_ground_negative (complement (p (x 0)) ∷ []) ≡ false }
     ensures of_two_literals { is_ground_negative (complement (p a) ∷ complement (q a) ∷ []) ≡ false }
     ensures sides_exchanged { named ((disequation a b ∷ []) ∷ (equation b a ∷ []) ∷ []) ≡ (equation a b ∷ []) ∷ (equation b a ∷ []) ∷ [] }
+{}
+
+/// Hashes of small parts, no two of which are equal: another sign, symbol, argument, side or order of literals gives another hash.
+pub fn hash_examples()
+    ensures positive { part_hash 0 (p a ∷ []) ≡ 16758383481192967165 }
+    ensures negative { part_hash 0 (complement (p a) ∷ []) ≡ 3042323838258274714 }
+    ensures of_another_symbol { part_hash 0 (q a ∷ []) ≡ 7738767765886179430 }
+    ensures of_another_argument { part_hash 0 (p b ∷ []) ≡ 11039911857085542412 }
+    ensures of_a_variable { part_hash 0 (p (x 0) ∷ []) ≡ 11685576449966363452 }
+    ensures of_an_equation { part_hash 0 (equation a b ∷ []) ≡ 645664597955944715 }
+    ensures sides_exchanged { part_hash 0 (equation b a ∷ []) ≡ 13373937046741237510 }
+    ensures of_two_literals { part_hash 0 (p a ∷ q a ∷ []) ≡ 10341199691591040868 }
+    ensures literals_exchanged { part_hash 0 (q a ∷ p a ∷ []) ≡ 13155968657246177114 }
 {}
