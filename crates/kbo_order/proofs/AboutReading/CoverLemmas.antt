@@ -1,5 +1,5 @@
 -- Where more stands on the right than was met on the left.
-use Rattle.std.proofs.Common.{◌≡◌, ℕ, zero, suc, ◌+◌, ◌<◌, ◌≤◌, ◌^◌, ◌==◌, ◌⊎◌, Bool, true, false, if◌then◌else◌, List, [], ◌∷◌, ◌++◌, get_or, refl, ap, sym, ◌∙◌, subst, inl, inr, ⊎_elim, arith}
+use Rattle.std.proofs.Common.{◌≡◌, ℕ, ◌+◌, ◌<◌, ◌≤◌, ◌^◌, ◌==◌, Bool, true, false, if◌then◌else◌, List, [], ◌++◌, get_or, refl, ap, sym, ◌∙◌, subst, inl, inr, ⊎_elim, arith}
 use Rattle.std.proofs.lemmas.Bool.{cases_lt, cases_Bool, eqb-true, eqb-false}
 use Rattle.fol_base.specs.Tree.{Tree, variable, application, Trees, no_trees, tree_then, tree_size, trees_size, tree_variables, trees_variables}
 use Rattle.fol_base.specs.Multiset.{times}
@@ -158,22 +158,23 @@ pub covered-greater :
     → least ≤ new.weight → new.more_right ≡ 0
     → GreaterOn (InBlock old.start) (application f ts) (application g us)
 covered-greater old new f g ts us tie wins least level answer e d met enough none =
-    greater_from (InBlock old.start) (application f ts) (application g us)
-    (more_right-says old new (trees_variables ts) (trees_variables us) (trees_size ts) (trees_size us) level met none,
-    ⊎_elim
-    (λ won.
-    let low : least ≡ 2 ^ 63 = d ∙ ap least_of won in
-    ⊎_elim
-    (λ larger. let more : 1 + trees_size us < 1 + trees_size ts = omega (arith, larger) in inl more)
-    (λ most.
-    let same : 1 + trees_size ts ≡ 1 + trees_size us = omega (arith, met.weight, level.weight, enough, low, most) in
-    inr (same, tie-wins (InBlock old.start) tie (application f ts) (application g us) answer (sym e ∙ won)))
-    (cases_lt (trees_size us) (trees_size ts)))
-    (λ lost.
-    let high : least ≡ 2 ^ 63 + 1 = d ∙ ap least_of lost in
-    let more : 1 + trees_size us < 1 + trees_size ts = omega (arith, met.weight, level.weight, enough, high) in
-    inl more)
-    (cases_Bool wins))
+    greater_from (InBlock old.start) (application f ts) (application g us) (
+      more_right-says old new (trees_variables ts) (trees_variables us) (trees_size ts) (trees_size us) level met none,
+      ⊎_elim
+          (λ won.
+          let low : least ≡ 2 ^ 63 = d ∙ ap least_of won in
+          ⊎_elim
+          (λ larger. let more : 1 + trees_size us < 1 + trees_size ts = omega (arith, larger) in inl more)
+          (λ most.
+          let same : 1 + trees_size ts ≡ 1 + trees_size us = omega (arith, met.weight, level.weight, enough, low, most) in
+          inr (same, tie-wins (InBlock old.start) tie (application f ts) (application g us) answer (sym e ∙ won)))
+          (cases_lt (trees_size us) (trees_size ts)))
+          (λ lost.
+          let high : least ≡ 2 ^ 63 + 1 = d ∙ ap least_of lost in
+          let more : 1 + trees_size us < 1 + trees_size ts = omega (arith, met.weight, level.weight, enough, high) in
+          inl more)
+          (cases_Bool wins),
+    )
 
 -- of one size, and not by the tie
 pub tied-not_greater :

@@ -1,5 +1,5 @@
 -- Greater on one block of variables after another.
-use Rattle.std.proofs.Common.{◌≡◌, ℕ, ◌+◌, ◌<◌, ◌≤◌, ◌-◌, ◌^◌, ◌⊎◌, true, false, sym, subst, inl, inr, ⊎_elim, arith}
+use Rattle.std.proofs.Common.{◌≡◌, ℕ, ◌+◌, ◌≤◌, ◌^◌, ◌⊎◌, true, false, sym, subst, ⊎_elim, arith}
 use Rattle.fol_base.specs.Tree.{Tree}
 use Rattle.fol_base.specs.Order.{tree_greater}
 use Rattle.kbo_order.specs.declared.balance.Balance.{Balance}

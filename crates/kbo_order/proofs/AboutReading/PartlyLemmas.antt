@@ -1,5 +1,5 @@
 -- Two lists of which the first trees were met.
-use Rattle.std.proofs.Common.{◌≡◌, ℕ, ◌+◌, ◌<◌, ◌≤◌, ◌^◌, ◌==◌, List, [], ◌++◌, refl, ap, sym, ◌∙◌, arith}
+use Rattle.std.proofs.Common.{◌≡◌, ℕ, ◌+◌, ◌<◌, ◌^◌, ◌==◌, List, [], ◌++◌, ap, sym, ◌∙◌, arith}
 use Rattle.fol_base.specs.Tree.{Tree, Trees, no_trees, tree_then, tree_size, trees_size, tree_variables, trees_variables}
 use Rattle.fol_base.specs.declared.clause.Side.TheVariants.{Left}
 use Rattle.fol_base.specs.Multiset.{times}

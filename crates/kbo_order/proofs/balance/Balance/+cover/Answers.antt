@@ -1,6 +1,6 @@
 use Rattle.std.proofs.Common.{◌≡◌, ◌<◌, ◌+◌, ◌*◌, true, false, ap, sym, ◌∙◌, refl, inl, subst, rules, arith}
 use Rattle.fol_base.specs.Term.{tree_of}
-use Rattle.fol_base.specs.Tree.{Tree, Trees, variable, application, tree_size, trees_size, tree_variables, trees_variables}
+use Rattle.fol_base.specs.Tree.{variable, tree_size, trees_size, tree_variables}
 use Rattle.fol_base.specs.declared.clause.Side.TheVariants.{Right}
 use Rattle.kbo_order.specs.Reading.{seen, seen_from}
 use Rattle.kbo_order.specs.Balance.{Consistent, HasRoom, Covers}
