@@ -7,5 +7,8 @@ pub mod MetLemmas
 pub mod ReadingLemmas
 pub mod FurtherLemmas
 pub mod HeadLemmas
+pub mod CoverLemmas
+pub mod PartlyLemmas
+pub mod OneWayLemmas
 pub mod LevelLemmas
 pub mod SideLemmas

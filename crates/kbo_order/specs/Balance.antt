@@ -1,5 +1,6 @@
 -- What a walk down two terms has met more often on one side than on the other.
-use Rattle.std.specs.Prelude.{◌≡◌, ℕ, ◌+◌, ◌^◌, ◌<◌, ◌≤◌, ◌==◌, nat_lt, if◌then◌else◌, List, [], slice_index, length, sum_by}
+use Rattle.std.specs.Prelude.{◌≡◌, ℕ, ◌+◌, ◌^◌, ◌<◌, ◌≤◌, ◌==◌, ◌⊎◌, Bool, true, false, nat_lt, if◌then◌else◌, List, [], slice_index, length, sum_by}
+use Rattle.fol_base.specs.Tree.{Trees, trees_size, trees_variables}
 use Rattle.fol_base.specs.declared.clause.Side.{Side}
 use Rattle.fol_base.specs.declared.clause.Side.TheVariants.{Left, Right}
 use Rattle.fol_base.specs.Multiset.{times}
@@ -51,6 +52,39 @@ pub record Met (before after : Balance) (lefts : List ℕ) (n : ℕ) (rights : L
 abbrev pub MetOn : Side → Balance → Balance → List ℕ → ℕ → Type 0
 MetOn Left before after variables n = Met before after variables n [] 0
 MetOn Right before after variables n = Met before after [] 0 variables n
+
+-- a list of trees is variables and n occurrences in all, and then the rest of it
+pub record IsBefore (variables : List ℕ) (n : ℕ) (rest whole : Trees) : Type 0 where
+  pub split : (v : ℕ) → times ◌==◌ v (trees_variables whole) ≡ times ◌==◌ v variables + times ◌==◌ v (trees_variables rest)
+  pub size : trees_size whole ≡ n + trees_size rest
+  pub within : (v : ℕ) → times ◌==◌ v variables ≤ n
+
+-- after all but the rests of two lists was met
+pub record PartlyMet (before after : Balance) (lefts left_rest rights right_rest : Trees) : Type 0 where
+  pub left_variables : List ℕ
+  pub left_size : ℕ
+  pub right_variables : List ℕ
+  pub right_size : ℕ
+  pub left : IsBefore left_variables left_size left_rest lefts
+  pub right : IsBefore right_variables right_size right_rest rights
+  pub met : Met before after left_variables left_size right_variables right_size
+
+-- More stands on the right than was met on the left, if variables and n occurrences in all are met there yet: all together, or
+-- a variable of the block. All together are as many as the least weight tells.
+abbrev pub IsShort : ℕ → Balance → List ℕ → ℕ → Type 0
+IsShort least balance variables n =
+    (balance.weight < least + n)
+    ⊎ ((k : ℕ) × (k < 32) × (slice_index balance.counts k < 2 ^ 63 + times ◌==◌ (balance.start + k) variables))
+
+-- whether they were met on the right, or told to be too many
+abbrev pub Covers : Bool → ℕ → Balance → Balance → List ℕ → ℕ → Type 0
+Covers true least before after variables n = Met before after [] 0 variables n
+Covers false least before after variables n = IsShort least before variables n
+
+-- whether what was met on the right is no more than on the left
+abbrev pub IsCovered : Bool → ℕ → Balance → Type 0
+IsCovered true least balance = (least ≤ balance.weight) × (balance.more_right ≡ 0)
+IsCovered false least balance = IsShort least balance [] 0
 
 -- the greater number decides, and of equal ones what is handed in
 abbrev pub by_size : ℕ → ℕ → Cmp → Cmp

@@ -1,9 +1,10 @@
 pub mod Cmp
 pub mod Reading
-pub mod Heads
 pub mod Block
 pub mod Balance
+pub mod Exceeding
 pub mod Further
+pub mod OneWay
 pub mod StrictOrder
 pub mod Laws
 pub mod Sides

@@ -95,7 +95,7 @@ impl Balance {
     }
 
     /// Counts an occurrence of a variable on one side.
-    fn count(&mut self, side: Side, number: u32)
+    pub fn count(&mut self, side: Side, number: u32)
         requires consistent { Consistent self.old }
         requires room { HasRoom self.old 1 }
         ensures { MetOn side self.old self.new (number ∷ []) 1 }
@@ -118,7 +118,7 @@ impl Balance {
 
     /// Counts an occurrence of whatever it is on one side.
     #[inline(always)]
-    fn weigh(&mut self, side: Side)
+    pub fn weigh(&mut self, side: Side)
         requires consistent { Consistent self.old }
         requires up { self.old.weight + 1 < 2 ^ 64 }
         requires down { 1 ≤ self.old.weight }

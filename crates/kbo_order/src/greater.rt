@@ -1,19 +1,23 @@
 // Whether one instance is greater than another, asked one way.
 
-ghost use Rattle.std.specs.Prelude.{◌≡◌, ◌<◌};
+ghost use Rattle.std.specs.Prelude.{◌≡◌, ◌+◌, ◌<◌, ◌^◌, IsTrue};
 ghost use Rattle.fol_base.specs.Tree.{tree_size};
 ghost use Rattle.fol_base.specs.Instance.{instance};
 ghost use Rattle.fol_base.specs.Term.{tree_of};
 ghost use Rattle.fol_base.specs.Order.{tree_greater};
-ghost use Rattle.kbo_order.specs.Heads.{head_reaches};
+ghost use Rattle.kbo_order.specs.OneWay.{IsGreaterInBlock};
 
+use crate::balance::Balance;
 use crate::limits::COMPARED_SIZE_LIMIT;
 use crate::reading::head;
-use crate::terms::compare_under;
-use fol_base::{LendsTerms, Term, instance_size};
+use crate::terms::{VARIABLES, compare_in_block};
+use fol_base::{LendsTerms, Term};
 
 /// Whether the first instance is greater than the second one, each under its own substitution. The instances aren't built, and no
-/// memory is taken. A smaller size, or at equal sizes a variable or a lower head, is refused before anything is counted.
+/// memory is taken.
+///
+/// It is the walk of `compare_under`, but that what stands behind the first difference is met on the left and then on the right, where
+/// the walk ends as soon as the right one has more.
 pub fn greater_under<S: LendsTerms, T: LendsTerms>(
     left: &Term,
     left_bind: &S,
@@ -26,37 +30,101 @@ pub fn greater_under<S: LendsTerms, T: LendsTerms>(
         (instance (S.meaning left_bind.now) (tree_of left.now))
         (instance (T.meaning right_bind.now) (tree_of right.now)) }
 {
-    let left_size = instance_size(left, left_bind);
-    let right_size = instance_size(right, right_bind);
-    if left_size < right_size {
-        return false;
-    }
-    if left_size == right_size {
-        if !head_reaches(left, left_bind, right, right_bind) {
-            return false;
-        }
-    }
-    compare_under(left, left_bind, right, right_bind).is_greater()
+    greater_in_blocks(left, left_bind, right, right_bind, false)
 }
 
-/// Whether both instances begin with symbols, of which the second one's isn't higher.
-fn head_reaches<S: LendsTerms, T: LendsTerms>(
+/// `greater_under` for a caller who knows that the instances are of one size: where the symbols, or else the first two arguments that differ,
+/// don't make the first one greater, nothing behind them is met.
+pub fn greater_at_equal_sizes<S: LendsTerms, T: LendsTerms>(
     left: &Term,
     left_bind: &S,
     right: &Term,
     right_bind: &T,
 ) -> bool
-    ensures { result ≡ head_reaches
+    requires size { tree_size (instance (S.meaning left_bind.now) (tree_of left.now)) < COMPARED_SIZE_LIMIT }
+    requires same { tree_size (instance (S.meaning left_bind.now) (tree_of left.now))
+        ≡ tree_size (instance (T.meaning right_bind.now) (tree_of right.now)) }
+    ensures { result ≡ tree_greater
         (instance (S.meaning left_bind.now) (tree_of left.now))
         (instance (T.meaning right_bind.now) (tree_of right.now)) }
 {
-    let left = head(left, left_bind, false);
-    let right = head(right, right_bind, false);
-    match left.term {
-        Term::Var(_) => false,
-        Term::App(first, _) => match right.term {
-            Term::Var(_) => false,
-            Term::App(second, _) => *second <= *first,
+    greater_in_blocks(left, left_bind, right, right_bind, true)
+}
+
+/// One walk for each block of variables that has one of theirs, while the answer is yes.
+fn greater_in_blocks<S: LendsTerms, T: LendsTerms>(
+    left: &Term,
+    left_bind: &S,
+    right: &Term,
+    right_bind: &T,
+    same_size: bool,
+) -> bool
+    requires left_size { tree_size (instance (S.meaning left_bind.now) (tree_of left.now)) < COMPARED_SIZE_LIMIT }
+    requires right_size { tree_size (instance (T.meaning right_bind.now) (tree_of right.now)) < COMPARED_SIZE_LIMIT }
+    requires same_size { IsTrue same_size
+        → tree_size (instance (S.meaning left_bind.now) (tree_of left.now))
+        ≡ tree_size (instance (T.meaning right_bind.now) (tree_of right.now)) }
+    ensures { result ≡ tree_greater
+        (instance (S.meaning left_bind.now) (tree_of left.now))
+        (instance (T.meaning right_bind.now) (tree_of right.now)) }
+{
+    let mut start = 0;
+    while start < VARIABLES {
+        match greater_in_block(left, left_bind, right, right_bind, start, same_size) {
+            Some(next) => start = next,
+            None => return false,
+        }
+    }
+    true
+}
+
+/// Whether the first instance is greater with the variable condition for the variables of one block alone, and then where the next block
+/// begins.
+fn greater_in_block<S: LendsTerms, T: LendsTerms>(
+    left: &Term,
+    left_bind: &S,
+    right: &Term,
+    right_bind: &T,
+    start: u64,
+    same_size: bool,
+) -> Option<u64>
+    requires left_size { tree_size (instance (S.meaning left_bind.now) (tree_of left.now)) < COMPARED_SIZE_LIMIT }
+    requires right_size { tree_size (instance (T.meaning right_bind.now) (tree_of right.now)) < COMPARED_SIZE_LIMIT }
+    requires same_size { IsTrue same_size
+        → tree_size (instance (S.meaning left_bind.now) (tree_of left.now))
+        ≡ tree_size (instance (T.meaning right_bind.now) (tree_of right.now)) }
+    requires start { start < 2 ^ 32 }
+    ensures { IsGreaterInBlock start result
+        (instance (S.meaning left_bind.now) (tree_of left.now)) (instance (T.meaning right_bind.now) (tree_of right.now)) }
+{
+    let top = head(left, left_bind, false);
+    let other_top = head(right, right_bind, false);
+    match top.term {
+        Term::Var(_) => None,
+        Term::App(first, ones) => match other_top.term {
+            Term::Var(_) => {
+                let block = compare_in_block(left, left_bind, right, right_bind, start);
+                if block.answer.is_greater() {
+                    Some(block.next)
+                } else {
+                    None
+                }
+            }
+            Term::App(second, others) => {
+                let mut balance = Balance::starting_at(start);
+                let exceeds = balance.exceeds(
+                    *first,
+                    ones.as_slice(),
+                    left_bind,
+                    top.is_bound,
+                    *second,
+                    others.as_slice(),
+                    right_bind,
+                    other_top.is_bound,
+                    same_size,
+                );
+                if exceeds { Some(balance.next) } else { None }
+            }
         },
     }
 }

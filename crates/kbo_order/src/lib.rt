@@ -4,6 +4,7 @@
 mod balance;
 mod clauses;
 mod cmp;
+mod covering;
 mod greater;
 pub mod laws;
 mod limits;
@@ -15,7 +16,7 @@ mod walk;
 
 pub use clauses::{compare_clauses, compare_clauses_under};
 pub use cmp::Cmp;
-pub use greater::greater_under;
+pub use greater::{greater_at_equal_sizes, greater_under};
 pub use limits::COMPARED_SIZE_LIMIT;
 pub use literals::{compare_literals, compare_literals_under};
 pub use reading::Unbound;

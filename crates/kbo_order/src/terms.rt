@@ -16,7 +16,7 @@ use crate::reading::{Unbound, head};
 use fol_base::{LendsTerms, Term};
 
 /// The end of the variables' numbers.
-const VARIABLES: u64 = 1 << 32;
+pub const VARIABLES: u64 = 1 << 32;
 
 /// What two terms are to each other in the Knuth-Bendix order with weight 1 for each occurrence of a
 /// symbol or variable, and the symbols' numbers as precedence (Knuth and Bendix 1970). It takes no memory.
@@ -57,7 +57,7 @@ pub fn compare_under<S: LendsTerms, T: LendsTerms>(
 }
 
 /// What an instance is to `$true`, which is below every other term that isn't a variable: its head tells.
-fn against_truth<S: LendsTerms>(term: &Term, bind: &S) -> Cmp
+pub fn against_truth<S: LendsTerms>(term: &Term, bind: &S) -> Cmp
     ensures { comparison_of result ≡ compare_trees (instance (S.meaning bind.now) (tree_of term.now)) true_tree }
 {
     let top = head(term, bind, false);
@@ -128,13 +128,13 @@ fn compare_in_blocks<S: LendsTerms, T: LendsTerms>(
 
 /// The answer for one block of variables, and where the next block begins.
 #[derive(Drop)]
-struct BlockAnswer {
-    answer: Cmp,
-    next: u64,
+pub struct BlockAnswer {
+    pub answer: Cmp,
+    pub next: u64,
 }
 
 /// Compares two instances with the variable condition for the variables of one block alone.
-fn compare_in_block<S: LendsTerms, T: LendsTerms>(
+pub fn compare_in_block<S: LendsTerms, T: LendsTerms>(
     left: &Term,
     left_bind: &S,
     right: &Term,

@@ -1,10 +1,10 @@
 // The walk down two terms side by side, which compares them for one block of variables.
 
 ghost use Rattle.std.specs.Prelude.{◌≡◌, ◌+◌, ◌<◌, ◌^◌, ℕ, true};
-ghost use Rattle.fol_base.specs.Tree.{tree_size, trees_size, tree_variables, trees_variables};
+ghost use Rattle.fol_base.specs.Tree.{application, tree_size, trees_size, tree_variables, trees_variables};
 ghost use Rattle.fol_base.specs.Term.{tree_of};
 ghost use Rattle.fol_base.specs.declared.term.Term.TheVariants.{Var};
-ghost use Rattle.kbo_order.specs.Block.{Answers, InBlock, GreaterOn, AllGreaterOn, TieOn};
+ghost use Rattle.kbo_order.specs.Block.{Answers, InBlock, GreaterOn, TieOn};
 ghost use Rattle.kbo_order.specs.Reading.{seen, seen_from};
 
 use crate::balance::Balance;
@@ -12,8 +12,16 @@ use crate::cmp::Cmp;
 use crate::reading::head;
 use fol_base::{LendsTerms, Side, Term};
 
+/// What decides between two applications at equal sizes.
+#[derive(Drop)]
+pub struct Difference {
+    pub tie: Cmp,
+    /// The arguments before this index were met, and those from it on weren't.
+    pub rest: usize,
+}
+
 impl Balance {
-    ghost use Rattle.kbo_order.specs.Balance.{Consistent, IsLevel, HasRoom, Met};
+    ghost use Rattle.kbo_order.specs.Balance.{Consistent, IsLevel, HasRoom, Met, PartlyMet};
 
     /// Compares two terms, each under its own substitution, with the variable condition for the variables of the block alone, and
     /// counts what stands in them.
@@ -81,22 +89,28 @@ impl Balance {
         match left {
             Term::App(first, ones) => match right {
                 Term::App(second, others) => {
-                    if *first == *second {
-                        return self.compare_lists(
-                            ones.as_slice(),
-                            left_bind,
-                            left_bound,
-                            others.as_slice(),
-                            right_bind,
-                            right_bound,
-                        );
-                    }
-                    self.meet(left, left_bind, left_bound, right, right_bind, right_bound);
-                    if *first > *second {
-                        Cmp::Greater
-                    } else {
-                        Cmp::Less
-                    }
+                    let ones = ones.as_slice();
+                    let others = others.as_slice();
+                    let found = self.difference(
+                        *first,
+                        ones,
+                        left_bind,
+                        left_bound,
+                        *second,
+                        others,
+                        right_bind,
+                        right_bound,
+                    );
+                    self.meet_rest(
+                        ones,
+                        left_bind,
+                        left_bound,
+                        others,
+                        right_bind,
+                        right_bound,
+                        found.rest,
+                    );
+                    found.tie
                 }
                 Term::Var(_) => {
                     self.meet(left, left_bind, left_bound, right, right_bind, right_bound);
@@ -120,29 +134,44 @@ impl Balance {
         }
     }
 
-    /// The first two terms that differ decide. Equal ones leave the balance level.
+    /// What decides between two applications at equal sizes: the symbols, and then the first two arguments that differ. Equal
+    /// arguments leave the balance level, and those behind the first difference aren't met.
     #[cycle(compare)]
-    fn compare_lists<S: LendsTerms, T: LendsTerms>(
+    pub fn difference<S: LendsTerms, T: LendsTerms>(
         &mut self,
+        first: u32,
         left: &[Term],
         left_bind: &S,
         left_bound: bool,
+        second: u32,
         right: &[Term],
         right_bind: &T,
         right_bound: bool,
-    ) -> Cmp
+    ) -> Difference
         requires level { IsLevel self.old }
         requires room { trees_size (seen_from left_bound (S.meaning left_bind.now) left.now 0)
             + trees_size (seen_from right_bound (T.meaning right_bind.now) right.now 0) < 2 ^ 63 }
-        ensures answer { Answers (AllGreaterOn (InBlock self.old.start)) result
+        ensures tie { Answers (TieOn (InBlock self.old.start)) result.tie
+            (application first (seen_from left_bound (S.meaning left_bind.now) left.now 0))
+            (application second (seen_from right_bound (T.meaning right_bind.now) right.now 0)) }
+        ensures met { PartlyMet self.old self.new
             (seen_from left_bound (S.meaning left_bind.now) left.now 0)
-            (seen_from right_bound (T.meaning right_bind.now) right.now 0) }
-        ensures met { Met self.old self.new
-            (trees_variables (seen_from left_bound (S.meaning left_bind.now) left.now 0))
-            (trees_size (seen_from left_bound (S.meaning left_bind.now) left.now 0))
-            (trees_variables (seen_from right_bound (T.meaning right_bind.now) right.now 0))
-            (trees_size (seen_from right_bound (T.meaning right_bind.now) right.now 0)) }
+            (seen_from left_bound (S.meaning left_bind.now) left.now result.rest)
+            (seen_from right_bound (T.meaning right_bind.now) right.now 0)
+            (seen_from right_bound (T.meaning right_bind.now) right.now result.rest) }
     {
+        if first > second {
+            return Difference {
+                tie: Cmp::Greater,
+                rest: 0,
+            };
+        }
+        if first < second {
+            return Difference {
+                tie: Cmp::Less,
+                rest: 0,
+            };
+        }
         let common = left.len().min(right.len());
         for index in 0..common {
             let found = self.compare(
@@ -156,33 +185,19 @@ impl Balance {
             match found {
                 Cmp::Equal => {}
                 _ => {
-                    self.meet_rest(
-                        left,
-                        left_bind,
-                        left_bound,
-                        right,
-                        right_bind,
-                        right_bound,
-                        index + 1,
-                    );
-                    return found;
+                    return Difference {
+                        tie: found,
+                        rest: index + 1,
+                    };
                 }
             }
         }
-        self.meet_rest(
-            left,
-            left_bind,
-            left_bound,
-            right,
-            right_bind,
-            right_bound,
-            common,
-        );
-        if left.len() == right.len() {
+        let tie = if left.len() == right.len() {
             Cmp::Equal
         } else {
             Cmp::Unordered
-        }
+        };
+        Difference { tie, rest: common }
     }
 
     /// Counts what stands in two terms.
@@ -207,6 +222,7 @@ impl Balance {
         self.add(Side::Left, left, left_bind, left_bound);
         self.add(Side::Right, right, right_bind, right_bound);
     }
+
     /// Counts what stands in the terms of two lists from an index on.
     #[inline(always)]
     fn meet_rest<S: LendsTerms, T: LendsTerms>(

@@ -1,11 +1,12 @@
 -- The order on a block of variables: irreflexive, asymmetric, and decided by size, variables and what decides at equal sizes.
 use Rattle.std.proofs.Common.{◌≡◌, ℕ, ◌+◌, ◌<◌, ◌⊎◌, Bool, true, false, ◌==◌, cond, nat_lt, refl, ap, ap₂, sym, ◌∙◌, subst, inl, inr, ⊎_elim, arith, rules}
-use Rattle.std.proofs.lemmas.Bool.{cases_order, lt-ltb, le-ltb, eqb-true, eqb-false}
+use Rattle.std.proofs.lemmas.Bool.{true≢false, cases_order, lt-ltb, le-ltb, eqb-true, eqb-false}
 use Rattle.fol_base.specs.Tree.{Tree, variable, application, Trees, no_trees, tree_then, tree_size}
 use denote.Enum.Bare.{sameb, same_true}
 use Rattle.kbo_order.specs.contracts.cmp.Cmp.{the_type}
 use Rattle.kbo_order.specs.declared.cmp.Cmp.{Cmp}
 use Rattle.kbo_order.specs.declared.cmp.Cmp.TheVariants.{Greater, Less, Equal, Unordered}
+use Rattle.kbo_order.specs.Cmp.{is_greater}
 use Rattle.kbo_order.specs.Block.{Answers, HasVariablesOn, ExceedsOn, GreaterOn, AllGreaterOn, TieOn}
 use Rattle.kbo_order.specs.Balance.{by_size, by_variables}
 
@@ -149,6 +150,35 @@ TieOn-both C (application f ts) (application g us) h k =
     (λ x. ⊎_elim (λ y. absurd (omega arith)) (λ y. let d : g ≡ f = y.0 in absurd (omega arith)) k)
     (λ x. let d : f ≡ g = x.0 in ⊎_elim (λ y. absurd (omega arith)) (λ y. AllGreaterOn-both C ts us x.1 y.1) k)
     h
+
+-- what the answer to the tie says of the left one
+pub tie-wins : (C : ℕ → Type 0) (c : Cmp) (s t : Tree) → Answers (TieOn C) c s t → is_greater c ≡ true → TieOn C s t
+tie-wins C Greater s t h e = h
+tie-wins C Less s t h e = absurd (true≢false (sym e))
+tie-wins C Equal s t h e = absurd (true≢false (sym e))
+tie-wins C Unordered s t h e = absurd (true≢false (sym e))
+
+pub tie-loses : (C : ℕ → Type 0) (c : Cmp) (s t : Tree) → Answers (TieOn C) c s t → is_greater c ≡ false → TieOn C s t → ⊥
+tie-loses C Greater s t h e tie = absurd (true≢false e)
+tie-loses C Less s t h e tie = TieOn-both C s t tie h
+tie-loses C Equal s t h e tie = TieOn-itself C t (subst (λ (x : Tree). TieOn C x t) h tie)
+tie-loses C Unordered s t h e tie = h.1 tie
+
+-- the answer for two lists is that for applications of one symbol
+pub answer_below :
+    (C : ℕ → Type 0) (c : Cmp) (f g : ℕ) (ts us : Trees)
+    → f ≡ g → Answers (AllGreaterOn C) c ts us → Answers (TieOn C) c (application f ts) (application g us)
+answer_below C Greater f g ts us e h = inr (e, h)
+answer_below C Less f g ts us e h = inr (sym e, h)
+answer_below C Equal f g ts us e h = ap₂ application e h
+answer_below C Unordered f g ts us e h = (
+  λ d. h.0 (below d),
+  λ k. ⊎_elim (λ less. absurd (omega arith)) (λ x. h.1 x.1) k,
+  λ k. ⊎_elim (λ less. absurd (omega arith)) (λ x. h.2 x.1) k,
+)
+  where
+    below : application f ts ≡ application g us → ts ≡ us
+    below d = cc
 
 -- the smaller one isn't greater, and neither is one of equal size that loses the tie
 size-not_greater : (C : ℕ → Type 0) (s t : Tree) → tree_size t < tree_size s → GreaterOn C t s → ⊥

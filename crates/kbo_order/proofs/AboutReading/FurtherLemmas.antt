@@ -197,7 +197,7 @@ differ-false s t h = false_from_ne_true (tree_eq s t) (λ e. h ((tree_equality_d
 pub greater-true : (s t : Tree) → TreeGreater s t → tree_greater s t ≡ true
 greater-true s t h = (tree_greater_decided s t).1 h
 
-greater-false : (s t : Tree) → (TreeGreater s t → ⊥) → tree_greater s t ≡ false
+pub greater-false : (s t : Tree) → (TreeGreater s t → ⊥) → tree_greater s t ≡ false
 greater-false s t h = false_from_ne_true (tree_greater s t) (λ e. h ((tree_greater_decided s t).0 e))
 
 pub answer-compared : (c : Cmp) (s t : Tree) → Answers TreeGreater c s t → comparison_of c ≡ compare_trees s t

@@ -1,5 +1,5 @@
 -- A smaller tree isn't greater, nor one of equal size whose head doesn't reach the other one's.
-use Rattle.std.proofs.Common.{◌≡◌, ℕ, ◌<◌, ◌≤◌, false, nat_le, sym, ⊎_elim, arith}
+use Rattle.std.proofs.Common.{◌≡◌, ℕ, ◌<◌, ◌≤◌, Bool, false, nat_le, sym, ⊎_elim, arith}
 use Rattle.std.proofs.lemmas.Bool.{false_from_ne_true}
 use Rattle.std.proofs.lemmas.Bool.Decides.{same_from_decides, nat_tests}
 use Rattle.fol_base.specs.Tree.{Tree, variable, application, tree_size}
@@ -7,9 +7,14 @@ use Rattle.fol_base.specs.Order.{tree_greater, compare_trees, TreeGreater}
 use Rattle.fol_base.proofs.AboutOrders.OrderLemmas.{tree_greater_decided}
 use Rattle.kbo_order.specs.declared.cmp.Cmp.{Cmp}
 use Rattle.kbo_order.specs.Cmp.{comparison_of, is_greater}
-use Rattle.kbo_order.specs.Heads.{head_reaches}
 use Rattle.kbo_order.proofs.AboutLaws.SubtermLemmas.{greater-size}
 use Rattle.kbo_order.proofs.AboutReading.AnswerLemmas.{compared-answer, greater-decides}
+
+-- Both begin with symbols, of which the second one isn't higher. Without this the first tree isn't greater at equal sizes.
+abbrev pub head_reaches : Tree → Tree → Bool
+head_reaches (variable v) t = false
+head_reaches (application f ts) (variable w) = false
+head_reaches (application f ts) (application g us) = nat_le g f
 
 pub smaller-not_greater : (s t : Tree) → tree_size s < tree_size t → false ≡ tree_greater s t
 smaller-not_greater s t less =

@@ -1,5 +1,6 @@
 -- How many counts are above the level, and how many below.
-use Rattle.std.proofs.Common.{◌≡◌, ℕ, zero, suc, ◌+◌, ◌-◌, ◌<◌, ◌≤◌, ◌^◌, ◌==◌, nat_lt, List, [], ◌∷◌, length, get_or, set, arith}
+use Rattle.std.proofs.Common.{◌≡◌, ℕ, zero, suc, ◌+◌, ◌-◌, ◌<◌, ◌≤◌, ◌^◌, ◌==◌, nat_lt, List, [], ◌∷◌, length, get_or, set, refl, ⊎_elim, arith}
+use Rattle.std.proofs.lemmas.Bool.{cases_lt}
 use Rattle.std.proofs.lemmas.Bool.Decides.{nat_tests}
 use Rattle.std.proofs.lemmas.List.Sums.{sum_by-set, sum_by-cons}
 use Rattle.kbo_order.specs.Balance.{above_level, below_level}
@@ -75,6 +76,20 @@ below-none [] h k below = absurd (omega arith)
 below-none (x ∷ xs) h zero below = not_less (2 ^ 63) x (omega (arith, sum_by-cons (λ (n : ℕ). bit (nat_lt n (2 ^ 63))) x xs))
 below-none (x ∷ xs) h (suc k) below =
     below-none xs (omega (arith, sum_by-cons (λ (n : ℕ). bit (nat_lt n (2 ^ 63))) x xs)) k (omega arith)
+
+pub below-some : (xs : List ℕ) → (below_level xs ≡ 0 → ⊥) → (k : ℕ) × (k < length xs) × (get_or xs k 0 < 2 ^ 63)
+below-some [] h = absurd (h refl)
+below-some (x ∷ xs) h =
+    ⊎_elim
+    (λ less. (0, omega arith, less))
+    (λ most.
+    let further = below-some xs (λ none. h (omega (arith, no_bit (2 ^ 63) x most, none, sum_by-cons (λ (n : ℕ). bit (nat_lt n (2 ^ 63))) x xs))) in
+    let within : further.0 < length xs = further.1 in
+    (suc further.0, omega (arith, within), further.2))
+    (cases_lt x (2 ^ 63))
+  where
+    no_bit : (x y : ℕ) → x ≤ y → bit (nat_lt y x) ≡ 0
+    no_bit x y h = grind (arith, nat_tests)
 
 pub none-above : (xs : List ℕ) → ((k : ℕ) → k < length xs → get_or xs k 0 ≤ 2 ^ 63) → above_level xs ≡ 0
 none-above [] h = omega arith
