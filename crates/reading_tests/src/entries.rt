@@ -4,7 +4,7 @@ use std::alloc::Global;
 use std::process::Abort;
 use tptp_reader::{Read, ReadFault, annotated};
 use tptp_token::{MOST_TEXT_BYTES, tokens};
-use tptp_tree::{MOST_NESTING, Role, print_formula};
+use tptp_tree::{MOST_NESTING, Role, print_formula, same_formula};
 
 /// What comes of the entry that begins at a token of a text.
 fn answer(
@@ -173,9 +173,9 @@ fn limits_levels(rt: HostRuntime) {
     expect_answers(&rt, rt.alloc(), LEVELS, 2);
 }
 
-/// Brackets, negations, quantifiers and terms round `p`, 5,000 levels deep: what opens and closes a level or two, how
-/// often, the limit within which they are read, the length of the printed formula, and where the reading ends within 500 levels. A quantifier's
-/// bracket is a level more, so the last one needs 5,001.
+/// Brackets, negations, quantifiers, terms, and connectives in turn round `p`, 5,000 levels deep: what opens and closes a level or
+/// two, how often, the limit within which they are read, the length of the printed formula, and where the reading ends within 500
+/// levels. A quantifier's bracket is a level more, so the last one needs 5,001.
 #[test]
 fn reads_deep_formulas(rt: HostRuntime) {
     let alloc = rt.alloc();
@@ -184,6 +184,7 @@ fn reads_deep_formulas(rt: HostRuntime) {
         ("~", "", 5_000, 5_000, 5_001, b"Nesting@512"),
         ("![X]:", "", 5_000, 5_001, 40_001, b"Nesting@2508"),
         ("f(", ")", 5_000, 5_000, 15_001, b"Nesting@1013"),
+        ("p&(p|(", "))", 2_500, 5_000, 29_999, b"Nesting@1514"),
     ] {
         let open = open.repeat(alloc, times).expect(&rt, "memory");
         let close = close.repeat(alloc, times).expect(&rt, "memory");
@@ -193,6 +194,19 @@ fn reads_deep_formulas(rt: HostRuntime) {
         let stopped = answer(&rt, alloc, text.as_bytes(), 0, MOST_NESTING);
         assert!(rt; shown(&rt, alloc, &stopped).as_slice() == refused);
     }
+}
+
+/// A copy of a formula with all connectives, both quantifiers and terms is the same.
+#[test]
+fn copies_formulas(rt: HostRuntime) {
+    let alloc = rt.alloc();
+    let text =
+        b"fof(a,axiom,![X]:((p(f(X),c)=>X=c)&((?[Y]:(~X!=Y|$true))<=$false)&((p<=>q)<~>(p~|(q~&r))))).";
+    let read = answer(&rt, alloc, text, 0, MOST_NESTING)
+        .ok()
+        .expect(&rt, "a formula");
+    let copied = read.annotated.formula.copy(alloc).expect(&rt, "memory");
+    assert!(rt; same_formula(&read.annotated.formula, &copied));
 }
 
 /// The parts of the second entry besides its formula. It begins at the tenth token.

@@ -19,6 +19,15 @@ fn prints_names(rt: HostRuntime) {
     }
 }
 
+#[test]
+fn prints_names_of_formulas(rt: HostRuntime) {
+    for (name, wanted) in [(b"12".as_slice(), b"12".as_slice()), (b"1a", b"'1a'")] {
+        let name = Text::from_slice(rt.alloc(), name).expect(&rt, "memory");
+        let text = print_formula_name(rt.alloc(), &name).expect(&rt, "memory");
+        assert!(rt; text.as_slice() == wanted);
+    }
+}
+
 /// As many negations of `$true` as a derivation may have.
 #[test]
 fn prints_deep_formulas(rt: HostRuntime) {

@@ -13,8 +13,8 @@ ghost use Rattle.tptp_problem.specs.Formulas.{Placed, placed};
 ghost use Rattle.tptp_problem.specs.Closed.{closed_within};
 ghost use Rattle.tptp_problem.specs.Problem.{IsProblem, IsProblemFault};
 ghost use Rattle.tptp_problem.specs.Spelled.{FromFile, from_file, SpellsProblem};
-ghost use Rattle.tptp_problem.specs.SpelledExamples.{SelectedFormula, WholeFile, OneClause};
-ghost use Rattle.tptp_problem.specs.Levels.{HasFewLevels};
+ghost use Rattle.tptp_problem.specs.SpelledExamples.{SelectedFormula, WholeFile, OneClause, SelectedProblem, MissingName};
+ghost use Rattle.tptp_problem.specs.Levels.{HasFewLevels, TooManyLevels};
 
 /// Where a library tells what it holds, a file has one problem or one first fault, but that a load may fail: there is at most
 /// one problem, no other fault beside it, and at most one other fault.
@@ -67,10 +67,11 @@ pub fn formulas_are_spelled()
         → SpellsProblem (Some holds) file root f → SpellsProblem (Some holds) file root g → f ≡ g }
 {}
 
-/// Each formula of a problem is said by one of at most 500 levels, and its printed text spells it within 1,000.
+/// Each formula of a problem is said by one of at most 500 levels, and its printed text spells it within 1,000; 501 negations aren't.
 pub fn few_levels()
-    ensures { (told : Option Holdings) (file : List ℕ) (root : Option (List ℕ)) (formulas : List Placed)
+    ensures problem { (told : Option Holdings) (file : List ℕ) (root : Option (List ℕ)) (formulas : List Placed)
         → IsProblem told file root formulas → AllByRecursion (λ (f : Placed). HasFewLevels f.tree.formula) formulas }
+    ensures not_more { TooManyLevels }
 {}
 
 /// The definitions of a problem, on small files.
@@ -78,4 +79,6 @@ pub fn problem_examples()
     ensures selected_formula { SelectedFormula }
     ensures whole_file { WholeFile }
     ensures one_clause { OneClause }
+    ensures selected_problem { SelectedProblem }
+    ensures missing_name { MissingName }
 {}

@@ -196,12 +196,7 @@ impl Reading<'_> {
         }
         match annotated(alloc, source.bytes, source.lexed, first, MOST_NESTING) {
             Err(ReadFault::NoMemory) => Err(ReadFault::NoMemory),
-            Err(ReadFault::At(cause, _, place)) => Err(ReadFault::at(
-                alloc,
-                cause,
-                source.name.as_slice(),
-                place,
-            )),
+            Err(ReadFault::At(cause, _, place)) => Err(source.fault_at(alloc, cause, place)),
             Ok(read) => {
                 let next = read.next;
                 let mut formula = read.annotated;

@@ -100,12 +100,19 @@ impl<'a> Source<'a> {
         if heads { Some(name) } else { None }
     }
 
+    /// A fault at a place of the file.
+    pub fn fault_at(&self, alloc: Global, cause: ReadCause, place: u32) -> ReadFault
+        ensures { IsFaultWhere (λ c f p. (c ≡ cause) × (f ≡ self.now.name.now) × (p ≡ place)) result }
+    {
+        ReadFault::at(alloc, cause, self.name.as_slice(), place)
+    }
+
     /// A fault at a token.
     pub fn fault(&self, alloc: Global, cause: ReadCause, at: usize) -> ReadFault
         ensures { IsFaultWhere
             (λ c f p. (c ≡ cause) × (f ≡ self.now.name.now) × (p ≡ start_of (slice_get self.now.lexed.now.tokens at))) result }
     {
-        ReadFault::at(alloc, cause, self.name.as_slice(), self.place_of(at))
+        self.fault_at(alloc, cause, self.place_of(at))
     }
 
     /// The fault behind the last token: that of the tokens, or else the end of the text.
@@ -115,7 +122,7 @@ impl<'a> Source<'a> {
             (λ c f p. (f ≡ self.now.name.now) × IsEndFault self.now.lexed.now.fault (length self.now.bytes.now) c p) result }
     {
         let (cause, place) = fault_at_end(self.lexed.fault, self.bytes.len() as u32);
-        ReadFault::at(alloc, cause, self.name.as_slice(), place)
+        self.fault_at(alloc, cause, place)
     }
 
     /// Where a token begins in the text; 0 behind the last one.

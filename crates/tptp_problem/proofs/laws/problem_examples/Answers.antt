@@ -1,4 +1,5 @@
-use Rattle.std.proofs.Common.{ℕ, true, false, None, Some, List, [], ◌∷◌, codes, refl, arith}
+use Rattle.std.proofs.Common.{◌≡◌, ◌≤◌, ℕ, ◌+◌, true, false, None, Some, List, [], ◌∷◌, codes, drop, length, refl, arith}
+use Rattle.std.specs.Prelude.{IfSome, slice_get}
 use Rattle.tptp_token.specs.Longest.{longest}
 use Rattle.tptp_token.specs.Kinds.{is_token, kind_of}
 use Rattle.tptp_token.specs.Pieces.{line_length, block_end, fills, piece_of}
@@ -7,10 +8,11 @@ use Rattle.tptp_token.specs.Words.{bare}
 use Rattle.tptp_tree.specs.declared.role.Role.TheVariants.{Plain}
 use Rattle.tptp_tree.specs.declared.formula.Formula.TheVariants.{Pred}
 use Rattle.tptp_tree.specs.Spelling.{no_phrases, predicate_atom}
-use Rattle.tptp_tree.specs.Entries.{word_name, positive_literal, literals, clause_body, AnnotatedPhrase, annotated_entry, whole_include, selected_include, annotated_tree, include_tree, IsAnnotatedOf, SpellsEntries}
+use Rattle.tptp_tree.specs.Entries.{word_name, positive_literal, literals, clause_body, AnnotatedPhrase, annotated_entry, whole_include, selected_include, annotated_tree, include_tree, IsAnnotatedOf, annotated_lexemes, SpellsEntries}
 use Rattle.tptp_reader.specs.declared.entry.Read.{Read}
 use Rattle.tptp_problem.specs.Spelled.{FromFile}
-use Rattle.tptp_problem.specs.SpelledExamples.{clause_named}
+use Rattle.tptp_problem.specs.Problem.{LoadedFile, tokens_of, lexemes, Step, Reads, IsFormulaStep, ReadsText}
+use Rattle.tptp_problem.specs.SpelledExamples.{clause_named, two_clauses, placed_clause}
 use Rattle.tptp_problem.proofs.laws.problem_examples.Goals as goal
 
 abbrev phrase : List ℕ → List ℕ → AnnotatedPhrase
@@ -52,13 +54,67 @@ at file name symbol = record { tree = clause_named name symbol; file = file }
 abbrev both : List ℕ → List FromFile
 both file = at file (codes "b") (codes "q") ∷ at file (codes "c") (codes "r") ∷ []
 
-abbrev read : Read
-read = record {
-  annotated = record { name = codes "a"; role = Plain; clause = true; formula = Pred (codes "p") []; file = []; place = 1 };
-  notes_start = 7;
-  notes_end = 7;
-  next = 9;
+-- ---- reading
+
+abbrev read_at : List ℕ → List ℕ → ℕ → ℕ → Read
+read_at name symbol first place = record {
+  annotated = record { name = name; role = Plain; clause = true; formula = Pred symbol []; file = []; place = place };
+  notes_start = first + 7;
+  notes_end = first + 7;
+  next = first + 9;
 }
+
+-- behind it nothing but the place has changed
+abbrev step_at : List ℕ → List ℕ → LoadedFile → ℕ → ℕ → ℕ → Step
+step_at name symbol file first place loaded = record {
+  formulas = placed_clause name symbol file.name place ∷ [];
+  progress = record { loaded = loaded; met = false };
+  next = first + 9;
+}
+
+clause-step :
+    (name symbol : List ℕ) (file : LoadedFile) (first place loaded : ℕ)
+    → drop first (lexemes file) ≡ annotated_lexemes (phrase name symbol) (drop (first + 9) (lexemes file)) → first + 9 ≤ length (tokens_of file)
+    → IfSome (slice_get (tokens_of file) first) (λ t. place ≡ t.start)
+    → IsFormulaStep file first (record { loaded = loaded; met = false }) (step_at name symbol file first place loaded)
+clause-step name symbol file first place loaded e l p = record {
+  single = refl;
+  read = read_at name symbol first place;
+  reading =
+      record {
+        phrase = phrase name symbol;
+        spelled = record { right = refl; spelled = e; faultless = (refl, (refl, (refl, (refl, (refl, (refl, (refl, (refl, (refl, tt))))))))) };
+        meant = says name symbol;
+        within = l;
+        notes = refl;
+        close = omega arith;
+        place = p;
+        file = refl;
+      };
+  formulas_are = refl;
+  progress_is = refl;
+  next_is = refl;
+}
+
+-- the file of two clauses
+two-read :
+    (base : List ℕ) (reads : Reads) (name : List ℕ) (around : List (List (List ℕ))) (loaded : ℕ)
+    → ReadsText base reads (record { name = name; bytes = two_clauses; around = around }) (record { loaded = loaded; met = false })
+    (placed_clause (codes "b") (codes "q") name 0 ∷ placed_clause (codes "c") (codes "r") name 15 ∷ []) (record { loaded = loaded; met = false })
+unfolding longest is_token kind_of line_length block_end fills piece_of lexed_from lexed_of
+two-read base reads name around loaded =
+    let file : LoadedFile = record { name = name; bytes = two_clauses; around = around } in
+    record {
+      steps = step_at (codes "b") (codes "q") file 0 0 loaded ∷ step_at (codes "c") (codes "r") file 9 15 loaded ∷ [];
+      are = (
+        (omega arith, clause-step (codes "b") (codes "q") file 0 0 loaded refl (omega arith) refl),
+        ((omega arith, clause-step (codes "c") (codes "r") file 9 15 loaded refl (omega arith) refl), tt),
+      );
+      ended = omega arith;
+      clean = refl;
+      formulas_are = refl;
+      progress_is = refl;
+    }
 
 pub returns : goal.returns
 unfolding longest is_token kind_of line_length block_end fills piece_of lexed_from lexed_of
@@ -117,31 +173,47 @@ returns c = record {
       bytes = codes " cnf(a,plain,p).";
       given = record { within = omega arith; held = refl };
       text =
+          let file : LoadedFile = record { name = codes "a"; bytes = codes " cnf(a,plain,p)."; around = [] } in
           record {
-            steps = record { formulas = record { tree = clause_named (codes "a") (codes "p"); file = codes "a"; place = 1 } ∷ []; progress = record { loaded = 16; met = false }; next = 9 } ∷ [];
+            steps = step_at (codes "a") (codes "p") file 0 1 16 ∷ [];
+            are = ((omega arith, clause-step (codes "a") (codes "p") file 0 1 16 refl (omega arith) refl), tt);
+            ended = omega arith;
+            clean = refl;
+            formulas_are = refl;
+            progress_is = refl;
+          };
+    },
+  );
+  selected_problem = (
+    record { loaded = 60; met = false },
+    record {
+      bytes = codes "include(f,[c]).cnf(a,plain,p).";
+      given = record { within = omega arith; held = refl };
+      text =
+          let file : LoadedFile = record { name = codes "d/a"; bytes = codes "include(f,[c]).cnf(a,plain,p)."; around = [] } in
+          record {
+            steps =
+                record { formulas = placed_clause (codes "c") (codes "r") (codes "d/f") 15 ∷ []; progress = record { loaded = 60; met = false }; next = 9 }
+                ∷ step_at (codes "a") (codes "p") file 9 15 60 ∷ [];
             are = (
               (
                 omega arith,
                 record {
-                  single = refl;
-                  read = read;
-                  reading =
+                  file = bare (codes "f");
+                  names = word_name (bare (codes "c")) ∷ [];
+                  spelled = record { right = refl; spelled = refl; within = omega arith };
+                  formulas = placed_clause (codes "b") (codes "q") (codes "d/f") 0 ∷ placed_clause (codes "c") (codes "r") (codes "d/f") 15 ∷ [];
+                  read =
                       record {
-                        phrase = phrase (codes "a") (codes "p");
-                        spelled = record { right = refl; spelled = refl; faultless = (refl, (refl, (refl, (refl, (refl, (refl, (refl, (refl, (refl, tt))))))))) };
-                        meant = says (codes "a") (codes "p");
-                        within = omega arith;
-                        notes = refl;
-                        close = refl;
-                        place = refl;
-                        file = refl;
+                        bytes = two_clauses;
+                        given = record { within = omega arith; held = refl };
+                        text = two-read _ _ (codes "d/f") ((codes "c" ∷ []) ∷ []) 60;
                       };
-                  formulas_are = refl;
-                  progress_is = refl;
-                  next_is = refl;
+                  present = refl;
+                  taken = refl;
                 },
               ),
-              tt,
+              ((omega arith, clause-step (codes "a") (codes "p") file 9 15 60 refl (omega arith) refl), tt),
             );
             ended = omega arith;
             clean = refl;
@@ -150,4 +222,40 @@ returns c = record {
           };
     },
   );
+  missing_name =
+      inr (record {
+        bytes = codes "include(f,[d]).";
+        given = record { within = omega arith; held = refl };
+        fault =
+            record {
+              steps = [];
+              are = tt;
+              why =
+                  inl (
+                    omega arith,
+                    inr (record {
+                      word = bare (codes "f");
+                      names = word_name (bare (codes "d")) ∷ [];
+                      next = 9;
+                      spelled = record { right = refl; spelled = refl; within = omega arith };
+                      why =
+                          inr (record {
+                            formulas = placed_clause (codes "b") (codes "q") (codes "f") 0 ∷ placed_clause (codes "c") (codes "r") (codes "f") 15 ∷ [];
+                            behind = record { loaded = 45; met = false };
+                            read =
+                                record {
+                                  bytes = two_clauses;
+                                  given = record { within = omega arith; held = refl };
+                                  text = two-read _ _ (codes "f") ((codes "d" ∷ []) ∷ []) 45;
+                                };
+                            index = 0;
+                            missing_is = refl;
+                            cause_is = refl;
+                            file_is = refl;
+                            place_is = refl;
+                          });
+                    }),
+                  );
+            };
+      });
 }

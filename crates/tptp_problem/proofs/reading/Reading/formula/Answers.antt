@@ -34,7 +34,7 @@ returns-in-Err-At-clause-fault c =
       | else-self-via-else-self w ↦ second-clear s c.args.first progress w.if-self.false
     ] in
     let told = subst (λ (x : ReadFault). IsFaultOf MOST_NESTING s.bytes.now s.lexed.now c.args.first x) c.in-Err-At.field-0-is c.in-Err-At.ensures.fault in
-    fault-then _ _ c.at.result (formula-fault s c.args.first progress c.in-Err-At.cause c.in-Err-At.place c.requires.lexed single told.1) c.at.ensures
+    fault-then _ _ c.fault_at.result (formula-fault s c.args.first progress c.in-Err-At.cause c.in-Err-At.place c.requires.lexed single told.1) c.fault_at.ensures
 
 pub returns-clause-read : goal.returns-clause-read
 returns-clause-read c =
@@ -66,7 +66,7 @@ returns-clause-read c =
       added = placed_in s.name.now read.annotated ∷ [];
       joined =
           formula-added c.args.formulas.now.items c.push.new.self.items read.annotated _ s.name.now c.in_ok-push-in-Ok.ensures.items refl
-          (c.in_ok-formula-in-Ok.ensures ∙ c.as_bytes.ensures.value) refl;
+          c.in_ok-formula-in-Ok.ensures refl;
       step =
           formula-step s c.args.first start (progress_of c.if-counts_as_conjecture.self) read c.requires.lexed single c.in-Ok.ensures.read
           (met-then (selections s.around.now) read.annotated s.name.now start (progress_of c.if-counts_as_conjecture.self)
