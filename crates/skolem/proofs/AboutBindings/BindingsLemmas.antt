@@ -122,7 +122,7 @@ binding-at [] i = refl
 binding-at (e ∷ es) zero = refl
 binding-at (e ∷ es) (suc i) = binding-at es i
 
-variables-in : Entry → List ℕ
+abbrev variables-in : Entry → List ℕ
 variables-in e = tree_variables (bound_tree e.binding.term)
 
 alike-append : (es fs : List Entry) (i a : ℕ) → i < length es → IsAlike es i a → IsAlike (es ++ fs) i a
