@@ -1,7 +1,9 @@
 // What no clause says of clausal forms: outside rows, and that calls succeed.
 
 use crate::printing::print_clauses;
-use crate::texts::{conjunctions, equivalences, named_clause, problem_of, repeated};
+use crate::texts::{
+    conjunctions, equivalences, named_clause, names_under_some, problem_of, repeated,
+};
 use clausal_form::{Clausal, FormFault, clausal};
 use std::alloc::Global;
 use std::process::Abort;
@@ -131,6 +133,10 @@ fn limits_of_formulas(rt: HostRuntime) {
     }
     let text = equivalences(&rt, alloc, 19, "p");
     expect_counts(&rt, alloc, text.as_slice(), "Expansion a");
+    for (count, wanted) in [(1_998, "41 45 hc0"), (1_999, "TooHeavy a")] {
+        let text = names_under_some(&rt, alloc, count, 40);
+        expect_counts(&rt, alloc, text.as_slice(), wanted);
+    }
     let variables = "X,".repeat(alloc, 5_000).expect(&rt, "memory");
     let atom = format!(in alloc; "![X]:q({}X)", variables.as_str()).expect(&rt, "memory");
     let text = equivalences(&rt, alloc, 16, atom.as_str());

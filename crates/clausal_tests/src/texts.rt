@@ -81,3 +81,39 @@ pub(crate) fn equivalences(
     let after = format!(in alloc; "{innermost}{close}).").expect(rt, "memory");
     repeated(rt, alloc, "fof(a,axiom,", "p<=>(", count, after.as_str())
 }
+
+/// The numbers from 0 on, so many, each in that text, with that text between two of them.
+fn numbered(
+    rt: &impl Abort,
+    alloc: Global,
+    count: u32,
+    before: &str,
+    after: &str,
+    between: &str,
+) -> String {
+    let mut text = String::new(alloc);
+    for number in 0..count {
+        let sign = if number > 0 { between } else { "" };
+        let part = format!(in alloc; "{sign}{before}{number}{after}").expect(rt, "memory");
+        text.push_str(part.as_str()).expect(rt, "memory");
+    }
+    text
+}
+
+/// `![X0,..]:?[Y0,..]:(q(X0,..)&?[Z]:(p(Y0,Z)&..))`: the Skolem terms for each Y and for Z have all X as arguments.
+pub(crate) fn names_under_some(
+    rt: &impl Abort,
+    alloc: Global,
+    arguments: u32,
+    names: u32,
+) -> Vec<u8> {
+    let outer = numbered(rt, alloc, arguments, "X", "", ",");
+    let inner = numbered(rt, alloc, names, "Y", "", ",");
+    let atoms = numbered(rt, alloc, names, "p(Y", ",Z)", "&");
+    let outer = outer.as_str();
+    let inner = inner.as_str();
+    let atoms = atoms.as_str();
+    format!(in alloc; "fof(a,axiom,![{outer}]:?[{inner}]:(q({outer})&?[Z]:({atoms}))).")
+        .expect(rt, "memory")
+        .into_bytes()
+}

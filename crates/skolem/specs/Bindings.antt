@@ -1,14 +1,20 @@
--- How the innermost binding of a name is found: the bindings of a name are chained, from the innermost outwards.
-use Rattle.std.specs.Prelude.{◌≡◌, ℕ, zero, suc, ◌<◌, List, [], length, map, get_or, bytes_eq, if◌then◌else◌}
+-- How the innermost binding of a name is found: the bindings of a name are chained, from the innermost outwards. And how bindings whose terms
+-- have the same variables are known.
+use Rattle.std.specs.Prelude.{◌≡◌, ⊤, ℕ, zero, suc, ◌<◌, ◌≤◌, List, [], length, map, get_or, bytes_eq, if◌then◌else◌}
 use Rattle.std.specs.Option.{unwrap_or}
 use Rattle.std.specs.Map.{lookup}
+use Rattle.fol_base.specs.Tree.{tree_variables}
 use Rattle.skolem.specs.declared.name.VariableName.{VariableName}
 use Rattle.skolem.specs.declared.bound_term.BoundTerm.TheVariants.{Closed}
 use Rattle.skolem.specs.declared.bindings.Binding.{Binding}
 use Rattle.skolem.specs.declared.bindings.Entry.{Entry}
+use Rattle.skolem.specs.BoundTerm.{bound_tree}
+
+abbrev pub no_binding : Binding
+no_binding = record { name = []; term = Closed }
 
 abbrev pub no_entry : Entry
-no_entry = record { binding = record { name = []; term = Closed }; hidden = 0 }
+no_entry = record { binding = no_binding; hidden = 0; alike = 0 }
 
 abbrev pub name_at : List Entry → ℕ → List ℕ
 name_at es i = (get_or es i no_entry).binding.name
@@ -22,10 +28,25 @@ innermost_below x es (suc n) = if bytes_eq (name_at es n) x then suc n else inne
 abbrev pub place_in : List (VariableName × ℕ) → List ℕ → ℕ
 place_in heads x = unwrap_or (lookup (λ (k : VariableName). bytes_eq x k.text) heads) 0
 
--- Each entry leads to the binding of its name that it hides, and the table to the innermost of each name.
+abbrev pub entry_variables : List Entry → ℕ → List ℕ
+entry_variables es i = tree_variables (bound_tree (get_or es i no_entry).binding.term)
+
+-- Nothing is said by 0. Else it is one more than a place up to i, whose term has the same variables as that at i.
+abbrev pub IsAlike : List Entry → ℕ → ℕ → Type 0
+IsAlike es i zero = ⊤
+IsAlike es i (suc j) = (j ≤ i) × (entry_variables es j ≡ entry_variables es i)
+
+-- Each entry leads to the binding of its name that it hides, and the table to the innermost of each name; and an entry may lead to one whose
+-- term has the same variables.
 pub record IsChained (es : List Entry) (heads : List (VariableName × ℕ)) : Type 0 where
   pub hidden : (i : ℕ) → i < length es → (get_or es i no_entry).hidden ≡ innermost_below (name_at es i) es i
   pub innermost : (x : List ℕ) → place_in heads x ≡ innermost_below x es (length es)
+  pub alike : (i : ℕ) → i < length es → IsAlike es i (get_or es i no_entry).alike
 
 abbrev pub bindings_of : List Entry → List Binding
 bindings_of es = map (λ (e : Entry). e.binding) es
+
+-- Nothing is said by the place 0. Else there is a binding at the place, counted from 1, and its term has those variables.
+abbrev pub HasVariables : List Binding → ℕ → List ℕ → Type 0
+HasVariables bs zero vs = ⊤
+HasVariables bs (suc i) vs = (i < length bs) × (tree_variables (bound_tree (get_or bs i no_binding).term) ≡ vs)

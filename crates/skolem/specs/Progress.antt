@@ -9,6 +9,7 @@ use Rattle.skolem.specs.declared.bound_term.BoundTerm.TheVariants.{Var, Closed}
 use Rattle.skolem.specs.declared.bindings.Binding.{Binding}
 use Rattle.skolem.specs.declared.progress.Progress.{Progress}
 use Rattle.skolem.specs.BoundTerm.{bound_tree}
+use Rattle.skolem.specs.Bindings.{no_binding}
 
 -- the last binding is the innermost
 abbrev pub environment_of : List Binding → Environment
@@ -54,9 +55,6 @@ abbrev mutual
   all_occurring (formula_then f fs) env = occurring f env ++ all_occurring fs env
 
 -- ---- the places of bindings
-
-abbrev pub no_binding : Binding
-no_binding = record { name = []; term = Closed }
 
 -- The variables of the term at a place. Places are counted from 1, and 0 is that of a name without a binding.
 abbrev pub place_variables : List Binding → ℕ → List ℕ

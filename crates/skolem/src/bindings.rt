@@ -6,7 +6,7 @@ ghost use Rattle.fol_base.specs.Tree.{variable, tree_variables};
 ghost use Rattle.signature.specs.Environment.{term_in_force};
 ghost use Rattle.skolem.specs.declared.bindings.Entry.{Entry};
 ghost use Rattle.skolem.specs.BoundTerm.{bound_tree};
-ghost use Rattle.skolem.specs.Bindings.{place_in};
+ghost use Rattle.skolem.specs.Bindings.{place_in, HasVariables};
 ghost use Rattle.skolem.specs.Progress.{environment_of, place_variables};
 
 use crate::bound_term::BoundTerm;
@@ -26,11 +26,13 @@ pub(crate) struct Binding {
     pub term: BoundTerm,
 }
 
-/// A binding, with one more than the place of the binding of its name that it hides, or 0.
+/// A binding, with one more than the place of the binding of its name that it hides, or 0; and with one more than the place of a binding whose
+/// term has the same variables, or 0 where none is noted.
 #[derive(Drop)]
 pub(crate) struct Entry {
     pub binding: Binding,
     pub hidden: usize,
+    pub alike: usize,
 }
 
 /// The variables in force, which contracts see as the list of their bindings, the innermost last. A name is found by a table.
@@ -88,12 +90,18 @@ impl Bindings {
         Some(&entry.binding.term)
     }
 
-    /// One more than the place of the innermost variable of that name, or 0 where there is no such variable.
+    /// One more than the place of a binding whose term has the variables of the innermost variable of that name, or 0 where there is no such
+    /// variable. All names of one `?` have the same place, so that their arguments, which are the same, are found once.
     pub(crate) fn place(&self, name: &Text) -> usize
         ensures within { result ≤ length self.now }
         ensures variables { place_variables self.now result ≡ tree_variables (term_in_force (environment_of self.now) name.now) }
     {
-        place_of(&self.innermost, name)
+        let place = place_of(&self.innermost, name);
+        if place == 0 {
+            return 0;
+        }
+        let alike = entry_at(self.entries.as_slice(), place - 1).alike;
+        if alike == 0 { place } else { alike }
     }
 
     /// Adds the variables of the term at a place, which is given as `place` gives it.
@@ -125,6 +133,20 @@ impl Bindings {
     pub(crate) fn push(&mut self, alloc: Global, name: &Text, term: BoundTerm) -> Mem<()>
         ensures { IfOk result (λ _. self.new ≡ self.old ++ record { name = name.now; term = term } ∷ []) }
     {
+        self.push_alike(alloc, name, term, 0)
+    }
+
+    /// Adds a binding, the innermost. Its term has the variables of that at a place, which is counted from 1; 0 says nothing.
+    pub(crate) fn push_alike(
+        &mut self,
+        alloc: Global,
+        name: &Text,
+        term: BoundTerm,
+        alike: usize,
+    ) -> Mem<()>
+        requires alike { HasVariables self.old alike (tree_variables (bound_tree term)) }
+        ensures { IfOk result (λ _. self.new ≡ self.old ++ record { name = name.now; term = term } ∷ []) }
+    {
         let key = VariableName {
             text: name.copy(alloc)?,
         };
@@ -135,7 +157,11 @@ impl Bindings {
         let hidden = place_of(&self.innermost, name);
         self.entries.reserve(1)?;
         self.innermost.reserve(1)?;
-        self.entries.push_reserved(Entry { binding, hidden });
+        self.entries.push_reserved(Entry {
+            binding,
+            hidden,
+            alike,
+        });
         let place = self.entries.as_slice().len();
         self.innermost.insert(key, place).unwrap();
         Ok(())
@@ -155,7 +181,11 @@ impl Bindings {
         requires { 0 < length self.old }
         ensures { self.new ≡ take (length self.old - 1) self.old }
     {
-        let Entry { binding, hidden } = self.entries.pop().unwrap();
+        let Entry {
+            binding,
+            hidden,
+            alike: _,
+        } = self.entries.pop().unwrap();
         let key = VariableName { text: binding.name };
         self.innermost.insert(key, hidden).unwrap();
     }

@@ -11,6 +11,7 @@ ghost use Rattle.formula_nnf.specs.Shape.{nnf_tree, signed};
 ghost use Rattle.skolem.specs.Matrix.{matrices_of};
 ghost use Rattle.skolem.specs.Shape.{matrix_tree};
 ghost use Rattle.skolem.specs.Skolemized.{skolemized, skolemized_list, numbers_after, skolemized_form, AreKnown};
+ghost use Rattle.skolem.specs.Bindings.{HasVariables};
 ghost use Rattle.skolem.specs.Progress.{environment_of, made_of, scope_of_progress, skolem_step, skolem_steps};
 
 use crate::bound_term::BoundTerm;
@@ -202,24 +203,32 @@ fn bind_applied(
     ensures bindings { IfOk result (λ _.
         take (length progress.old.bindings) progress.new.bindings ≡ progress.old.bindings) }
 {
+    let mut first = 0;
     for name in names {
-        bind_skolem_term(alloc, signature, arguments, name, progress)?;
+        bind_skolem_term(alloc, signature, arguments, name, first, progress)?;
+        if first == 0 {
+            first = progress.bindings.len();
+        }
     }
     Ok(())
 }
 
-/// Binds a name to the next Skolem symbol, applied to those variables.
+/// Binds a name to the next Skolem symbol, applied to those variables. They are those of the binding at a place, which is counted from 1; 0 says
+/// nothing.
 fn bind_skolem_term(
     alloc: Global,
     signature: &Signature,
     arguments: &Rc<Vec<u32>>,
     name: &Text,
+    alike: usize,
     progress: &mut Progress,
 ) -> Mem<()>
+    requires alike { HasVariables progress.old.bindings alike arguments.now.value.items }
     ensures scope { IfOk result (λ _.
         scope_of_progress progress.new ≡ skolem_step (numbers_after signature.now) arguments.now.value.items name.now (scope_of_progress progress.old)) }
     ensures bindings { IfOk result (λ _.
         take (length progress.old.bindings) progress.new.bindings ≡ progress.old.bindings) }
+    ensures last { IfOk result (λ _. HasVariables progress.new.bindings (length progress.new.bindings) arguments.now.value.items) }
 {
     let made = progress.arities.as_slice();
     let symbol = next_symbol(signature, made.len())?;
@@ -228,7 +237,7 @@ fn bind_skolem_term(
         symbol,
         arguments: arguments.clone()?,
     };
-    progress.bind_term(alloc, name, term, arity)?;
+    progress.bind_term(alloc, name, term, arity, alike)?;
     Ok(())
 }
 

@@ -6,6 +6,9 @@ ghost use Rattle.std.specs.List.Sorted.{IsNonDecreasingBy};
 ghost use Rattle.signature.specs.Environment.{free_names, without_names};
 ghost use Rattle.signature.specs.Clausal.{skolem_arguments, made_in_order};
 ghost use Rattle.signature.specs.Form.{nothing_made};
+ghost use Rattle.fol_base.specs.Tree.{tree_variables};
+ghost use Rattle.skolem.specs.BoundTerm.{bound_tree};
+ghost use Rattle.skolem.specs.Bindings.{HasVariables};
 ghost use Rattle.skolem.specs.Progress.{environment_of, variable_term, made_of, variables_at};
 
 use crate::bindings::Bindings;
@@ -50,21 +53,24 @@ impl Progress {
         Ok(())
     }
 
-    /// A new Skolem term stands for the name. Its symbol has that number of arguments.
+    /// A new Skolem term stands for the name. Its symbol has that number of arguments. They are the variables of the binding at a place, which is
+    /// counted from 1; 0 says nothing.
     pub(crate) fn bind_term(
         &mut self,
         alloc: Global,
         name: &Text,
         term: BoundTerm,
         arity: u32,
+        alike: usize,
     ) -> Mem<()>
+        requires alike { HasVariables self.old.bindings alike (tree_variables (bound_tree term)) }
         ensures bindings { IfOk result (λ _. self.new.bindings
             ≡ self.old.bindings ++ record { name = name.now; term = term } ∷ []) }
         ensures variables { self.new.variables ≡ self.old.variables }
         ensures arities { IfOk result (λ _. self.new.arities.items ≡ self.old.arities.items ++ arity ∷ []) }
     {
         self.arities.push(arity)?;
-        self.bindings.push(alloc, name, term)
+        self.bindings.push_alike(alloc, name, term, alike)
     }
 
     /// The variables in the terms of a quantified form's free variables, in the order in which they were made, each once. The form

@@ -6,14 +6,14 @@ use Rattle.std.specs.Map.{lookup}
 use Rattle.std.proofs.lemmas.Bool.{cases_lt}
 use Rattle.std.proofs.lemmas.List.{get_or_append_left, length-append, take_all}
 use Rattle.std.proofs.lemmas.Slice.Eq.{bytes_eq-Decides}
-use Rattle.fol_base.specs.Tree.{variable}
+use Rattle.fol_base.specs.Tree.{variable, tree_variables}
 use Rattle.signature.specs.Environment.{Environment, term_in_force}
 use Rattle.skolem.specs.declared.name.VariableName.{VariableName}
 use Rattle.skolem.specs.declared.bindings.Binding.{Binding}
 use Rattle.skolem.specs.declared.bindings.Entry.{Entry}
 use Rattle.skolem.specs.BoundTerm.{bound_tree}
 use Rattle.skolem.specs.Name.{same_name}
-use Rattle.skolem.specs.Bindings.{no_entry, name_at, innermost_below, place_in, IsChained, bindings_of}
+use Rattle.skolem.specs.Bindings.{no_binding, no_entry, name_at, innermost_below, place_in, entry_variables, IsAlike, IsChained, bindings_of, HasVariables}
 use Rattle.skolem.specs.Progress.{environment_of}
 
 -- the last binding comes first
@@ -115,14 +115,49 @@ found-some es heads bs x place e c v p h g =
     one : place ≡ place - 1 + 1
     one = omega (arith, h)
 
+-- ---- bindings whose terms have the same variables
+
+pub binding-at : (es : List Entry) (i : ℕ) → get_or (bindings_of es) i no_binding ≡ (get_or es i no_entry).binding
+binding-at [] i = refl
+binding-at (e ∷ es) zero = refl
+binding-at (e ∷ es) (suc i) = binding-at es i
+
+abbrev variables-in : Entry → List ℕ
+variables-in e = tree_variables (bound_tree e.binding.term)
+
+alike-append : (es fs : List Entry) (i a : ℕ) → i < length es → IsAlike es i a → IsAlike (es ++ fs) i a
+alike-append es fs i zero h k = tt
+alike-append es fs i (suc j) h k = (
+  k.0,
+  ap variables-in (get_or_append_left es fs no_entry j (omega (arith, h, k.0))) ∙ k.1 ∙ ap variables-in (sym (get_or_append_left es fs no_entry i h)),
+)
+
+alike-before : (es fs : List Entry) (i a : ℕ) → i < length es → IsAlike (es ++ fs) i a → IsAlike es i a
+alike-before es fs i zero h k = tt
+alike-before es fs i (suc j) h k = (
+  k.0,
+  ap variables-in (sym (get_or_append_left es fs no_entry j (omega (arith, h, k.0)))) ∙ k.1 ∙ ap variables-in (get_or_append_left es fs no_entry i h),
+)
+
 -- ---- one entry more or less
 
 pub chained-none : IsChained [] []
-chained-none = record { hidden = λ i h. absurd (omega (arith, h)); innermost = λ x. refl }
+chained-none = record { hidden = λ i h. absurd (omega (arith, h)); innermost = λ x. refl; alike = λ i h. absurd (omega (arith, h)) }
 
 last-entry : (es : List Entry) (e : Entry) → get_or (es ++ e ∷ []) (length es) no_entry ≡ e
 last-entry [] e = refl
 last-entry (d ∷ es) e = last-entry es e
+
+alike-last : (es : List Entry) (e : Entry) (a : ℕ) → HasVariables (bindings_of es) a (variables-in e) → IsAlike (es ++ e ∷ []) (length es) a
+alike-last es e zero h = tt
+alike-last es e (suc j) h = (
+  omega (arith, under),
+  ap variables-in (get_or_append_left es (e ∷ []) no_entry j under)
+      ∙ ap (λ (b : Binding). tree_variables (bound_tree b.term)) (sym (binding-at es j)) ∙ h.1 ∙ ap variables-in (sym (last-entry es e)),
+)
+  where
+    under : j < length es
+    under = omega (arith, h.0, bindings-length es)
 
 innermost-append : (x : List ℕ) (es fs : List Entry) (n : ℕ) → n ≤ length es → innermost_below x (es ++ fs) n ≡ innermost_below x es n
 innermost-append x es fs zero h = refl
@@ -158,10 +193,11 @@ place-after heads new key place x put = ap (λ o. unwrap_or o 0) (put (record { 
 
 pub chained-push :
     (es all : List Entry) (heads new : List (VariableName × ℕ)) (key : VariableName) (e : Entry) (place : ℕ)
-    → IsChained es heads → key.text ≡ e.binding.name → e.hidden ≡ place_in heads e.binding.name → all ≡ es ++ e ∷ [] → place ≡ length all
+    → IsChained es heads → key.text ≡ e.binding.name → e.hidden ≡ place_in heads e.binding.name → HasVariables (bindings_of es) e.alike (variables-in e)
+    → all ≡ es ++ e ∷ [] → place ≡ length all
     → ((q : VariableName) → lookup (same_name q) new ≡ cond (same_name key q) (Some place) (lookup (same_name q) heads))
     → IsChained all new
-chained-push es all heads new key e place c k h a p put = subst (λ ds. IsChained ds new) (sym a) (record {
+chained-push es all heads new key e place c k h g a p put = subst (λ ds. IsChained ds new) (sym a) (record {
   hidden = λ i l. link i l (cases_lt i (length es));
   innermost = λ x.
       place-after heads new key place x put
@@ -169,6 +205,7 @@ chained-push es all heads new key e place c k h a p put = subst (λ ds. IsChaine
       ∙ ap (λ n. if bytes_eq e.binding.name x then n else place_in heads x) longer
       ∙ ap (λ n. if bytes_eq e.binding.name x then suc (length es) else n) (c.innermost x)
       ∙ sym (innermost-last x es e);
+  alike = λ i l. like i l (cases_lt i (length es));
 })
   where
     longer : place ≡ suc (length es)
@@ -195,6 +232,19 @@ chained-push es all heads new key e place c k h a p put = subst (λ ds. IsChaine
             ∙ sym (innermost-append e.binding.name es (e ∷ []) (length es) (omega arith))
             ∙ ap (λ (d : Entry). innermost_below d.binding.name (es ++ e ∷ []) (length es)) (sym (last-entry es e))
 
+    like :
+        (i : ℕ) → i < length (es ++ e ∷ []) → (i < length es) ⊎ (length es ≤ i)
+        → IsAlike (es ++ e ∷ []) i (get_or (es ++ e ∷ []) i no_entry).alike
+    like i l (inl less) =
+        subst (λ (d : Entry). IsAlike (es ++ e ∷ []) i d.alike) (sym (get_or_append_left es (e ∷ []) no_entry i less))
+        (alike-append es (e ∷ []) i _ less (c.alike i less))
+    like i l (inr more) =
+        subst (λ j. IsAlike (es ++ e ∷ []) j (get_or (es ++ e ∷ []) j no_entry).alike) last
+        (subst (λ (d : Entry). IsAlike (es ++ e ∷ []) (length es) d.alike) (sym (last-entry es e)) (alike-last es e e.alike g))
+      where
+        last : length es ≡ i
+        last = omega (arith, l, more, length-append es (e ∷ []))
+
 pub chained-pop :
     (es rest : List Entry) (heads new : List (VariableName × ℕ)) (key : VariableName) (e : Entry)
     → IsChained es heads → key.text ≡ e.binding.name → es ≡ rest ++ e ∷ []
@@ -209,6 +259,11 @@ chained-pop es rest heads new key e c k a put = record {
       ∙ ap (λ ds. innermost_below (name_at rest i) ds i) a
       ∙ innermost-append (name_at rest i) rest (e ∷ []) i (omega (arith, l));
   innermost = λ x. place-after heads new key e.hidden x put ∙ ap (λ y. if bytes_eq y x then e.hidden else place_in heads x) k ∙ by x (bytes_eq e.binding.name x) refl;
+  alike = λ i l.
+      let same : get_or es i no_entry ≡ get_or rest i no_entry = ap (λ ds. get_or ds i no_entry) a ∙ get_or_append_left rest (e ∷ []) no_entry i l in
+      alike-before rest (e ∷ []) i _ l
+      (subst (λ ds. IsAlike ds i (get_or rest i no_entry).alike) a
+      (subst (λ (d : Entry). IsAlike es i d.alike) same (c.alike i (omega (arith, l, ap length a, length-append rest (e ∷ []))))));
 }
   where
     outer : e.hidden ≡ innermost_below e.binding.name rest (length rest)

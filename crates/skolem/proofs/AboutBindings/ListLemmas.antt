@@ -63,7 +63,7 @@ pub begun-then :
     → take (length old) mid ≡ old → length old ≤ length mid → take (length mid) new ≡ mid → take (length old) new ≡ old
 begun-then old mid new h l e = sym (take-take (length old) (length mid) new l) ∙ ap (take (length old)) e ∙ h
 
-length-take : {X : Type 0} (n : ℕ) (xs : List X) → length (take n xs) ≤ length xs
+pub length-take : {X : Type 0} (n : ℕ) (xs : List X) → length (take n xs) ≤ length xs
 length-take zero xs = omega arith
 length-take (suc n) [] = omega arith
 length-take (suc n) (x ∷ xs) = omega (arith, length-take n xs)

@@ -16,19 +16,14 @@ use Rattle.skolem.specs.declared.name.VariableName.{VariableName}
 use Rattle.skolem.specs.declared.bindings.Binding.{Binding}
 use Rattle.skolem.specs.declared.bindings.Entry.{Entry}
 use Rattle.skolem.specs.BoundTerm.{bound_tree}
-use Rattle.skolem.specs.Bindings.{no_entry, place_in, IsChained, bindings_of}
-use Rattle.skolem.specs.Progress.{environment_of, no_binding, place_variables, variables_at, outer_variables, AreClosedFrom, with_closed, occurring}
-use Rattle.skolem.proofs.AboutBindings.ListLemmas.{added, take-take}
-use Rattle.skolem.proofs.AboutBindings.BindingsLemmas.{found-none, found-some}
+use Rattle.skolem.specs.Bindings.{no_binding, no_entry, place_in, entry_variables, IsAlike, IsChained, bindings_of, HasVariables}
+use Rattle.skolem.specs.Progress.{environment_of, place_variables, variables_at, outer_variables, AreClosedFrom, with_closed, occurring}
+use Rattle.skolem.proofs.AboutBindings.ListLemmas.{added, length-last, length-take, take-take}
+use Rattle.skolem.proofs.AboutBindings.BindingsLemmas.{found-none, found-some, found-place, place-under, binding-at}
 use Rattle.skolem.proofs.AboutBindings.OccurringLemmas.{any-flat_map, any-filter}
 use Rattle.skolem.proofs.AboutFormulas.FormLemmas.{any-mono}
 
 -- ---- the binding at a place
-
-binding-at : (es : List Entry) (i : ℕ) → get_or (bindings_of es) i no_binding ≡ (get_or es i no_entry).binding
-binding-at [] i = refl
-binding-at (e ∷ es) zero = refl
-binding-at (e ∷ es) (suc i) = binding-at es i
 
 pub place-variables :
     (es : List Entry) (heads : List (VariableName × ℕ)) (bs : List Binding) (x : List ℕ) (place : ℕ)
@@ -42,6 +37,64 @@ place-variables es heads bs x (suc i) c v p =
   where
     before : i ≡ suc i - 1
     before = omega arith
+
+-- no binding has the name
+pub no-variables :
+    (es : List Entry) (heads : List (VariableName × ℕ)) (bs : List Binding) (x : List ℕ) (place : ℕ)
+    → IsChained es heads → bindings_of es ≡ bs → place ≡ place_in heads x → place ≡ 0
+    → place_variables bs 0 ≡ tree_variables (term_in_force (environment_of bs) x)
+no-variables es heads bs x place c v p z = ap (place_variables bs) (sym z) ∙ place-variables es heads bs x place c v p
+
+-- the place of a binding whose term has the same variables
+pub alike-variables :
+    (es : List Entry) (heads : List (VariableName × ℕ)) (bs : List Binding) (x : List ℕ) (place a : ℕ) (e : Entry)
+    → IsChained es heads → bindings_of es ≡ bs → place ≡ place_in heads x → 0 < place → e ≡ get_or es (place - 1) no_entry → a ≡ e.alike → 0 < a
+    → (a ≤ length bs) × (place_variables bs a ≡ tree_variables (term_in_force (environment_of bs) x))
+alike-variables es heads bs x place zero e c v p h g n o = absurd (omega (arith, o))
+alike-variables es heads bs x zero (suc j) e c v p h g n o = absurd (omega (arith, h))
+alike-variables es heads bs x (suc i) (suc j) e c v p h g n o = (
+  omega (arith, alike.0, place-under es heads bs x (suc i) c v p),
+  in-entry j ∙ alike.1 ∙ sym (in-entry i) ∙ place-variables es heads bs x (suc i) c v p,
+)
+  where
+    before : i ≡ suc i - 1
+    before = omega arith
+
+    within : i < length es
+    within = omega (arith, found-place es heads x (suc i) c p h)
+
+    alike : IsAlike es i (suc j)
+    alike = subst (IsAlike es i) (ap (λ k. (get_or es k no_entry).alike) before ∙ ap (λ (d : Entry). d.alike) (sym g) ∙ sym n) (c.alike i within)
+
+    in-entry : (k : ℕ) → place_variables bs (suc k) ≡ entry_variables es k
+    in-entry k =
+        ap (λ cs. tree_variables (bound_tree (get_or cs k no_binding).term)) (sym v)
+        ∙ ap (λ (b : Binding). tree_variables (bound_tree b.term)) (binding-at es k)
+
+-- ---- the variables at a place, with one binding more
+
+pub has-last :
+    (bs new : List Binding) (b : Binding) (n : ℕ) (vs : List ℕ)
+    → new ≡ bs ++ b ∷ [] → n ≡ length new → tree_variables (bound_tree b.term) ≡ vs → HasVariables new n vs
+has-last bs new b n vs a l h = subst (λ k. HasVariables new k vs) (sym longer) (omega (arith, longer, l), at-end)
+  where
+    longer : n ≡ suc (length bs)
+    longer = omega (arith, l, ap length a, length-last bs b)
+
+    last-is : (cs : List Binding) → get_or (cs ++ b ∷ []) (length cs) no_binding ≡ b
+    last-is [] = refl
+    last-is (c ∷ cs) = last-is cs
+
+    at-end : tree_variables (bound_tree (get_or new (length bs) no_binding).term) ≡ vs
+    at-end = ap (λ cs. tree_variables (bound_tree (get_or cs (length bs) no_binding).term)) a ∙ ap (λ (c : Binding). tree_variables (bound_tree c.term)) (last-is bs) ∙ h
+
+pub has-kept : (old new : List Binding) (n : ℕ) (vs : List ℕ) → take (length old) new ≡ old → HasVariables old n vs → HasVariables new n vs
+has-kept old new zero vs k h = tt
+has-kept old new (suc i) vs k h = (
+  omega (arith, h.0, ap length k, length-take (length old) new),
+  ap (λ (b : Binding). tree_variables (bound_tree b.term))
+      (sym (get_or-take (length old) new i no_binding h.0) ∙ ap (λ bs. get_or bs i no_binding) k) ∙ h.1,
+)
 
 -- the entry that was read is the binding at the place
 pub entry-variables :
