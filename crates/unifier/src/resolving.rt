@@ -36,8 +36,8 @@ const NONE_OPEN: u8 = 0;
 const MOST_LEVELS: u32 = 64;
 
 impl Layout {
-    /// Gives a place to each variable of the equations, of those that they name and of those below their terms.
-    /// False where some tree is too deep, as where a variable would have to contain itself, or they are too many.
+    /// Gives a place to each variable that has an equation, and so to those of the terms that these are equal to. False
+    /// where some tree is too deep, as where a variable would have to contain itself, or there are too many variables.
     pub fn resolve_equations<'a>(&mut self, equations: &Equations<'a>, apart: bool) -> Mem<bool>
         requires { IsResolving apart equations.now self.old }
         ensures { IfOk result (λ complete. complete ≡ true → AreResolved apart equations.now self.old self.new (codes_in equations.now)) }
