@@ -11,12 +11,13 @@ use Rattle.unifier.specs.declared.agreeing.Walked.TheVariants.{Agreed, Clashed, 
 use Rattle.unifier.specs.SolvedForm.{code_of, of_side}
 use Rattle.unifier.specs.Equations.{Item, ItemPasses, item_under, Solves, EquationsPass}
 
--- the new equations hold exactly where the old ones do and two things are the same; and they have no further variables than these
+-- the new equations hold exactly where the old ones do and two things are the same; and they have the variables of these, and no further ones
 abbrev pub AddsForced : Bool → Equations → Equations → (Substitution → Type 0) → ((ℕ → Bool) → Type 0) → Type 0
 AddsForced apart old new Same Pass =
     ((θ : Substitution) → Solves apart θ new → Solves apart θ old × Same θ)
     × ((θ : Substitution) → Solves apart θ old → Same θ → Solves apart θ new)
     × ((test : ℕ → Bool) → EquationsPass apart test old → Pass test → EquationsPass apart test new)
+    × ((test : ℕ → Bool) → EquationsPass apart test new → EquationsPass apart test old × Pass test)
 
 abbrev pub WalkDone : Bool → Equations → Equations → (Substitution → Type 0) → ((ℕ → Bool) → Type 0) → Walked → Type 0
 WalkDone apart old new Same Pass Agreed = AddsForced apart old new Same Pass
@@ -43,9 +44,10 @@ AgreesInAll apart old new one ts other us =
     WalkDone apart old new (λ θ. instances (of_side apart one θ) ts ≡ instances (of_side apart other θ) us)
     (λ test. ItemsPass apart test one ts × ItemsPass apart test other us)
 
--- the equations hold exactly where two trees are equal, the sides apart or not
+-- the equations hold exactly where two trees are equal, the sides apart or not; and they have the variables of the two trees
 abbrev pub AreForced : Bool → Equations → Tree → Tree → Type 0
 AreForced apart es s t =
     ((θ : Substitution) → Solves apart θ es → item_under apart θ (Left, s) ≡ item_under apart θ (Right, t))
     × ((θ : Substitution) → item_under apart θ (Left, s) ≡ item_under apart θ (Right, t) → Solves apart θ es)
     × ((test : ℕ → Bool) → ItemPasses apart test (Left, s) → ItemPasses apart test (Right, t) → EquationsPass apart test es)
+    × ((test : ℕ → Bool) → EquationsPass apart test es → ItemPasses apart test (Left, s) × ItemPasses apart test (Right, t))

@@ -1,5 +1,5 @@
 -- Equations of variables and terms, in a triangular form: a variable's term may have variables that are bound too.
-use Rattle.std.specs.Prelude.{◌≡◌, ℕ, Bool, true, ◌==◌, List, [], ◌∷◌, take, min, Option, None, Some, if◌then◌else◌}
+use Rattle.std.specs.Prelude.{◌≡◌, ℕ, Bool, true, ◌&&◌, ◌==◌, List, [], ◌∷◌, take, min, Option, None, Some, if◌then◌else◌}
 use Rattle.std.specs.List.{list_all}
 use Rattle.fol_base.specs.Tree.{Tree, tree_variables}
 use Rattle.fol_base.specs.Term.{tree_of}
@@ -41,11 +41,26 @@ bound_in es w = bound_to w (equations_of es)
 abbrev pub Solves : Bool → Substitution → Equations → Type 0
 Solves apart θ es = (w : ℕ) (a : Item) → bound_in es w ≡ Some a → θ w ≡ item_under apart θ a
 
--- the variables of the equations pass a test
+-- the variables that are noted
+abbrev pub noted_of : Equations → List ℕ
+noted_of es = take (min es.noted_len 16) es.noted
+
+-- no equations, and no variable noted
+abbrev pub HasNone : Equations → Type 0
+HasNone es = ((w : ℕ) → bound_in es w ≡ None) × (noted_of es ≡ [])
+
+-- the variables of the equations, and those noted, pass a test
 abbrev pub EquationsPass : Bool → (ℕ → Bool) → Equations → Type 0
-EquationsPass apart test es = (w : ℕ) (a : Item) → bound_in es w ≡ Some a → (test w ≡ true) × ItemPasses apart test a
+EquationsPass apart test es =
+    ((w : ℕ) (a : Item) → bound_in es w ≡ Some a → (test w ≡ true) × ItemPasses apart test a) × (list_all test (noted_of es) ≡ true)
 
 -- a variable has got an equation, and the others have those that they had
 pub record IsWithEquation (old : Equations) (new : Equations) (w : ℕ) (a : Item) : Type 0 where
   pub here : bound_in new w ≡ Some a
   pub others : (u : ℕ) → (u ≡ w → ⊥) → bound_in new u ≡ bound_in old u
+  pub noted : noted_of new ≡ noted_of old
+
+-- a variable is noted, and the equations are as they were
+pub record IsWithNoted (old : Equations) (new : Equations) (w : ℕ) : Type 0 where
+  pub equations : (u : ℕ) → bound_in new u ≡ bound_in old u
+  pub noted : (test : ℕ → Bool) → list_all test (noted_of new) ≡ (list_all test (noted_of old) && test w)

@@ -1,5 +1,6 @@
 -- Cells laid out for what variables are equal to, in which no bound variable is left.
-use Rattle.std.specs.Prelude.{◌≡◌, ℕ, ◌<◌, Bool, true, false, List, [], ◌∷◌, ◌++◌, Some, length}
+use Rattle.std.specs.Prelude.{◌≡◌, ℕ, ◌<◌, Bool, true, false, List, [], ◌∷◌, ◌++◌, Some, length, map}
+use Rattle.std.specs.List.{list_all}
 use Rattle.fol_base.specs.Tree.{Trees}
 use Rattle.fol_base.specs.Instance.{Substitution, instances}
 use Rattle.fol_base.specs.declared.clause.Side.{Side}
@@ -7,18 +8,20 @@ use Rattle.unifier.specs.declared.cells.Cell.{Cell}
 use Rattle.unifier.specs.declared.cells.Cell.TheVariants.{Variable}
 use Rattle.unifier.specs.declared.layout.Place.{Place}
 use Rattle.unifier.specs.declared.layout.Layout.{Layout}
+use Rattle.unifier.specs.declared.equation.Equation.{Equation}
 use Rattle.unifier.specs.declared.equation.Equations.{Equations}
 use Rattle.unifier.specs.SolvedForm.{of_side}
 use Rattle.unifier.specs.Cells.{Value, tree, trees, cell_at, is_list, AreOrdered, AreKinded, IsValuation}
-use Rattle.unifier.specs.Layout.{cell_of, all_pass, HavePlaces}
-use Rattle.unifier.specs.Equations.{Item, ItemPasses, item_under, bound_in, Solves, EquationsPass}
+use Rattle.unifier.specs.Layout.{cell_of, has_place, all_pass}
+use Rattle.unifier.specs.Equations.{Item, ItemPasses, item_under, equations_of, bound_in, Solves, EquationsPass}
 use Rattle.unifier.specs.Agreeing.{ItemsPass}
 
 -- the variables' cells have these trees
 abbrev pub PlacesAgree : Substitution → (ℕ → Value) → List Place → Type 0
 PlacesAgree f val ps = (w k : ℕ) → cell_of w ps ≡ Some k → val k ≡ tree (f w)
 
--- the cells are in order, and the variables' cells have the trees that the equations give them
+-- the cells are in order, the variables' cells have the trees that the equations give them, and what a variable with a cell is bound to
+-- has variables with cells
 pub record IsResolving (apart : Bool) (es : Equations) (l : Layout) : Type 0 where
   pub ordered : AreOrdered l.cells.items
   pub kinded : AreKinded l.cells.items
@@ -27,6 +30,8 @@ pub record IsResolving (apart : Bool) (es : Equations) (l : Layout) : Type 0 whe
   pub solves :
       (f θ : Substitution) (val : ℕ → Value) → IsValuation θ l.cells.items val → PlacesAgree f val l.places.items
       → (w k : ℕ) (a : Item) → cell_of w l.places.items ≡ Some k → bound_in es w ≡ Some a → f w ≡ item_under apart f a
+  pub closed :
+      (w k : ℕ) (a : Item) → cell_of w l.places.items ≡ Some k → bound_in es w ≡ Some a → ItemPasses apart (has_place l.places.items) a
   pub general :
       (θ : Substitution) (val : ℕ → Value) → Solves apart θ es → IsValuation θ l.cells.items val → PlacesAgree θ val l.places.items
 
@@ -67,6 +72,7 @@ pub record IsTermResolved (apart : Bool) (es : Equations) (old : Layout) (new : 
   pub denotes :
       (f θ : Substitution) (val : ℕ → Value) → IsValuation θ new.cells.items val → PlacesAgree f val new.places.items
       → val k ≡ tree (item_under apart f a)
+  pub placed : ItemPasses apart (has_place new.places.items) a
   pub pass : PassesOn apart es old new (λ test. ItemPasses apart test a)
 
 -- so is a list of trees
@@ -78,11 +84,16 @@ pub record AreTermsResolved (apart : Bool) (es : Equations) (old : Layout) (new 
   pub denotes :
       (f θ : Substitution) (val : ℕ → Value) → IsValuation θ new.cells.items val → PlacesAgree f val new.places.items
       → val k ≡ trees (instances (of_side apart side f) ts)
+  pub placed : ItemsPass apart (has_place new.places.items) side ts
   pub pass : PassesOn apart es old new (λ test. ItemsPass apart test side ts)
 
--- a list of a side's variables have their cells
-pub record AreResolved (apart : Bool) (es : Equations) (old : Layout) (new : Layout) (side : Side) (vs : List ℕ) (Pass : (ℕ → Bool) → Type 0) : Type 0 where
+-- a list of variables of both sides have their cells
+pub record AreResolved (apart : Bool) (es : Equations) (old : Layout) (new : Layout) (ws : List ℕ) : Type 0 where
   pub resolving : IsResolving apart es new
   pub grows : GrowsBoth old new
-  pub placed : HavePlaces new.places.items apart side vs
-  pub pass : PassesOn apart es old new Pass
+  pub placed : list_all (has_place new.places.items) ws ≡ true
+  pub pass : PassesOn apart es old new (λ test. list_all test ws ≡ true)
+
+-- the variables of the equations
+abbrev pub codes_in : Equations → List ℕ
+codes_in es = map (λ (e : Equation). e.code) (equations_of es)

@@ -1,9 +1,9 @@
 // Walking down two terms side by side: what variables must be equal to for the terms to be equal.
 
-ghost use Rattle.std.specs.Prelude.{◌≡◌, ℕ, None, map};
+ghost use Rattle.std.specs.Prelude.{◌≡◌, None, map};
 ghost use Rattle.fol_base.specs.Tree.{trees_of};
 ghost use Rattle.fol_base.specs.Term.{tree_of};
-ghost use Rattle.unifier.specs.Equations.{bound_in, item_of};
+ghost use Rattle.unifier.specs.Equations.{HasNone, bound_in, item_of};
 ghost use Rattle.unifier.specs.Agreeing.{Agrees, AgreesInAll, AgreesWithVariable};
 
 use crate::equation::{Equations, SideTerm, SideTerms};
@@ -38,7 +38,7 @@ pub struct Walk<'a> {
 impl<'a> Walk<'a> {
     /// No equations yet.
     pub fn new(anything: SideTerm<'a>) -> Walk<'a>
-        ensures { (w : ℕ) → bound_in result.equations w ≡ None }
+        ensures { HasNone result.equations }
     {
         Walk {
             equations: Equations::none(anything),
@@ -140,7 +140,11 @@ impl<'a> Walk<'a> {
         if let Term::Var(number) = other.term {
             let second = code(apart, other.side, *number);
             if second == variable {
-                return Walked::Agreed;
+                return if self.equations.note(variable) {
+                    Walked::Agreed
+                } else {
+                    Walked::Stopped
+                };
             }
             if let Some(bound) = self.equations.find(second) {
                 if levels == 0 {

@@ -2,6 +2,7 @@
 
 ghost use Rattle.std.specs.Prelude.{◌≡◌, None, length, IfOk, IfSome};
 ghost use Rattle.fol_base.specs.Term.{tree_of};
+ghost use Rattle.fol_base.specs.Tree.{Tree};
 ghost use Rattle.unifier.specs.Solution.{solved_form};
 ghost use Rattle.unifier.specs.Bindings.{IsFound};
 ghost use Rattle.unifier.specs.Agreeing.{AreForced};
@@ -42,7 +43,7 @@ pub fn unify_by_equations(alloc: Global, left: &Term, right: &Term, apart: bool)
     };
     let mut walk = Walk::new(one);
     match walk.walk(apart, one, other) {
-        Walked::Agreed => match resolved(alloc, &walk.equations, left, right, apart)? {
+        Walked::Agreed => match resolved(alloc, &walk.equations, apart)? {
             Some(solution) => Ok(Attempt::Unified(solution)),
             None => Ok(Attempt::Undecided),
         },
@@ -53,24 +54,17 @@ pub fn unify_by_equations(alloc: Global, left: &Term, right: &Term, apart: bool)
 
 /// The unifier that equations give which two terms' being equal forces. None where it isn't found: a tree is too
 /// deep, the variables are many, or one contains itself.
-fn resolved<'a>(
-    alloc: Global,
-    equations: &Equations<'a>,
-    left: &Term,
-    right: &Term,
-    apart: bool,
-) -> Mem<Option<Solution>>
-    requires { AreForced apart equations.now (tree_of left.now) (tree_of right.now) }
-    ensures { IfOk result (λ found. IfSome found (λ solution. IsFound apart (tree_of left.now) (tree_of right.now) (solved_form solution))) }
+fn resolved<'a>(alloc: Global, equations: &Equations<'a>, apart: bool) -> Mem<Option<Solution>>
+    ensures { IfOk result (λ found. IfSome found (λ solution. (s t : Tree) → AreForced apart equations.now s t → IsFound apart s t (solved_form solution))) }
 {
     let mut layout = Layout {
         cells: Vec::new(alloc),
         places: Vec::new(alloc),
     };
-    if !layout.resolve_variables(equations, apart, Side::Left, left)? {
+    if !layout.resolve_equations(equations, apart)? {
         return Ok(None);
     }
-    if !layout.resolve_variables(equations, apart, Side::Right, right)? {
+    if !layout.resolve_noted(equations, apart)? {
         return Ok(None);
     }
     if layout.places.len() > FEW_PLACES {

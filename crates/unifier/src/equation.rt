@@ -5,6 +5,9 @@ use fol_base::{Side, Term};
 /// So many variables are bound at most; with more of them the way by classes takes over.
 pub const MOST_EQUATIONS: usize = 8;
 
+/// So many variables that met themselves are noted at most.
+pub const MOST_NOTED: usize = 16;
+
 /// A term of one of the two sides.
 #[derive(Clone, Copy)]
 pub struct SideTerm<'a> {
@@ -26,9 +29,12 @@ pub struct Equation<'a> {
     pub bound: SideTerm<'a>,
 }
 
-/// Equations of different variables: the first ones of the items, as many as `len` says.
+/// Equations of different variables: the first ones of the items, as many as `len` says. Beside them the variables that
+/// met themselves, which no equation need name: the first ones of `noted`, as many as `noted_len` says.
 #[derive(Drop)]
 pub struct Equations<'a> {
     pub items: [Equation<'a>; MOST_EQUATIONS],
     pub len: usize,
+    pub noted: [u64; MOST_NOTED],
+    pub noted_len: usize,
 }

@@ -1,14 +1,15 @@
 // A few equations of a variable and a term, which take no memory.
 
-ghost use Rattle.std.specs.Prelude.{◌≡◌, ◌<◌, ℕ, None, length, option_map, slice_set, MatchBool};
-ghost use Rattle.unifier.specs.Equations.{IsWithEquation, bound_in, item_of};
+ghost use Rattle.std.specs.Prelude.{◌≡◌, ◌==◌, ◌<◌, length, option_map, slice_set, MatchBool};
+ghost use Rattle.std.specs.List.{list_any};
+ghost use Rattle.unifier.specs.Equations.{HasNone, IsWithEquation, IsWithNoted, bound_in, item_of, noted_of};
 
-use crate::equation::{Equation, Equations, MOST_EQUATIONS, SideTerm};
+use crate::equation::{Equation, Equations, MOST_EQUATIONS, MOST_NOTED, SideTerm};
 
 impl<'a> Equations<'a> {
     /// No equations. The term stands where none is.
     pub fn none(anything: SideTerm<'a>) -> Equations<'a>
-        ensures { (w : ℕ) → bound_in result w ≡ None }
+        ensures { HasNone result }
     {
         let nothing = Equation {
             code: 0,
@@ -17,6 +18,8 @@ impl<'a> Equations<'a> {
         Equations {
             items: [nothing; MOST_EQUATIONS],
             len: 0,
+            noted: [0; MOST_NOTED],
+            noted_len: 0,
         }
     }
 
@@ -42,6 +45,31 @@ impl<'a> Equations<'a> {
             mark = mark.wrapping_shl(1);
         }
         0
+    }
+
+    /// Notes a variable that met itself, once. False where there is no room.
+    pub fn note(&mut self, code: u64) -> bool
+        ensures { MatchBool result (IsWithNoted self.old self.new code) (self.new ≡ self.old) }
+    {
+        if self.is_noted(code) {
+            return true;
+        }
+        let place = self.noted_len;
+        if place >= MOST_NOTED {
+            return false;
+        }
+        self.noted[place] = code;
+        self.noted_len = place + 1;
+        true
+    }
+
+    /// Whether a variable is noted.
+    fn is_noted(&self, code: u64) -> bool
+        ensures { result ≡ list_any (λ v. v == code) (noted_of self.now) }
+    {
+        self.noted[..self.noted_len.min(MOST_NOTED)]
+            .iter()
+            .any(|noted| *noted == code)
     }
 
     /// Adds an equation of a variable that has none. False where there is no room.

@@ -1,11 +1,10 @@
 // Laying out what variables are equal to, so that no bound variable is left: the bound terms alone become cells.
 
 ghost use Rattle.std.specs.Prelude.{◌≡◌, None, Some, true, map, MatchBool, IfOk, IfSome, OnOk};
-ghost use Rattle.fol_base.specs.Tree.{tree_variables, trees_of, trees_variables};
+ghost use Rattle.fol_base.specs.Tree.{trees_of};
 ghost use Rattle.fol_base.specs.Term.{tree_of};
 ghost use Rattle.unifier.specs.Layout.{cell_of};
-ghost use Rattle.unifier.specs.Equations.{ItemPasses, bound_in, item_of};
-ghost use Rattle.unifier.specs.Agreeing.{ItemsPass};
+ghost use Rattle.unifier.specs.Equations.{bound_in, item_of, noted_of};
 ghost use Rattle.unifier.specs.Resolving.{
   AreResolved,
   AreTermsResolved,
@@ -14,13 +13,14 @@ ghost use Rattle.unifier.specs.Resolving.{
   IsResolving,
   IsTermResolved,
   IsVariableResolved,
+  codes_in,
 };
 
 use crate::cells::Cell;
-use crate::equation::{Equations, SideTerm, SideTerms};
+use crate::equation::{Equations, MOST_EQUATIONS, MOST_NOTED, SideTerm, SideTerms};
 use crate::layout::{Layout, Place, code};
 use crate::solution::FEW_PLACES;
-use fol_base::{Side, Term};
+use fol_base::Term;
 use plain_types::Mem;
 
 /// Room for the cells of what is bound in terms of usual size, taken with the first of them: terms without variables take none.
@@ -36,52 +36,35 @@ const NONE_OPEN: u8 = 0;
 const MOST_LEVELS: u32 = 64;
 
 impl Layout {
-    /// Gives a place to each variable of a side's term. False where some tree is too deep, as where a variable
-    /// would have to contain itself.
-    #[cycle(resolve_all)]
-    pub fn resolve_variables<'a>(
-        &mut self,
-        equations: &Equations<'a>,
-        apart: bool,
-        side: Side,
-        term: &Term,
-    ) -> Mem<bool>
+    /// Gives a place to each variable that has an equation, and so to those of the terms that these are equal to. False
+    /// where some tree is too deep, as where a variable would have to contain itself, or there are too many variables.
+    pub fn resolve_equations<'a>(&mut self, equations: &Equations<'a>, apart: bool) -> Mem<bool>
         requires { IsResolving apart equations.now self.old }
-        ensures { IfOk result (λ complete. complete ≡ true → AreResolved apart equations.now self.old self.new side
-            (tree_variables (tree_of term.now)) (λ test. ItemPasses apart test (side, tree_of term.now))) }
+        ensures { IfOk result (λ complete. complete ≡ true → AreResolved apart equations.now self.old self.new (codes_in equations.now)) }
     {
-        match term {
-            Term::Var(variable) => {
-                let cell = self.resolve_variable(
-                    equations,
-                    apart,
-                    MOST_LEVELS,
-                    NONE_OPEN,
-                    code(apart, side, *variable),
-                )?;
-                Ok(cell.is_some())
-            }
-            Term::App(_, arguments) => {
-                self.resolve_all_variables(equations, apart, side, arguments.as_slice())
+        for equation in equations.items[..equations.len.min(MOST_EQUATIONS)].iter() {
+            let cell = self.resolve_variable(
+                equations,
+                apart,
+                MOST_LEVELS,
+                NONE_OPEN,
+                equation.code,
+            )?;
+            if cell.is_none() {
+                return Ok(false);
             }
         }
+        Ok(true)
     }
 
-    /// The same for a list of terms, the last one first.
-    #[cycle(resolve_all)]
-    fn resolve_all_variables<'a>(
-        &mut self,
-        equations: &Equations<'a>,
-        apart: bool,
-        side: Side,
-        terms: &[Term],
-    ) -> Mem<bool>
+    /// The same for the variables that are noted.
+    pub fn resolve_noted<'a>(&mut self, equations: &Equations<'a>, apart: bool) -> Mem<bool>
         requires { IsResolving apart equations.now self.old }
-        ensures { IfOk result (λ complete. complete ≡ true → AreResolved apart equations.now self.old self.new side
-            (trees_variables (trees_of (map tree_of terms.now))) (λ test. ItemsPass apart test side (trees_of (map tree_of terms.now)))) }
+        ensures { IfOk result (λ complete. complete ≡ true → AreResolved apart equations.now self.old self.new (noted_of equations.now)) }
     {
-        for index in (0..terms.len()).rev() {
-            if !self.resolve_variables(equations, apart, side, &terms[index])? {
+        for code in equations.noted[..equations.noted_len.min(MOST_NOTED)].iter() {
+            let cell = self.resolve_variable(equations, apart, MOST_LEVELS, NONE_OPEN, *code)?;
+            if cell.is_none() {
                 return Ok(false);
             }
         }

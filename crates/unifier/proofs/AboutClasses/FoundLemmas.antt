@@ -15,26 +15,24 @@ use Rattle.unifier.specs.declared.agreeing.Walked.TheVariants.{Agreed, Clashed}
 use Rattle.unifier.specs.Cells.{Value, tree, as_tree, IsValuation}
 use Rattle.unifier.specs.InOrder.{InOrder}
 use Rattle.unifier.specs.SolvedForm.{SolvedForm, code_of, codes_of, of_side, joint}
-use Rattle.unifier.specs.Layout.{cell_of, has_place, HavePlaces, all_pass}
+use Rattle.unifier.specs.Layout.{cell_of, has_place, all_pass}
 use Rattle.unifier.specs.Solution.{value_at, bound, pair_at}
 use Rattle.unifier.specs.Bindings.{IsUnified, IsFound}
-use Rattle.unifier.specs.Equations.{Item, ItemPasses, item_under, bound_in, Solves, EquationsPass}
+use Rattle.unifier.specs.Equations.{Item, ItemPasses, item_under, equations_of, bound_in, noted_of, HasNone, Solves, EquationsPass}
 use Rattle.unifier.specs.Agreeing.{Agrees, AreForced}
-use Rattle.unifier.specs.Resolving.{PlacesAgree, IsResolving, AreResolved}
+use Rattle.unifier.specs.Resolving.{PlacesAgree, IsResolving, AreResolved, codes_in}
 use Rattle.unifier.proofs.AboutClasses.CellLemmas.{tree-value}
 use Rattle.unifier.proofs.AboutLayouts.PlaceLemmas.{found-passes}
 use Rattle.unifier.proofs.AboutLayouts.ValueLemmas.{value_at-valuation, instance_value, valuation-instance, tree-instance}
 use Rattle.unifier.proofs.AboutEquations.SolutionLemmas.{pairs-term, variables-pass}
 use Rattle.unifier.proofs.AboutEquations.UnifyLemmas.{joint_of, joint_of-left, joint_of-right, instance-same, unified-by}
+use Rattle.unifier.proofs.AboutEquations.EquationLemmas.{bound-passes, codes-pass}
 use Rattle.unifier.proofs.AboutEquations.ResolveLemmas.{still-all-placed}
 
 -- ---- no equations yet
 
-abbrev pub HasNone : Equations → Type 0
-HasNone es = (w : ℕ) → bound_in es w ≡ None
-
 no-item : (es : Equations) (w : ℕ) (a : Item) → HasNone es → bound_in es w ≡ Some a → ⊥
-no-item es w a none found = let wrong : None ≡ Some a = sym (none w) ∙ found in cc
+no-item es w a none found = let wrong : None ≡ Some a = sym (none.0 w) ∙ found in cc
 
 none-solves : (apart : Bool) (θ : Substitution) (es : Equations) → HasNone es → Solves apart θ es
 none-solves apart θ es none w a found = absurd (no-item es w a none found)
@@ -44,7 +42,8 @@ pub forced-from-none :
 forced-from-none apart start es s t none h = (
   (λ θ solves. (h.0 θ solves).1),
   (λ θ e. h.1 θ (none-solves apart θ start none) e),
-  (λ test left right. h.2 test (λ w a found. absurd (no-item start w a none found)) (left, right)),
+  (λ test left right. h.2 test ((λ w a found. absurd (no-item start w a none found)), ap (list_all test) none.1) (left, right)),
+  (λ test p. (h.3 test p).1),
 )
 
 -- ---- unifiers apart and not, by substitutions of both sides
@@ -94,16 +93,15 @@ same-test false true there back = back refl
 same-test false false there back = refl
 
 placed-pass :
-    (test : ℕ → Bool) (ps : List Place) (f : ℕ → ℕ) (vs : List ℕ)
-    → all_pass test ps ≡ true → list_all (λ v. has_place ps (f v)) vs ≡ true → list_all (λ v. test (f v)) vs ≡ true
-placed-pass test ps f [] all placed = refl
-placed-pass test ps f (v ∷ vs) all placed =
-    let both = and_parts (has_place ps (f v)) (list_all (λ u. has_place ps (f u)) vs) placed in
-    and_from (test (f v)) (list_all (λ u. test (f u)) vs) (by (cell_of (f v) ps) refl both.0) (placed-pass test ps f vs all both.1)
+    (test : ℕ → Bool) (ps : List Place) (ws : List ℕ) → all_pass test ps ≡ true → list_all (has_place ps) ws ≡ true → list_all test ws ≡ true
+placed-pass test ps [] all placed = refl
+placed-pass test ps (w ∷ ws) all placed =
+    let both = and_parts (has_place ps w) (list_all (has_place ps) ws) placed in
+    and_from (test w) (list_all test ws) (by (cell_of w ps) refl both.0) (placed-pass test ps ws all both.1)
   where
-    by : (o : Option ℕ) → cell_of (f v) ps ≡ o → is_some o ≡ true → test (f v) ≡ true
+    by : (o : Option ℕ) → cell_of w ps ≡ o → is_some o ≡ true → test w ≡ true
     by None e some = cc
-    by (Some k) e some = found-passes test (f v) k ps all e
+    by (Some k) e some = found-passes test w k ps all e
 
 -- what cells and places say
 abbrev pub drawn : Bool → Layout → SolvedForm
@@ -111,8 +109,7 @@ drawn apart l = record { apart = apart; pairs = map (pair_at l.cells.items) l.pl
 
 module _ (apart : Bool) (es : Equations) (s t : Tree) (start mid last : Layout)
     (forced : AreForced apart es s t) (starts : start.places.items ≡ [])
-    (left : AreResolved apart es start mid Left (tree_variables s) (λ test. ItemPasses apart test (Left, s)))
-    (right : AreResolved apart es mid last Right (tree_variables t) (λ test. ItemPasses apart test (Right, t))) where
+    (first : AreResolved apart es start mid (codes_in es)) (second : AreResolved apart es mid last (noted_of es)) where
   σ : Substitution
   σ = joint (drawn apart last)
 
@@ -121,7 +118,7 @@ module _ (apart : Bool) (es : Equations) (s t : Tree) (start mid last : Layout)
 
   made : IsValuation variable last.cells.items own
   unfolding own
-  made = value_at-valuation variable last.cells.items right.resolving.ordered
+  made = value_at-valuation variable last.cells.items second.resolving.ordered
 
   found-at : (w k : ℕ) → cell_of w last.places.items ≡ Some k → σ w ≡ as_tree (own k)
   unfolding σ own
@@ -133,19 +130,33 @@ module _ (apart : Bool) (es : Equations) (s t : Tree) (start mid last : Layout)
 
   agrees : PlacesAgree σ own last.places.items
   agrees w k found =
-      let there = right.resolving.terms w k found in
+      let there = second.resolving.terms w k found in
       tree-value variable last.cells.items own k made there.0 there.1 ∙ ap tree (sym (found-at w k found))
 
-  left-placed : HavePlaces last.places.items apart Left (tree_variables s)
-  left-placed = still-all-placed mid last apart Left (tree_variables s) right.grows left.placed
+  -- a bound variable has its place
+  bound-placed : (w : ℕ) (a : Item) → bound_in es w ≡ Some a → has_place last.places.items w ≡ true
+  bound-placed w a is =
+      bound-passes (has_place last.places.items) (equations_of es) w a (still-all-placed mid last (codes_in es) second.grows first.placed) is
+
+  -- so the equations' variables have, and those of both trees
+  all-placed : EquationsPass apart (has_place last.places.items) es
+  all-placed = ((λ w a is. (bound-placed w a is, by (cell_of w last.places.items) w a is refl (bound-placed w a is))), second.placed)
+    where
+      by :
+          (o : Option ℕ) (w : ℕ) (a : Item)
+          → bound_in es w ≡ Some a → cell_of w last.places.items ≡ o → is_some o ≡ true → ItemPasses apart (has_place last.places.items) a
+      by None w a is e some = cc
+      by (Some k) w a is e some = second.resolving.closed w k a e is
+
+  both-placed : ItemPasses apart (has_place last.places.items) (Left, s) × ItemPasses apart (has_place last.places.items) (Right, t)
+  both-placed = forced.3 (has_place last.places.items) all-placed
 
   solves : Solves apart σ es
-  solves w a bound =
-      by (cell_of w last.places.items) refl (forced.2 (has_place last.places.items) left-placed right.placed w a bound).0
+  solves w a is = by (cell_of w last.places.items) refl (bound-placed w a is)
     where
       by : (o : Option ℕ) → cell_of w last.places.items ≡ o → is_some o ≡ true → σ w ≡ item_under apart σ a
       by None e some = cc
-      by (Some k) e some = right.resolving.solves σ variable own made agrees w k a e bound
+      by (Some k) e some = second.resolving.solves σ variable own made agrees w k a e is
 
   unifies : Unifies apart s t σ
   unifies = forced.0 σ solves
@@ -154,7 +165,7 @@ module _ (apart : Bool) (es : Equations) (s t : Tree) (start mid last : Layout)
   general θ e w = by (cell_of w last.places.items) refl
     where
       agreed : PlacesAgree θ (λ k. instance_value θ (own k)) last.places.items
-      agreed = right.resolving.general θ (λ k. instance_value θ (own k)) (forced.1 θ e) (valuation-instance θ last.cells.items own made)
+      agreed = second.resolving.general θ (λ k. instance_value θ (own k)) (forced.1 θ e) (valuation-instance θ last.cells.items own made)
 
       by : (o : Option ℕ) → cell_of w last.places.items ≡ o → θ w ≡ instance θ (σ w)
       by None none = ap (instance θ) (sym (free-at w none))
@@ -170,14 +181,15 @@ module _ (apart : Bool) (es : Equations) (s t : Tree) (start mid last : Layout)
       (λ all.
       list_all-append test lefts rights
       ∙ and_from (list_all test lefts) (list_all test rights)
-      (list_all-map test (code_of apart Left) ls ∙ placed-pass test last.places.items (code_of apart Left) ls all left-placed)
-      (list_all-map test (code_of apart Right) rs ∙ placed-pass test last.places.items (code_of apart Right) rs all right.placed))
+      (placed-pass test last.places.items lefts all (list_all-map (has_place last.places.items) (code_of apart Left) ls ∙ both-placed.0))
+      (placed-pass test last.places.items rights all (list_all-map (has_place last.places.items) (code_of apart Right) rs ∙ both-placed.1)))
       (λ all.
       let both = and_parts (list_all test lefts) (list_all test rights) (sym (list_all-append test lefts rights) ∙ all) in
       let in_left : ItemPasses apart test (Left, s) = sym (list_all-map test (code_of apart Left) ls) ∙ both.0 in
       let in_right : ItemPasses apart test (Right, t) = sym (list_all-map test (code_of apart Right) rs) ∙ both.1 in
       let passing : EquationsPass apart test es = forced.2 test in_left in_right in
-      right.pass test passing in_right (left.pass test passing in_left (ap (all_pass test) starts)))
+      let codes : list_all test (codes_in es) ≡ true = codes-pass test (equations_of es) (λ w a is. (passing.0 w a is).0) in
+      second.pass test passing passing.1 (first.pass test passing codes (ap (all_pass test) starts)))
 
   pub equations-found : IsFound apart s t (drawn apart last)
   unfolding σ
@@ -216,6 +228,7 @@ nothing-resolving apart es l cells places = record {
   terms = λ w k found. absurd (no-place w k found);
   own = λ k w less is. absurd (no-cell k less);
   solves = λ f θ val valuation agree w k a found bound. absurd (no-place w k found);
+  closed = λ w k a found bound. absurd (no-place w k found);
   general = λ θ val solves valuation w k found. absurd (no-place w k found);
 }
   where

@@ -1,10 +1,11 @@
 -- Laying out what variables are equal to, cell by cell and place by place.
-use Rattle.std.proofs.Common.{◌≡◌, ◌⊎◌, inl, inr, ℕ, ◌<◌, Bool, true, false, ◌==◌, Option, None, Some, List, [], ◌∷◌, ◌++◌, length, refl, ap, ap₂, sym, ◌∙◌, subst, ⊎_elim, arith, eq-eqb, append_assoc}
-use Rattle.std.specs.Prelude.{is_some}
+use Rattle.std.proofs.Common.{◌≡◌, ◌⊎◌, inl, inr, ℕ, ◌+◌, ◌<◌, Bool, true, false, ◌==◌, Option, None, Some, List, [], ◌∷◌, ◌++◌, length, map, take, get_or, refl, ap, ap₂, sym, ◌∙◌, subst, ⊎_elim, arith, eq-eqb, append_assoc}
+use Rattle.std.specs.Prelude.{IfSome, is_some}
 use Rattle.std.specs.List.{list_all}
 use Rattle.std.proofs.lemmas.Bool.{and_parts, and_from, cond-true, cond-false, cases_Bool, eqb-true}
-use Rattle.std.proofs.lemmas.List.{length-append, append-nil}
+use Rattle.std.proofs.lemmas.List.{length-append, append-nil, map-append, take_more}
 use Rattle.std.proofs.lemmas.List.Folds.{list_all-append}
+use Rattle.fol_base.proofs.ListLemmas.{take_more_item}
 use Rattle.fol_base.specs.Tree.{Tree, variable, application, Trees, no_trees, tree_then, tree_variables, trees_variables}
 use Rattle.fol_base.specs.Instance.{Substitution}
 use Rattle.fol_base.specs.declared.clause.Side.{Side}
@@ -12,13 +13,15 @@ use Rattle.unifier.specs.declared.cells.Cell.{Cell}
 use Rattle.unifier.specs.declared.cells.Cell.TheVariants.{Variable, Application, NoTrees, TreeThen}
 use Rattle.unifier.specs.declared.layout.Place.{Place}
 use Rattle.unifier.specs.declared.layout.Layout.{Layout}
+use Rattle.unifier.specs.declared.equation.Equation.{Equation}
 use Rattle.unifier.specs.declared.equation.Equations.{Equations}
 use Rattle.unifier.specs.Cells.{Value, tree, trees, as_tree, as_trees, cell_at, value_of, is_list, is_variable, IsAfterParts, AreOrdered, HasKinds, AreKinded, IsValuation}
 use Rattle.unifier.specs.SolvedForm.{code_of}
-use Rattle.unifier.specs.Layout.{cell_of, has_place, HavePlaces, all_pass}
+use Rattle.unifier.specs.Layout.{cell_of, has_place, all_pass}
 use Rattle.unifier.specs.Equations.{Item, ItemPasses, item_under, bound_in}
 use Rattle.unifier.specs.Agreeing.{ItemsPass}
 use Rattle.unifier.specs.Resolving.{PlacesAgree, IsResolving, GrowsBoth, IsCellAdded, IsPlaceAdded, IsVariableResolved, IsTermResolved, AreTermsResolved, AreResolved}
+use Rattle.unifier.proofs.AboutEquations.EquationLemmas.{all-push}
 use Rattle.unifier.proofs.AboutLayouts.PlaceLemmas.{cell_of-front, cell_of-back, all_pass-push}
 use Rattle.unifier.proofs.AboutLayouts.LayoutLemmas.{length-push, last_or_front, cell_at-front, cell_at-last, ordered-push, kinded-push, valuation-front, valuation-last}
 
@@ -57,6 +60,38 @@ kind-on :
     → GrowsBoth old new → i < length old.cells.items → is_list (cell_at old.cells.items i) ≡ kind → is_list (cell_at new.cells.items i) ≡ kind
 kind-on old new i kind g h is = ap (λ cs. is_list (cell_at cs i)) g.2 ∙ ap is_list (cell_at-front old.cells.items g.0 i h) ∙ is
 
+all-further : (p q : ℕ → Bool) (xs : List ℕ) → ((x : ℕ) → p x ≡ true → q x ≡ true) → list_all p xs ≡ true → list_all q xs ≡ true
+all-further p q [] h all = refl
+all-further p q (x ∷ xs) h all =
+    let both = and_parts (p x) (list_all p xs) all in
+    and_from (q x) (list_all q xs) (h x both.0) (all-further p q xs h both.1)
+
+still-placed : (old new : Layout) (w : ℕ) → GrowsBoth old new → has_place old.places.items w ≡ true → has_place new.places.items w ≡ true
+still-placed old new w g h = by (cell_of w old.places.items) refl h
+  where
+    by : (o : Option ℕ) → cell_of w old.places.items ≡ o → is_some o ≡ true → has_place new.places.items w ≡ true
+    by None e some = cc
+    by (Some k) e some = ap is_some (ap (cell_of w) g.3 ∙ cell_of-front w k old.places.items g.1 e)
+
+pub still-all-placed :
+    (old new : Layout) (ws : List ℕ) → GrowsBoth old new → list_all (has_place old.places.items) ws ≡ true → list_all (has_place new.places.items) ws ≡ true
+still-all-placed old new ws g h =
+    all-further (has_place old.places.items) (has_place new.places.items) ws (λ w placed. still-placed old new w g placed) h
+
+still-passes :
+    (apart : Bool) (old new : Layout) (a : Item)
+    → GrowsBoth old new → ItemPasses apart (has_place old.places.items) a → ItemPasses apart (has_place new.places.items) a
+still-passes apart old new a g h =
+    all-further (λ v. has_place old.places.items (code_of apart a.0 v)) (λ v. has_place new.places.items (code_of apart a.0 v)) (tree_variables a.1)
+    (λ v placed. still-placed old new (code_of apart a.0 v) g placed) h
+
+still-all-pass :
+    (apart : Bool) (old new : Layout) (side : Side) (ts : Trees)
+    → GrowsBoth old new → ItemsPass apart (has_place old.places.items) side ts → ItemsPass apart (has_place new.places.items) side ts
+still-all-pass apart old new side ts g h =
+    all-further (λ v. has_place old.places.items (code_of apart side v)) (λ v. has_place new.places.items (code_of apart side v)) (trees_variables ts)
+    (λ v placed. still-placed old new (code_of apart side v) g placed) h
+
 -- ---- a cell that is no variable
 
 pub cell-resolving :
@@ -82,6 +117,7 @@ cell-resolving apart es old new c k h after kinds no_variable added =
           let wrong : true ≡ false = sym (ap is_variable c_is) ∙ no_variable in cc);
       solves = λ f θ val valuation agree w i a found bound.
           h.solves f θ val (valuation-old θ old new val g valuation) (agree-old f old new val g agree) w i a (ap (cell_of w) (sym added.places) ∙ found) bound;
+      closed = λ w i a found bound. still-passes apart old new a g (h.closed w i a (ap (cell_of w) (sym added.places) ∙ found) bound);
       general = λ θ val solves valuation w i found.
           h.general θ val solves (valuation-old θ old new val g valuation) w i (ap (cell_of w) (sym added.places) ∙ found);
     }
@@ -182,6 +218,11 @@ module _ (apart : Bool) (es : Equations) (old mid new : Layout) (w k : ℕ) (h :
             (λ before. h.solves f θ val (valuation-old θ old new val free-grows valuation) (agree-old f old new val free-grows agree) v j a before bound)
             (λ here. let wrong : None ≡ Some a = sym unbound ∙ ap (bound_in es) (sym here.0) ∙ bound in absurd cc)
             (free-either v j found);
+        closed = λ v j a found bound.
+            ⊎_elim
+            (λ before. still-passes apart old new a free-grows (h.closed v j a before bound))
+            (λ here. let wrong : None ≡ Some a = sym unbound ∙ ap (bound_in es) (sym here.0) ∙ bound in absurd cc)
+            (free-either v j found);
         general = λ θ val solves valuation v j found.
             ⊎_elim
             (λ before. h.general θ val solves (valuation-old θ old new val free-grows valuation) v j before)
@@ -251,6 +292,14 @@ module _ (apart : Bool) (es : Equations) (old mid new : Layout) (w k : ℕ) (a :
         sym (agree v j found) ∙ ap val (sym here.1) ∙ bound-denotes f θ val valuation agree ∙ ap (λ x. tree (item_under apart f x)) item_is in
         cc)
         (bound-either v j found);
+    closed = λ v j b found is_bound.
+        ⊎_elim
+        (λ before. still-passes apart mid new b bound-grows (h.resolving.closed v j b before is_bound))
+        (λ here.
+        let items : Some a ≡ Some b = sym bound ∙ ap (bound_in es) (sym here.0) ∙ is_bound in
+        let item_is : a ≡ b = cc in
+        still-passes apart mid new b bound-grows (let P : Item → Type 0 = λ x. ItemPasses apart (has_place mid.places.items) x in subst P item_is h.placed))
+        (bound-either v j found);
     general = λ θ val solves valuation v j found.
         let before_all : PlacesAgree θ val mid.places.items = h.resolving.general θ val solves (valuation-old θ mid new val bound-grows valuation) in
         ⊎_elim
@@ -270,7 +319,7 @@ module _ (apart : Bool) (es : Equations) (old mid new : Layout) (w k : ℕ) (a :
     grows = both-on old mid new h.grows bound-grows;
     found = ap (cell_of w) bound-places ∙ place-found mid.places.items bound-place w none refl;
     pass = λ test e passes all.
-        place-passes test mid.places.items new.places.items bound-place bound-places (h.pass test e (e w a bound).1 all) passes;
+        place-passes test mid.places.items new.places.items bound-place bound-places (h.pass test e (e.0 w a bound).1 all) passes;
   }
 
 -- ---- terms
@@ -286,6 +335,9 @@ variable-at apart es old new side v w k is h =
       inside = there.0;
       kind = there.1;
       denotes = λ f θ val valuation agree. agree w k h.found ∙ ap (λ u. tree (f u)) is;
+      placed =
+          and_from (has_place new.places.items (code_of apart side v)) true
+          (ap is_some (ap (λ u. cell_of u new.places.items) (sym is) ∙ h.found)) refl;
       pass = λ test e passes all. h.pass test e (ap test is ∙ (and_parts (test (code_of apart side v)) true passes).0) all;
     }
 
@@ -321,6 +373,7 @@ application-at apart es old mid new side f l k ts list added =
           valuation k (added-inside mid new c k added)
           ∙ ap (value_of θ val) (added-cell mid new c k added)
           ∙ ap (λ u. tree (application f (as_trees u))) (list.denotes h θ val (valuation-old θ mid new val g valuation) (agree-old h mid new val g agree));
+      placed = still-all-pass apart mid new side ts g list.placed;
       pass = λ test e passes all. ap (all_pass test) added.places ∙ list.pass test e passes all;
     }
 
@@ -341,6 +394,7 @@ no-terms-resolved apart es old new side k h added = record {
   inside = added-inside old new NoTrees k added;
   kind = ap is_list (added-cell old new NoTrees k added);
   denotes = λ f θ val valuation agree. valuation k (added-inside old new NoTrees k added) ∙ ap (value_of θ val) (added-cell old new NoTrees k added);
+  placed = refl;
   pass = λ test e passes all. ap (all_pass test) added.places ∙ all;
 }
 
@@ -351,6 +405,14 @@ passing-both apart test side x xs k =
     let p : ℕ → Bool = λ v. test (code_of apart side v) in
     let both = and_parts (list_all p (tree_variables x)) (list_all p (trees_variables xs)) (sym (list_all-append p (tree_variables x) (trees_variables xs)) ∙ k) in
     (both.0, both.1)
+
+passing-more :
+    (apart : Bool) (test : ℕ → Bool) (side : Side) (x : Tree) (xs : Trees)
+    → ItemPasses apart test (side, x) → ItemsPass apart test side xs → ItemsPass apart test side (tree_then x xs)
+passing-more apart test side x xs first rest =
+    let p : ℕ → Bool = λ v. test (code_of apart side v) in
+    list_all-append p (tree_variables x) (trees_variables xs)
+    ∙ and_from (list_all p (tree_variables x)) (list_all p (trees_variables xs)) first rest
 
 pub more-terms-resolved :
     (apart : Bool) (es : Equations) (old middle mid new : Layout) (side : Side) (t : Tree) (ts : Trees) (rest first k : ℕ)
@@ -373,81 +435,54 @@ more-terms-resolved apart es old middle mid new side t ts rest first k list one 
           ∙ ap₂ (λ u v. trees (tree_then (as_tree u) (as_trees v)))
           (one.denotes f θ val (valuation-old θ mid new val g valuation) (agree-old f mid new val g agree))
           (list.denotes f θ val (valuation-old θ middle new val g_all valuation) (agree-old f middle new val g_all agree));
+      placed =
+          passing-more apart (has_place new.places.items) side t ts (still-passes apart mid new (side, t) g one.placed)
+          (still-all-pass apart middle new side ts g_all list.placed);
       pass = λ test e passes all.
           let both = passing-both apart test side t ts passes in
           ap (all_pass test) added.places ∙ one.pass test e both.0 (list.pass test e both.1 all);
     }
 
--- ---- the variables of a term
+-- ---- several variables
 
-all-further : (p q : ℕ → Bool) (xs : List ℕ) → ((x : ℕ) → p x ≡ true → q x ≡ true) → list_all p xs ≡ true → list_all q xs ≡ true
-all-further p q [] h all = refl
-all-further p q (x ∷ xs) h all =
-    let both = and_parts (p x) (list_all p xs) all in
-    and_from (q x) (list_all q xs) (h x both.0) (all-further p q xs h both.1)
-
-still-placed : (old new : Layout) (w : ℕ) → GrowsBoth old new → has_place old.places.items w ≡ true → has_place new.places.items w ≡ true
-still-placed old new w g h = by (cell_of w old.places.items) refl h
-  where
-    by : (o : Option ℕ) → cell_of w old.places.items ≡ o → is_some o ≡ true → has_place new.places.items w ≡ true
-    by None e some = cc
-    by (Some k) e some = ap is_some (ap (cell_of w) g.3 ∙ cell_of-front w k old.places.items g.1 e)
-
-pub still-all-placed :
-    (old new : Layout) (apart : Bool) (side : Side) (vs : List ℕ)
-    → GrowsBoth old new → HavePlaces old.places.items apart side vs → HavePlaces new.places.items apart side vs
-still-all-placed old new apart side vs g h =
-    all-further (λ v. has_place old.places.items (code_of apart side v)) (λ v. has_place new.places.items (code_of apart side v)) vs
-    (λ v placed. still-placed old new (code_of apart side v) g placed) h
-
-one-variable-at :
-    (apart : Bool) (es : Equations) (old new : Layout) (side : Side) (v w k : ℕ)
-    → w ≡ code_of apart side v → IsVariableResolved apart es old new w k
-    → AreResolved apart es old new side (tree_variables (variable v)) (λ test. ItemPasses apart test (side, variable v))
-one-variable-at apart es old new side v w k is h = record {
-  resolving = h.resolving;
-  grows = h.grows;
-  placed =
-      and_from (has_place new.places.items (code_of apart side v)) true
-      (ap is_some (ap (λ u. cell_of u new.places.items) (sym is) ∙ h.found)) refl;
-  pass = λ test e passes all. h.pass test e (ap test is ∙ (and_parts (test (code_of apart side v)) true passes).0) all;
-}
-
-pub one-variable-resolved :
-    (apart : Bool) (es : Equations) (old new : Layout) (side : Side) (t : Tree) (v w k : ℕ)
-    → t ≡ variable v → w ≡ code_of apart side v → IsVariableResolved apart es old new w k
-    → AreResolved apart es old new side (tree_variables t) (λ test. ItemPasses apart test (side, t))
-one-variable-resolved apart es old new side t v w k t_is is h =
-    let P : Tree → Type 0 = λ u. AreResolved apart es old new side (tree_variables u) (λ test. ItemPasses apart test (side, u)) in
-    subst P (sym t_is) (one-variable-at apart es old new side v w k is h)
-
-pub arguments-resolved :
-    (apart : Bool) (es : Equations) (old new : Layout) (side : Side) (t : Tree) (f : ℕ) (ts : Trees)
-    → t ≡ application f ts → AreResolved apart es old new side (trees_variables ts) (λ test. ItemsPass apart test side ts)
-    → AreResolved apart es old new side (tree_variables t) (λ test. ItemPasses apart test (side, t))
-arguments-resolved apart es old new side t f ts t_is h =
-    let P : Tree → Type 0 = λ u. AreResolved apart es old new side (tree_variables u) (λ test. ItemPasses apart test (side, u)) in
-    subst P (sym t_is) h
-
-pub nothing-resolved :
-    (apart : Bool) (es : Equations) (l : Layout) (side : Side)
-    → IsResolving apart es l → AreResolved apart es l l side (trees_variables no_trees) (λ test. ItemsPass apart test side no_trees)
-nothing-resolved apart es l side h = record { resolving = h; grows = both-itself l; placed = refl; pass = λ test e passes all. all }
+pub nothing-resolved : (apart : Bool) (es : Equations) (l : Layout) → IsResolving apart es l → AreResolved apart es l l []
+nothing-resolved apart es l h = record { resolving = h; grows = both-itself l; placed = refl; pass = λ test e passes all. all }
 
 pub more-resolved :
-    (apart : Bool) (es : Equations) (old mid new : Layout) (side : Side) (t : Tree) (ts : Trees)
-    → AreResolved apart es old mid side (trees_variables ts) (λ test. ItemsPass apart test side ts)
-    → AreResolved apart es mid new side (tree_variables t) (λ test. ItemPasses apart test (side, t))
-    → AreResolved apart es old new side (trees_variables (tree_then t ts)) (λ test. ItemsPass apart test side (tree_then t ts))
-more-resolved apart es old mid new side t ts list one = record {
+    (apart : Bool) (es : Equations) (old mid new : Layout) (ws : List ℕ) (w k : ℕ)
+    → AreResolved apart es old mid ws → IsVariableResolved apart es mid new w k → AreResolved apart es old new (ws ++ w ∷ [])
+more-resolved apart es old mid new ws w k before one = record {
   resolving = one.resolving;
-  grows = both-on old mid new list.grows one.grows;
+  grows = both-on old mid new before.grows one.grows;
   placed =
-      let p : ℕ → Bool = λ v. has_place new.places.items (code_of apart side v) in
-      list_all-append p (tree_variables t) (trees_variables ts)
-      ∙ and_from (list_all p (tree_variables t)) (list_all p (trees_variables ts)) one.placed
-      (still-all-placed mid new apart side (trees_variables ts) one.grows list.placed);
+      all-push (has_place new.places.items) ws w
+      ∙ and_from (list_all (has_place new.places.items) ws) (has_place new.places.items w) (still-all-placed mid new ws one.grows before.placed)
+      (ap is_some one.found);
   pass = λ test e passes all.
-      let both = passing-both apart test side t ts passes in
-      one.pass test e both.0 (list.pass test e both.1 all);
+      let both = and_parts (list_all test ws) (test w) (sym (all-push test ws w) ∙ passes) in
+      one.pass test e both.1 (before.pass test e both.0 all);
 }
+
+-- as the code has it
+more-resolved-if :
+    (apart : Bool) (es : Equations) (old mid new : Layout) (ws : List ℕ) (w : ℕ) (o : Option ℕ)
+    → AreResolved apart es old mid ws → IfSome o (IsVariableResolved apart es mid new w) → is_some o ≡ true → AreResolved apart es old new (ws ++ w ∷ [])
+more-resolved-if apart es old mid new ws w None before one some = cc
+more-resolved-if apart es old mid new ws w (Some k) before one some = more-resolved apart es old mid new ws w k before one
+
+pub more-noted-resolved :
+    (apart : Bool) (es : Equations) (old mid new : Layout) (vs : List ℕ) (i : ℕ) (o : Option ℕ)
+    → i < length vs → AreResolved apart es old mid (take i vs) → IfSome o (IsVariableResolved apart es mid new (get_or vs i 0)) → is_some o ≡ true
+    → AreResolved apart es old new (take (i + 1) vs)
+more-noted-resolved apart es old mid new vs i o less before one some =
+    subst (AreResolved apart es old new) (sym (take_more vs i 0 less)) (more-resolved-if apart es old mid new (take i vs) (get_or vs i 0) o before one some)
+
+pub more-equations-resolved :
+    (apart : Bool) (es : Equations) (old mid new : Layout) (ds : List Equation) (i : ℕ) (e : Equation) (o : Option ℕ)
+    → i < length ds → e ≡ get_or ds i e → AreResolved apart es old mid (map (λ (d : Equation). d.code) (take i ds))
+    → IfSome o (IsVariableResolved apart es mid new e.code) → is_some o ≡ true
+    → AreResolved apart es old new (map (λ (d : Equation). d.code) (take (i + 1) ds))
+more-equations-resolved apart es old mid new ds i e o less is before one some =
+    let code : Equation → ℕ = λ d. d.code in
+    subst (AreResolved apart es old new) (sym (ap (map code) (take_more_item ds i e less is) ∙ map-append code (take i ds) (e ∷ [])))
+    (more-resolved-if apart es old mid new (map code (take i ds)) e.code o before one some)

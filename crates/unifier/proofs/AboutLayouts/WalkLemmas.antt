@@ -1,7 +1,7 @@
 -- The walk down two terms, step by step.
 use Rattle.std.proofs.Common.{◌≡◌, ℕ, suc, ◌+◌, ◌<◌, ◌≤◌, Bool, true, None, Some, List, [], ◌∷◌, length, map, drop, get_or, refl, ap, ap₂, sym, ◌∙◌, subst, arith, drop-cons}
 use Rattle.std.specs.List.{list_all}
-use Rattle.std.proofs.lemmas.Bool.{and_parts}
+use Rattle.std.proofs.lemmas.Bool.{and_parts, and_from}
 use Rattle.std.proofs.lemmas.List.{drop_all}
 use Rattle.std.proofs.lemmas.List.Folds.{list_all-append}
 use Rattle.fol_base.specs.Tree.{Tree, variable, application, Trees, no_trees, tree_then, tree_variables, trees_variables, trees_of}
@@ -13,7 +13,7 @@ use Rattle.unifier.specs.declared.equation.Equations.{Equations}
 use Rattle.unifier.specs.declared.agreeing.Walked.{Walked}
 use Rattle.unifier.specs.declared.agreeing.Walked.TheVariants.{Agreed, Clashed, Stopped}
 use Rattle.unifier.specs.SolvedForm.{code_of, of_side}
-use Rattle.unifier.specs.Equations.{Item, ItemPasses, item_under, bound_in, Solves, EquationsPass, IsWithEquation}
+use Rattle.unifier.specs.Equations.{Item, ItemPasses, item_under, bound_in, noted_of, Solves, EquationsPass, IsWithEquation, IsWithNoted}
 use Rattle.unifier.specs.Agreeing.{WalkDone, Agrees, AgreesWithVariable, ItemsPass, AgreesInAll}
 use Rattle.unifier.proofs.AboutEquations.EquationLemmas.{still-bound, either-bound}
 
@@ -24,18 +24,24 @@ changed :
     → ((θ : Substitution) → Solves apart θ old → Same θ → Other θ)
     → ((θ : Substitution) → Solves apart θ old → Other θ → Same θ)
     → ((test : ℕ → Bool) → EquationsPass apart test old → OtherPass test → Pass test)
+    → ((test : ℕ → Bool) → EquationsPass apart test old → Pass test → OtherPass test)
     → WalkDone apart old new Same Pass answer → WalkDone apart old new Other OtherPass answer
-changed apart old new Same Other Pass OtherPass Agreed there back pass h = (
+changed apart old new Same Other Pass OtherPass Agreed there back pass unpass h = (
   (λ θ s. let r = h.0 θ s in (r.0, there θ r.0 r.1)),
   (λ θ s e. h.1 θ s (back θ s e)),
   (λ test p k. h.2 test p (pass test p k)),
+  (λ test p. let r = h.3 test p in (r.0, unpass test r.0 r.1)),
 )
-changed apart old new Same Other Pass OtherPass Clashed there back pass h = λ θ s e. h θ s (back θ s e)
-changed apart old new Same Other Pass OtherPass Stopped there back pass h = tt
+changed apart old new Same Other Pass OtherPass Clashed there back pass unpass h = λ θ s e. h θ s (back θ s e)
+changed apart old new Same Other Pass OtherPass Stopped there back pass unpass h = tt
 
 variable-passes :
     (apart : Bool) (test : ℕ → Bool) (side : Side) (v w : ℕ) → w ≡ code_of apart side v → ItemPasses apart test (side, variable v) → test w ≡ true
 variable-passes apart test side v w is h = ap test is ∙ (and_parts (test (code_of apart side v)) true h).0
+
+passes-variable :
+    (apart : Bool) (test : ℕ → Bool) (side : Side) (v w : ℕ) → w ≡ code_of apart side v → test w ≡ true → ItemPasses apart test (side, variable v)
+passes-variable apart test side v w is h = and_from (test (code_of apart side v)) true (ap test (sym is) ∙ h) refl
 
 -- ---- a variable and a tree
 
@@ -48,6 +54,7 @@ left-variable-at apart old new side v w b answer is h =
     (λ θ s e. ap θ (sym is) ∙ e)
     (λ θ s e. ap θ is ∙ e)
     (λ test p k. (variable-passes apart test side v w is k.0, k.1))
+    (λ test p k. (passes-variable apart test side v w is k.0, k.1))
     h
 
 pub left-variable :
@@ -66,6 +73,7 @@ right-variable-at apart old new side v w a answer is h =
     (λ θ s e. sym e ∙ ap θ is)
     (λ θ s e. ap θ is ∙ sym e)
     (λ test p k. (variable-passes apart test side v w is k.1, k.0))
+    (λ test p k. (k.1, passes-variable apart test side v w is k.0))
     h
 
 pub right-variable :
@@ -84,21 +92,28 @@ with-bound apart old new w a b answer found h =
     (λ test. ItemPasses apart test a × ItemPasses apart test b) (λ test. (test w ≡ true) × ItemPasses apart test b) answer
     (λ θ s e. s w a (sym found) ∙ e)
     (λ θ s e. sym (s w a (sym found)) ∙ e)
-    (λ test p k. ((p w a (sym found)).1, k.1))
+    (λ test p k. ((p.0 w a (sym found)).1, k.1))
+    (λ test p k. ((p.0 w a (sym found)).0, k.1))
     h
 
 -- ---- a variable that isn't bound
 
--- with itself
+-- with itself: it is noted
 pub with-itself :
-    (apart : Bool) (es : Equations) (w second : ℕ) (side : Side) (t : Tree) (v : ℕ)
-    → t ≡ variable v → second ≡ code_of apart side v → second ≡ w → AgreesWithVariable apart es es w (side, t) Agreed
-with-itself apart es w second side t v t_is is same =
-    let P : Tree → Type 0 = λ u. AgreesWithVariable apart es es w (side, u) Agreed in
+    (apart : Bool) (old new : Equations) (w second : ℕ) (side : Side) (t : Tree) (v : ℕ)
+    → t ≡ variable v → second ≡ code_of apart side v → second ≡ w → IsWithNoted old new w → AgreesWithVariable apart old new w (side, t) Agreed
+with-itself apart old new w second side t v t_is is same h =
+    let P : Tree → Type 0 = λ u. AgreesWithVariable apart old new w (side, u) Agreed in
     subst P (sym t_is) (
-      (λ θ s. (s, ap θ (sym same ∙ is))),
-      (λ θ s e. s),
-      (λ test p k. p),
+      (λ θ s. ((λ u b found. s u b (h.equations u ∙ found)), ap θ (sym same ∙ is))),
+      (λ θ s e u b found. s u b (sym (h.equations u) ∙ found)),
+      (λ test p k. (
+        (λ u b found. p.0 u b (sym (h.equations u) ∙ found)),
+        h.noted test ∙ and_from (list_all test (noted_of old)) (test w) p.1 k.0,
+      )),
+      (λ test p.
+          let both = and_parts (list_all test (noted_of old)) (test w) (sym (h.noted test) ∙ p.1) in
+          (((λ u b found. p.0 u b (h.equations u ∙ found)), both.0), (both.1, passes-variable apart test side v w (sym same ∙ is) both.1))),
     )
 
 with-bound-variable-at :
@@ -110,7 +125,8 @@ with-bound-variable-at apart old new w second side v a answer is found h =
     (λ test. (test w ≡ true) × ItemPasses apart test a) (λ test. (test w ≡ true) × ItemPasses apart test (side, variable v)) answer
     (λ θ s e. e ∙ sym (s second a found) ∙ ap θ is)
     (λ θ s e. e ∙ ap θ (sym is) ∙ s second a found)
-    (λ test p k. (k.0, (p second a found).1))
+    (λ test p k. (k.0, (p.0 second a found).1))
+    (λ test p k. (k.0, passes-variable apart test side v second is (p.0 second a found).0))
     h
 
 -- with a variable that is bound
@@ -130,8 +146,14 @@ with-equation apart old new w a none h = (
   (λ θ s. ((λ u b found. s u b (still-bound old new w u a b h none found)), s w a h.here)),
   (λ θ s e u b found.
       either-bound old new w u a b (λ v d. θ v ≡ item_under apart θ d) h found e (λ before. s u b before)),
-  (λ test p k u b found.
-      either-bound old new w u a b (λ v d. (test v ≡ true) × ItemPasses apart test d) h found k (λ before. p u b before)),
+  (λ test p k. (
+    (λ u b found. either-bound old new w u a b (λ v d. (test v ≡ true) × ItemPasses apart test d) h found k (λ before. p.0 u b before)),
+    ap (list_all test) h.noted ∙ p.1,
+  )),
+  (λ test p. (
+    ((λ u b found. p.0 u b (still-bound old new w u a b h none found)), ap (list_all test) (sym h.noted) ∙ p.1),
+    p.0 w a h.here,
+  )),
 )
 
 -- ---- two applications
@@ -148,6 +170,7 @@ applications-at apart old new one other f g ts us answer is h =
     (λ θ s e. ap₂ application is e)
     (λ θ s e.
     let whole : application f (instances (of_side apart one θ) ts) ≡ application g (instances (of_side apart other θ) us) = e in cc)
+    (λ test p k. k)
     (λ test p k. k)
     h
 
@@ -196,9 +219,11 @@ Agreeing apart start now one ts rest_ts other us rest_us =
     → Solves apart θ now × (instances (of_side apart one θ) rest_ts ≡ instances (of_side apart other θ) rest_us))
     × ((test : ℕ → Bool) → EquationsPass apart test start → ItemsPass apart test one ts × ItemsPass apart test other us
     → EquationsPass apart test now × ItemsPass apart test one rest_ts × ItemsPass apart test other rest_us)
+    × ((test : ℕ → Bool) → EquationsPass apart test now → ItemsPass apart test one rest_ts × ItemsPass apart test other rest_us
+    → EquationsPass apart test start × ItemsPass apart test one ts × ItemsPass apart test other us)
 
 pub agreeing-starts : (apart : Bool) (es : Equations) (one other : Side) (ts us : Trees) → Agreeing apart es es one ts ts other us us
-agreeing-starts apart es one other ts us = ((λ θ s e. (s, e)), (λ θ s e. (s, e)), (λ test p k. (p, k.0, k.1)))
+agreeing-starts apart es one other ts us = ((λ θ s e. (s, e)), (λ θ s e. (s, e)), (λ test p k. (p, k.0, k.1)), (λ test p k. (p, k.0, k.1)))
 
 module _ (apart : Bool) (start now next : Equations) (one other : Side) (ts us rts rus : Trees) (t u : Tree)
     (h : Agreeing apart start now one ts (tree_then t rts) other us (tree_then u rus)) where
@@ -221,6 +246,14 @@ module _ (apart : Bool) (start now next : Equations) (one other : Side) (ts us r
       let both = and_parts (list_all p (tree_variables x)) (list_all p (trees_variables xs)) (sym (list_all-append p (tree_variables x) (trees_variables xs)) ∙ k) in
       (both.0, both.1)
 
+  parts-passing :
+      (test : ℕ → Bool) (side : Side) (x : Tree) (xs : Trees)
+      → ItemPasses apart test (side, x) → ItemsPass apart test side xs → ItemsPass apart test side (tree_then x xs)
+  parts-passing test side x xs first rest =
+      let p : ℕ → Bool = λ v. test (code_of apart side v) in
+      list_all-append p (tree_variables x) (trees_variables xs)
+      ∙ and_from (list_all p (tree_variables x)) (list_all p (trees_variables xs)) first rest
+
   pub agreeing-more : Agrees apart now next (one, t) (other, u) Agreed → Agreeing apart start next one ts rts other us rus
   agreeing-more step = (
     (λ θ s e.
@@ -235,6 +268,9 @@ module _ (apart : Bool) (start now next : Equations) (one other : Side) (ts us r
         let left = passing-parts test one t rts before.1 in
         let right = passing-parts test other u rus before.2 in
         (step.2 test before.0 (left.0, right.0), left.1, right.1)),
+    (λ test p k.
+        let before = step.3 test p in
+        h.3 test before.0 (parts-passing test one t rts before.1.0 k.0, parts-passing test other u rus before.1.1 k.1)),
   )
 
   pub agreeing-clashes : Agrees apart now next (one, t) (other, u) Clashed → AgreesInAll apart start next one ts other us Clashed
@@ -249,6 +285,7 @@ agreeing-done apart start now one other ts us h = (
   (λ θ s. h.0 θ s refl),
   (λ θ s e. (h.1 θ s e).0),
   (λ test p k. (h.2 test p k).0),
+  (λ test p. let r = h.3 test p (refl, refl) in (r.0, (r.1, r.2))),
 )
 
 -- a list from a place on

@@ -7,5 +7,5 @@ pub returns : goal.returns
 returns c =
     let e : Equation = record { code = c.args.code; bound = c.args.bound } in
     added c.args.self.now _ c.args.code e
-    (ap (take (min (c.args.self.now.len + 1) 8)) c.store.ensures ∙ stored c.args.self.now.items c.args.self.now.len e (omega arith) (omega arith))
-    c.requires refl
+    (ap (take (min (c.args.self.now.len + 1) 8)) c.store.ensures ∙ stored c.args.self.now.items 8 c.args.self.now.len e (omega arith) (omega arith))
+    refl c.requires refl
