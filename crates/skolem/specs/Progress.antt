@@ -5,7 +5,7 @@ use Rattle.fol_base.specs.Tree.{variable, tree_variables, true_tree}
 use Rattle.signature.specs.Environment.{Environment, term_names, terms_names, term_in_force}
 use Rattle.signature.specs.Clausal.{SymbolNumbers, Made, Scope, applied}
 use Rattle.skolem.specs.declared.bound_term.BoundTerm.{BoundTerm}
-use Rattle.skolem.specs.declared.bound_term.BoundTerm.TheVariants.{Var, Closed}
+use Rattle.skolem.specs.declared.bound_term.BoundTerm.TheVariants.{Var}
 use Rattle.skolem.specs.declared.bindings.Binding.{Binding}
 use Rattle.skolem.specs.declared.progress.Progress.{Progress}
 use Rattle.skolem.specs.BoundTerm.{bound_tree}

@@ -13,7 +13,7 @@ use Rattle.skolem.specs.declared.bindings.Binding.{Binding}
 use Rattle.skolem.specs.declared.bindings.Entry.{Entry}
 use Rattle.skolem.specs.BoundTerm.{bound_tree}
 use Rattle.skolem.specs.Name.{same_name}
-use Rattle.skolem.specs.Bindings.{no_binding, no_entry, name_at, innermost_below, place_in, entry_variables, IsAlike, IsChained, bindings_of, HasVariables}
+use Rattle.skolem.specs.Bindings.{no_binding, no_entry, name_at, innermost_below, place_in, IsAlike, IsChained, bindings_of, HasVariables}
 use Rattle.skolem.specs.Progress.{environment_of}
 
 -- the last binding comes first
