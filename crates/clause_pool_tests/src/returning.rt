@@ -8,9 +8,7 @@ ghost use Rattle.term_bank.specs.Table.{IsTableOf};
 ghost use Rattle.pool_core.specs.declared.event.Event.TheVariants.{Claim};
 ghost use Rattle.clause_pool_tests.specs.Returns.{doubled, doubled_out, first_doubled, second_doubled, second_history, trivial, resolved};
 
-use crate::batches::{
-    atom, both, empty, of_one, of_two, only, resolved_batch, unequal_to_itself,
-};
+use crate::batches::{atom, both, empty, of_one, of_two, only, resolved_batch, unequal_to_itself};
 use crate::calls::{give, take};
 use crate::inputs::OPTIONS;
 use fol_base::Clauses;
@@ -108,7 +106,14 @@ fn both_taken<W: Wait + Abort>(rt: &W, alloc: Global, bank: &Bank, table: Table)
 }
 
 /// Whether a pool has so many lines, living clauses and counted inferences.
-fn has(rt: &impl Abort, alloc: Global, pool: &Pool, lines: usize, living: usize, counted: u64) -> bool {
+fn has(
+    rt: &impl Abort,
+    alloc: Global,
+    pool: &Pool,
+    lines: usize,
+    living: usize,
+    counted: u64,
+) -> bool {
     let members = pool.members(alloc).expect(rt, "memory");
     pool.derivation().len() == lines && members.len() == living && pool.counted() == counted
 }
