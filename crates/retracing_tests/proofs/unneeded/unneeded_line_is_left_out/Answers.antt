@@ -8,5 +8,5 @@ use Rattle.retracing_tests.proofs.unneeded.unneeded_line_is_left_out.Goals as go
 
 pub refutation-requires : goal.refutation-requires
 refutation-requires g c =
-    subst (λ (form : List TreeClause). AreRefutingSteps form c.as_slice.result.now) (sym c.in_ok-form.ensures)
-    (subst (AreRefutingSteps opposites) (sym (c.as_slice.ensures.value ∙ c.in_ok-steps.ensures)) unneeded-refutes)
+    subst (λ (form : List TreeClause). AreRefutingSteps form c.as_slice.result.now) (sym c.form-form.ensures)
+    (subst (AreRefutingSteps opposites) (sym (c.as_slice.ensures.value ∙ c.steps-steps.ensures)) unneeded-refutes)
