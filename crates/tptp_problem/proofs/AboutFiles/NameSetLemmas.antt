@@ -149,11 +149,11 @@ left-is names fs i x set absent n b l g e h w k =
 
 named-by : (b : Bool) → true ≡ not b → b ≡ false
 named-by false h = refl
-named-by true h = sym h
+named-by true h = h
 
 named-unless : (b : Bool) → false ≡ not b → b ≡ true
 named-unless true h = refl
-named-unless false h = sym h
+named-unless false h = h
 
 missing-at :
     (names : List (List ℕ)) (fs : List Placed) (i : ℕ) (x : List ℕ) → i < length names → x ≡ get_or names i x

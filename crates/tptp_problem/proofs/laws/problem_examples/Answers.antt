@@ -1,4 +1,4 @@
-use Rattle.std.proofs.Common.{◌≡◌, ◌≤◌, ℕ, ◌+◌, true, false, None, Some, List, [], ◌∷◌, codes, drop, length, refl, arith}
+use Rattle.std.proofs.Common.{◌≡◌, ◌≤◌, inl, inr, ℕ, ◌+◌, true, false, None, Some, List, [], ◌∷◌, codes, drop, length, refl, arith}
 use Rattle.std.specs.Prelude.{IfSome, slice_get}
 use Rattle.tptp_token.specs.Longest.{longest}
 use Rattle.tptp_token.specs.Kinds.{is_token, kind_of}
