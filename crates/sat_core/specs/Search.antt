@@ -61,13 +61,6 @@ IsFound slots c (Moved index literal) = (index < length c) × IsTrue (has_name l
 IsFound slots c (Implied literal) = IsUnit slots c literal
 IsFound slots c False = AreFalse slots c
 
--- and of a clause by its number
-abbrev pub IsFoundAt : List PropClause → List Slot → ℕ → Visit → Type 0
-IsFoundAt clauses slots n Kept = Unit {0}
-IsFoundAt clauses slots n (Moved index literal) = IsTrue (has_name literal (clause_at clauses n))
-IsFoundAt clauses slots n (Implied literal) = (n < length clauses) × IsUnit slots (clause_at clauses n) literal
-IsFoundAt clauses slots n False = IsConflict clauses slots n
-
 -- none of the clause's literals is true
 abbrev pub HasNoTrue : List Slot → PropClause → Type 0
 HasNoTrue slots c = (k : NameLit) → IsTrue (has_name k c) → IsFalse (is_true slots k)

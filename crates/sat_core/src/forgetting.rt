@@ -9,7 +9,7 @@ use crate::watches::Watches;
 use plain_types::Mem;
 use std::alloc::Global;
 
-/// So many learned clauses are watched before half of them are forgotten.
+/// So many learned clauses are watched before three fifths of them are forgotten.
 const FIRST_LIMIT: usize = 500;
 /// What the limit grows by each time.
 const LIMIT_STEP: usize = 100;
@@ -74,7 +74,7 @@ impl Forgetting {
 
     /// For each clause whether it is watched on.
     fn kept(&self, alloc: Global, clauses: &Clauses<'_>) -> Mem<Vec<bool>> {
-        let since = self.middle_use(alloc)?;
+        let since = self.last_uses(alloc)?;
         let mut kept = Vec::with_capacity(alloc, self.uses.len())?;
         for (number, used) in self.uses.iter().enumerate() {
             kept.push(
@@ -84,14 +84,14 @@ impl Forgetting {
         Ok(kept)
     }
 
-    /// The time since when half of the watched clauses were used.
-    fn middle_use(&self, alloc: Global) -> Mem<usize> {
+    /// The time since when two fifths of the watched clauses were used.
+    fn last_uses(&self, alloc: Global) -> Mem<usize> {
         let mut times = Vec::with_capacity(alloc, self.watched.len())?;
         for number in &self.watched {
             times.push(self.uses.get(*number).copied().unwrap_or(0))?;
         }
         times.sort_unstable();
-        Ok(times.get(times.len() / 2).copied().unwrap_or(0))
+        Ok(times.get(times.len() / 5 * 3).copied().unwrap_or(0))
     }
 }
 

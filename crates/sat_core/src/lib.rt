@@ -4,6 +4,7 @@
 mod analysis;
 mod answer;
 mod clauses;
+mod copies;
 mod forgetting;
 mod lists;
 mod literals;
@@ -13,6 +14,7 @@ mod order;
 mod solver;
 mod trail;
 mod trimming;
+mod values;
 mod watches;
 
 pub use answer::{Answer, Chain, Link, Links, Log, PropClauses, Truths, names_are_below};

@@ -11,6 +11,9 @@ use std::alloc::Global;
 /// Activities above this are made smaller, all by one factor.
 const HIGHEST: u64 = 1 << 60;
 
+/// A conflict adds more than the one before by this part of it, so that older activities count less: about as by MiniSat's factor of 0.95.
+const DECAY: u64 = 20;
+
 /// The names that may be decided, as a heap by activity.
 #[derive(Drop)]
 pub struct Order {
@@ -71,7 +74,7 @@ impl Order {
         for literal in literals {
             self.bump_name(literal.name as usize);
         }
-        self.step = self.step.saturating_add(self.step / 16);
+        self.step = self.step.saturating_add(self.step / DECAY);
         if self.step > HIGHEST {
             self.rescale();
         }

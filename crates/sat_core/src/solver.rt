@@ -55,8 +55,8 @@ impl<'a> Solver<'a> {
         ensures { IfOk result (IsBegun names inputs.now) }
     {
         let mut watches = Watches::new(alloc, names)?;
-        for clause in inputs {
-            watches.add_input(clause.as_slice())?;
+        for (number, clause) in inputs.iter().enumerate() {
+            watches.add_input(number, clause.as_slice())?;
         }
         Ok(Solver {
             clauses: Clauses::new(alloc, inputs),
@@ -85,16 +85,17 @@ impl<'a> Solver<'a> {
         self.order.put_back(&self.trail.entries[turn.cut..])?;
         self.trail.cut(turn.cut);
         self.watches.cut(turn.cut);
-        let reason = Some(self.clauses.len());
+        let learned = self.clauses.len();
         let (links, clause) = (
             self.conflict.links.as_slice(),
             self.conflict.clause.as_slice(),
         );
-        self.watches.add_learned(&self.trail, clause, turn.literal)?;
+        self.watches
+            .add_learned(learned, &self.trail, clause, turn.literal)?;
         self.forgetting
             .note(alloc, &self.clauses, &mut self.watches, number, links)?;
         self.clauses.learn(number, links, clause)?;
-        let literal = turn.literal;
+        let (literal, reason) = (turn.literal, Some(learned));
         self.trail.push(Assigned { literal, reason })?;
         Ok(Step::Going)
     }

@@ -3,6 +3,7 @@
 ghost use Rattle.std.specs.Prelude.{◌≡◌, ℕ, ◌+◌, ◌-◌, ◌<◌, ◌≤◌, [], ◌∷◌, ◌++◌, length, take, slice_set, IfOk};
 ghost use Rattle.sat_core.specs.Trail.{IsTrail, IsNewTrail, is_true, is_false, place_of, slot_of, slot_at, cut_slot, Cuts};
 
+use crate::values::Values;
 use plain_types::{Mem, NameLit};
 use std::alloc::Global;
 
@@ -28,6 +29,8 @@ pub struct Slot {
 pub struct Trail {
     pub entries: Vec<Assigned>,
     pub slots: Vec<Slot>,
+    /// The same by literal, a hint.
+    pub values: Values,
 }
 
 impl Trail {
@@ -43,6 +46,7 @@ impl Trail {
         Ok(Trail {
             entries: Vec::new(alloc),
             slots,
+            values: Values::new(alloc, names)?,
         })
     }
 
@@ -87,6 +91,7 @@ impl Trail {
             place: self.entries.len(),
             positive: entry.literal.positive,
         };
+        self.values.make_true(entry.literal);
         Ok(())
     }
 
@@ -98,6 +103,7 @@ impl Trail {
     {
         if let Some(entry) = self.entries.pop() {
             self.slots[entry.literal.name as usize].place = 0;
+            self.values.take_back(entry.literal);
         }
     }
 

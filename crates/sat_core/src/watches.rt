@@ -1,6 +1,7 @@
 // Propagation: each clause of two literals or more is watched by two of them, and looked at again only where a
-// watched one becomes false (Moskewicz and others 2001). The lists and pairs are hints: what is implied is read
-// from the clause itself, whose other literals are all looked at before.
+// watched one becomes false (Moskewicz and others 2001), and then only where the literal beside it in the list (as in
+// MiniSat, Eén and Sörensson 2003) isn't true. The lists, the values and the copies of clauses are hints: what is implied
+// is read from the clause itself, whose other literals are all looked at before.
 
 ghost use Rattle.std.specs.Prelude.{◌≡◌, ℕ, ◌+◌, ◌*◌, ◌<◌, ◌≤◌, not, ◌&&◌, length, IfOk, IfSome, IfNone, IsTrue};
 ghost use Rattle.plain_types.specs.Names.{same_name};
@@ -8,16 +9,18 @@ ghost use Rattle.sat_core.specs.Trail.{IsTrail, is_false};
 ghost use Rattle.sat_core.specs.State.{IsSound, clause_at};
 ghost use Rattle.sat_core.specs.Known.{known};
 ghost use Rattle.sat_core.specs.Conflict.{AreWithin};
-ghost use Rattle.sat_core.specs.Search.{OthersFalse, HaveLists, IsFound, IsFoundAt, IsConflict, Propagates};
+ghost use Rattle.sat_core.specs.Search.{OthersFalse, HaveLists, IsFound, IsConflict, Propagates};
 
 use crate::clauses::Clauses;
+use crate::copies::{Copies, Look};
 use crate::forgetting::is_kept;
 use crate::literals::{code, opposite};
 use crate::trail::{Assigned, Trail};
+use crate::values::Values;
 use plain_types::{Mem, NameLit};
 use std::alloc::Global;
 
-/// What the visit of a clause has found.
+/// What the look at a clause has found.
 #[derive(Clone, Copy)]
 pub enum Visit {
     /// Nothing to do.
@@ -30,11 +33,32 @@ pub enum Visit {
     False,
 }
 
-/// The indices of the literals by which a clause is watched.
+/// The indices of two literals of a clause.
 #[derive(Clone, Copy)]
 pub struct Pair {
     pub first: usize,
     pub second: usize,
+}
+
+/// What the visit of an entry of a list has come to.
+#[derive(Clone, Copy)]
+pub enum Visited {
+    /// The entry stays.
+    Kept,
+    /// It stands in the list of another literal now.
+    Moved,
+    /// Of the clause with a number all literals may be false but for one that isn't true, told by its code.
+    Closed(usize, usize),
+}
+
+/// An entry of the list of a literal that watches a clause.
+#[derive(Clone, Copy)]
+pub struct Watch {
+    /// The code of a literal of the clause: where it is true, the clause needs no look. The other watched one, but where that
+    /// has been changed since.
+    pub other: usize,
+    /// Where the clause's copy starts.
+    pub start: usize,
 }
 
 /// Whether a literal isn't false, and isn't another one.
@@ -81,11 +105,11 @@ fn examine(trail: &Trail, literals: &[NameLit], watched: usize) -> Visit
     }
 }
 
-/// For each literal the clauses that watch it, and for each clause the two literals that it watches.
+/// For each literal the clauses that watch it, and copies of the clauses.
 #[derive(Drop)]
 pub struct Watches {
-    pub lists: Vec<Vec<usize>>,
-    pub pairs: Vec<Pair>,
+    pub lists: Vec<Vec<Watch>>,
+    pub copies: Copies,
     /// Clauses without two different literals that haven't been looked at.
     pub units: Vec<usize>,
     /// How many entries of the trail have been looked at.
@@ -103,75 +127,78 @@ impl Watches {
         }
         Ok(Watches {
             lists,
-            pairs: Vec::new(alloc),
+            copies: Copies::new(alloc),
             units: Vec::new(alloc),
             seen: 0,
         })
     }
 
-    /// Watches the next clause by the literals at two indices.
-    fn watch(&mut self, literals: &[NameLit], first: usize, second: usize) -> Mem<()>
+    /// Watches a clause by the literals at two indices.
+    fn watch(&mut self, number: usize, literals: &[NameLit], pair: Pair) -> Mem<()>
         requires lists { HaveLists (length self.old.lists.items) literals.now }
-        requires first { first < length literals.now }
-        requires second { second < length literals.now }
+        requires first { pair.first < length literals.now }
+        requires second { pair.second < length literals.now }
         ensures { IfOk result (λ _. length self.new.lists.items ≡ length self.old.lists.items) }
     {
-        let number = self.pairs.len();
-        self.pairs.push(Pair { first, second })?;
-        self.lists[code(literals[first])].push(number)?;
-        self.lists[code(literals[second])].push(number)?;
+        let start = self.copies.push(number, literals, pair)?;
+        let first = code(literals[pair.first]);
+        let second = code(literals[pair.second]);
+        let other = second;
+        self.lists[first].push(Watch { other, start })?;
+        let other = first;
+        self.lists[second].push(Watch { other, start })?;
         Ok(())
     }
 
-    /// Looks at a clause that watches a literal which has become false.
-    fn visit(
-        &mut self,
-        clauses: &Clauses<'_>,
-        trail: &Trail,
-        number: usize,
-        falsified: NameLit,
-    ) -> Visit
-        requires { IsSound (known clauses.now) trail.now.entries.items trail.now.slots.items }
-        ensures found { IsFoundAt (known clauses.now) trail.now.slots.items number result }
-        ensures lists { self.new.lists.items ≡ self.old.lists.items }
+    /// Changes an entry of a list.
+    fn change(&mut self, list: usize, index: usize, watch: Watch)
+        requires list { list < length self.old.lists.items }
+        ensures lists { length self.new.lists.items ≡ length self.old.lists.items }
         ensures seen { self.new.seen ≡ self.old.seen }
     {
-        if number >= clauses.len() || number >= self.pairs.len() {
-            return Visit::Kept;
+        let list = &mut self.lists[list];
+        if index < list.len() {
+            list[index] = watch;
         }
-        let literals = clauses.literals(number);
-        let Pair { first, second } = self.pairs[number];
-        if first >= literals.len() || second >= literals.len() {
-            return Visit::Kept;
-        }
-        let watched = if literals[first] == falsified {
-            second
-        } else {
-            first
-        };
-        let visit = examine(trail, literals, watched);
-        if let Visit::Moved(index, _) = visit {
-            self.pairs[number] = Pair {
-                first: watched,
-                second: index,
-            };
-        }
-        visit
     }
 
-    /// Moves an entry of one list to the list of a literal.
-    fn move_watch(&mut self, list: usize, index: usize, literal: NameLit) -> Mem<()>
+    /// Moves an entry of one list to the list of the literal with a code.
+    fn move_watch(&mut self, list: usize, index: usize, literal: usize, watch: Watch) -> Mem<()>
         requires list { list < length self.old.lists.items }
-        requires literal { 2 * literal.name + 2 ≤ length self.old.lists.items }
         ensures lists { IfOk result (λ _. length self.new.lists.items ≡ length self.old.lists.items) }
         ensures seen { IfOk result (λ _. self.new.seen ≡ self.old.seen) }
     {
-        let from = &mut self.lists[list];
-        if index < from.len() {
-            let number = from.swap_remove(index);
-            self.lists[code(literal)].push(number)?;
+        if literal < self.lists.len() {
+            let from = &mut self.lists[list];
+            if index < from.len() {
+                from.swap_remove(index);
+                self.lists[literal].push(watch)?;
+            }
         }
         Ok(())
+    }
+
+    /// Looks at an entry of the list of a literal that has become false.
+    fn visit(&mut self, values: &Values, list: usize, index: usize, watch: Watch) -> Mem<Visited>
+        requires list { list < length self.old.lists.items }
+        ensures lists { IfOk result (λ _. length self.new.lists.items ≡ length self.old.lists.items) }
+        ensures seen { IfOk result (λ _. self.new.seen ≡ self.old.seen) }
+    {
+        if values.is_true(watch.other) {
+            return Ok(Visited::Kept);
+        }
+        let start = watch.start;
+        match self.copies.look(values, start, list) {
+            Look::True(other) => {
+                self.change(list, index, Watch { other, start });
+                Ok(Visited::Kept)
+            }
+            Look::Moved(other, literal) => {
+                self.move_watch(list, index, literal, Watch { other, start })?;
+                Ok(Visited::Moved)
+            }
+            Look::Closed(other) => Ok(Visited::Closed(self.copies.number(start), other)),
+        }
     }
 
     /// Looks at the clauses that watch a literal which has become false; a clause all of whose literals are false
@@ -197,18 +224,16 @@ impl Watches {
             if index >= self.lists[list].len() {
                 break;
             }
-            let number = self.lists[list][index];
-            match self.visit(clauses, trail, number, falsified) {
-                Visit::Kept => index += 1,
-                Visit::Moved(_, literal) => {
-                    self.move_watch(list, index, literal)?;
-                }
-                Visit::Implied(literal) => {
-                    let reason = Some(number);
-                    trail.push(Assigned { literal, reason })?;
+            let watch = self.lists[list][index];
+            match self.visit(&trail.values, list, index, watch)? {
+                Visited::Kept => index += 1,
+                Visited::Moved => {}
+                Visited::Closed(number, other) => {
+                    if let Some(conflict) = settle(clauses, trail, number, other)? {
+                        return Ok(Some(conflict));
+                    }
                     index += 1;
                 }
-                Visit::False => return Ok(Some(number)),
             }
         }
         Ok(None)
@@ -223,7 +248,7 @@ impl Watches {
         ensures lists { IfOk result (λ _. length self.new.lists.items ≡ length self.old.lists.items) }
     {
         while let Some(number) = self.units.pop() {
-            if let Some(conflict) = settle(clauses, trail, number)? {
+            if let Some(conflict) = settle(clauses, trail, number, 0)? {
                 return Ok(Some(conflict));
             }
         }
@@ -252,42 +277,39 @@ impl Watches {
         Ok(None)
     }
 
-    /// Watches the next of the clauses that are handed in.
-    pub fn add_input(&mut self, literals: &[NameLit]) -> Mem<()>
+    /// Watches a clause that is handed in.
+    pub fn add_input(&mut self, number: usize, literals: &[NameLit]) -> Mem<()>
         requires { HaveLists (length self.old.lists.items) literals.now }
         ensures { IfOk result (λ _. length self.new.lists.items ≡ length self.old.lists.items) }
     {
         match different_literal(literals) {
-            Some(second) => self.watch(literals, 0, second),
+            Some(second) => self.watch(number, literals, Pair { first: 0, second }),
             None => {
-                self.units.push(self.pairs.len())?;
-                self.watch_nothing()
+                self.units.push(number)?;
+                Ok(())
             }
         }
     }
 
-    /// Watches the next clause, which has been learned, by its implied literal and the last of its false ones.
-    pub fn add_learned(&mut self, trail: &Trail, literals: &[NameLit], implied: NameLit) -> Mem<()>
+    /// Watches a clause that has been learned by its implied literal and the last of its false ones.
+    pub fn add_learned(
+        &mut self,
+        number: usize,
+        trail: &Trail,
+        literals: &[NameLit],
+        implied: NameLit,
+    ) -> Mem<()>
         requires within { AreWithin (length trail.now.slots.items) literals.now }
         requires lists { HaveLists (length self.old.lists.items) literals.now }
         requires some { 0 < length literals.now }
         ensures { IfOk result (λ _. length self.new.lists.items ≡ length self.old.lists.items) }
     {
-        let Pair { first, second } = learned_pair(trail, literals, implied);
-        if first == second {
-            self.watch_nothing()
+        let pair = learned_pair(trail, literals, implied);
+        if pair.first == pair.second {
+            Ok(())
         } else {
-            self.watch(literals, first, second)
+            self.watch(number, literals, pair)
         }
-    }
-
-    /// Lets the next clause watch nothing.
-    fn watch_nothing(&mut self) -> Mem<()>
-        ensures { IfOk result (λ _. length self.new.lists.items ≡ length self.old.lists.items) }
-    {
-        let (first, second) = (0, 0);
-        self.pairs.push(Pair { first, second })?;
-        Ok(())
     }
 
     /// Watches only the clauses that are kept on.
@@ -295,7 +317,8 @@ impl Watches {
         ensures { length self.new.lists.items ≡ length self.old.lists.items }
     {
         for list in 0..self.lists.len() {
-            self.lists[list].retain(|number| is_kept(kept, *number));
+            let copies = &self.copies;
+            self.lists[list].retain(|watch| is_kept(kept, copies.number(watch.start)));
         }
     }
 
@@ -308,8 +331,14 @@ impl Watches {
     }
 }
 
-/// Looks at a clause without two different literals.
-fn settle(clauses: &Clauses<'_>, trail: &mut Trail, number: usize) -> Mem<Option<usize>>
+/// Makes true what a clause implies; gives its number where all its literals are false. A hint is the code of the literal that
+/// it may imply.
+fn settle(
+    clauses: &Clauses<'_>,
+    trail: &mut Trail,
+    number: usize,
+    hint: usize,
+) -> Mem<Option<usize>>
     requires sound { IsSound (known clauses.now) trail.old.entries.items trail.old.slots.items }
     ensures propagates { IfOk result (λ _. Propagates (known clauses.now) trail.old.entries.items trail.old.slots.items
         trail.new.entries.items trail.new.slots.items) }
@@ -322,7 +351,7 @@ fn settle(clauses: &Clauses<'_>, trail: &mut Trail, number: usize) -> Mem<Option
     if literals.is_empty() {
         return Ok(Some(number));
     }
-    match examine(trail, literals, 0) {
+    match examine(trail, literals, index_of(literals, hint)) {
         Visit::Implied(literal) => {
             let reason = Some(number);
             trail.push(Assigned { literal, reason })?;
@@ -331,6 +360,19 @@ fn settle(clauses: &Clauses<'_>, trail: &mut Trail, number: usize) -> Mem<Option
         Visit::False => Ok(Some(number)),
         _ => Ok(None),
     }
+}
+
+/// The index of the literal with a code, or the first one.
+fn index_of(literals: &[NameLit], hint: usize) -> usize
+    requires { 0 < length literals.now }
+    ensures { result < length literals.now }
+{
+    for (index, literal) in literals.iter().enumerate() {
+        if code(*literal) == hint {
+            return index;
+        }
+    }
+    0
 }
 
 /// The index of a literal that differs from the first one.

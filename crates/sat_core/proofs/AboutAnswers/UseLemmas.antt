@@ -1,9 +1,9 @@
 -- Each chain of a log without what its last one doesn't need is cited by a later one.
 use Rattle.std.proofs.Common.{◌≡◌, ℕ, zero, suc, ◌+◌, ◌-◌, ◌<◌, ◌≤◌, Bool, true, false, ◌&&◌, ◌||◌, cond, List, [], ◌∷◌, ◌++◌, length, map, get_or, replicate, set, refl, ap, sym, ◌∙◌, subst, arith, ◌⊎◌, inl, inr, ⊎_elim}
-use Rattle.std.specs.Prelude.{nat_lt, ◌==◌}
+use Rattle.std.specs.Prelude.{nat_lt}
 use Rattle.std.specs.List.{list_any}
 use Rattle.std.proofs.lemmas.Bool.{cases_lt, cases_eq, or_left, or_right, and_from, le-ltb, ltb-true, eq-eqb, eqb-true, both_ways}
-use Rattle.std.proofs.lemmas.List.{length_push, get_or-set_same, get_or-set_other, get_or_append_left, get_or_push, get_or_read, get_or-replicate, get_or_past}
+use Rattle.std.proofs.lemmas.List.{length_push, get_or-set_other, get_or_append_left, get_or_push, get_or_read, get_or-replicate, get_or_past}
 use Rattle.sat_core.specs.declared.answer.Link.{Link}
 use Rattle.sat_core.specs.declared.answer.Chain.{Chain}
 use Rattle.sat_core.specs.declared.clauses.Clauses.{Clauses}

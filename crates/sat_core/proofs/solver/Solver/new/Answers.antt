@@ -8,11 +8,11 @@ use Rattle.sat_core.proofs.solver.Solver.new.Goals as goal
 
 pub add_input-requires : goal.add_input-requires
 add_input-requires c =
-    let within = c.loop-clause-test.true in
-    let at = get_or_read c.args.inputs.now c.loop-clause.clause-index c.clause-item.result within c.clause-item.is _ in
-    subst (λ (x : PropClause). HaveLists (length c.loop-clause.watches.lists.items) x)
+    let within = c.loop-number-test.true in
+    let at = get_or_read c.args.inputs.now c.loop-number.number c.index-inputs-number.result within c.index-inputs-number.is _ in
+    subst (λ (x : PropClause). HaveLists (length c.loop-number.watches.lists.items) x)
     (sym (c.as_slice.ensures ∙ at))
-    (lists_of c.args.names _ c.args.inputs.now c.loop-clause.clause-index c.requires c.loop-clause.invariant)
+    (lists_of c.args.names _ c.args.inputs.now c.loop-number.number c.requires c.loop-number.invariant)
 
 pub returns : goal.returns
 returns c = record {
@@ -21,7 +21,7 @@ returns c = record {
     sound = begun_sound c.args.names _ c.new-2.result _ _ c.requires c.new-2.ensures.inputs c.new-2.ensures.learned c.in_ok-new.ensures;
     marks = left_of_marks _ _ c.in_ok-new-2.ensures.marks;
     marked_names = c.in_ok-new-2.ensures.names ∙ sym c.in_ok-new.ensures.length;
-    lists = omega (arith, c.loop-clause.invariant, c.in_ok-new.ensures.length);
+    lists = omega (arith, c.loop-number.invariant, c.in_ok-new.ensures.length);
   };
   inputs_are = c.new-2.ensures.inputs;
   names_are = c.in_ok-new.ensures.length;

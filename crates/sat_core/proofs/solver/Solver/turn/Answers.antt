@@ -29,9 +29,9 @@ returns c =
     record {
       state = record {
         derived = c.in_ok-learn.ensures.known;
-        sound = turn_sound (known c.args.self.now.clauses) _ _ _ _ _ _ _ _ c.in-Some.turn c.len.result c.requires.state.sound is c.cut.ensures
+        sound = turn_sound (known c.args.self.now.clauses) _ _ _ _ _ _ _ _ c.in-Some.turn c.len-learned.result c.requires.state.sound is c.cut.ensures
             (known_grown c.args.self.now.clauses c.learn.new.self _ c.in_ok-learn.ensures.inputs
-            (c.in_ok-learn.ensures.more ∙ ap (λ (x : PropClause). c.args.self.now.clauses.learned ++ x ∷ []) c.as_slice-clause.ensures.value)) (omega (arith, c.len.ensures))
+            (c.in_ok-learn.ensures.more ∙ ap (λ (x : PropClause). c.args.self.now.clauses.learned ++ x ∷ []) c.as_slice-clause.ensures.value)) (omega (arith, c.len-learned.ensures))
             c.in_ok-push.ensures.trail c.in_ok-push.ensures.entries c.in_ok-push.ensures.slots;
         marks = c.in_ok-turn.ensures.marks;
         marked_names = c.in_ok-turn.ensures.names ∙ c.requires.state.marked_names ∙ sym names;
