@@ -12,7 +12,7 @@ ghost use Rattle.rewriting.specs.Redex.{inner, is_within, root_spot};
 ghost use Rattle.rewriting.specs.Spots.{LimitFits, spot_of};
 
 use fol_base::{LiteralRef, Side, Term, instance_size};
-use kbo_order::{Unbound, greater_under};
+use kbo_order::{Unbound, greater_at_equal_sizes, greater_under};
 use unifier::Matched;
 
 /// A spot of a clause.
@@ -70,8 +70,12 @@ pub(crate) fn is_smaller(new: &Term, terms: &Matched<'_>, old: &Term, size: u64)
     ensures exact { result ≡ tree_greater (tree_of old.now) (instance (by_pairs terms.now) (tree_of new.now)) }
     ensures size { IsTrue result → tree_size (instance (by_pairs terms.now) (tree_of new.now)) < SIZE_LIMIT }
 {
-    if instance_size(new, terms) > size {
+    let new_size = instance_size(new, terms);
+    if new_size > size {
         return false;
+    }
+    if new_size == size {
+        return greater_at_equal_sizes(old, &Unbound, new, terms);
     }
     greater_under(old, &Unbound, new, terms)
 }
