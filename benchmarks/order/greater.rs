@@ -1,6 +1,6 @@
 // Times three bodies of "is a term greater than an instance", in plain Rust, as rewriting asks it: the term as it stands, the other side of a
 // unit under the pairs of its matcher. `whole` is the walk of `crates/kbo_order` that decides and counts at once; `early` is what
-// `greater_under` does, sizes and heads before that walk; `late` has the size, the head, the first differing argument, and the counts of
+// `greater_under` did, sizes and heads before that walk; `late` has the size, the head, the first differing argument, and the counts of
 // variables last. The terms have variables below 32.
 //
 //     rustc -O greater.rs && ./greater
