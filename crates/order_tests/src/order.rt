@@ -2,6 +2,7 @@
 
 use fol_base::{Clause, Literal, Term, Terms};
 use kbo_order::*;
+use kernel_steps::bound_size;
 use sample_terms::{binary, clause, constant, unary};
 use std::alloc::Global;
 use std::process::Abort;
@@ -217,5 +218,36 @@ fn clauses_are_compared(rt: HostRuntime) {
         assert!(rt; left.size() < COMPARED_SIZE_LIMIT);
         assert!(rt; right.size() < COMPARED_SIZE_LIMIT);
         assert!(rt; compare_clauses(&left.literals, &right.literals.as_slice()) == answer);
+    }
+}
+
+/// The terms that are put in for X0: the left side of an equation.
+fn put_in(rt: &impl Abort, alloc: Global, text: &str) -> Terms {
+    let read = clause(alloc, text).expect(rt, "memory");
+    let term = first(rt, &read).left.copy(alloc).expect(rt, "memory");
+    let mut terms = Terms::new(alloc);
+    terms.push(term).expect(rt, "memory");
+    terms
+}
+
+/// A clause and the term for its X0, on either side.
+#[test]
+fn instances_of_clauses_are_compared(rt: HostRuntime) {
+    let alloc = rt.alloc();
+    let rows = [
+        ("p(X0) | p(a)", "a", "p(a) | p(X0)", "a", Cmp::Equal),
+        ("p(X0)", "f(a)", "p(X0)", "b", Cmp::Greater),
+        ("p(X0) | q(X1)", "a", "q(X1) | p(X0)", "b", Cmp::Less),
+        ("p(X0)", "f(X1)", "p(X0)", "X1", Cmp::Greater),
+        ("p(X0)", "f(X1)", "p(X0)", "f(X2)", Cmp::Unordered),
+    ];
+    for (left, for_left, right, for_right, answer) in rows {
+        let left = clause(alloc, left).expect(&rt, "memory").literals;
+        let right = clause(alloc, right).expect(&rt, "memory").literals;
+        let for_left = put_in(&rt, alloc, for_left);
+        let for_right = put_in(&rt, alloc, for_right);
+        assert!(rt; bound_size(&left, &for_left) < COMPARED_SIZE_LIMIT);
+        assert!(rt; bound_size(&right, &for_right) < COMPARED_SIZE_LIMIT);
+        assert!(rt; compare_clauses_under(&left, &for_left, &right, &for_right) == answer);
     }
 }

@@ -1,12 +1,12 @@
 // Rows worked out by hand, and a table of small pairs against a plain unifier.
 
-use fol_base::{Side, Subst, Term, same_terms};
+use fol_base::{SIZE_LIMIT, Side, Subst, Term, same_term, same_terms};
 use plain_types::Mem;
 use sample_terms::{binary, constant, unary};
 use std::alloc::Global;
 use std::process::Abort;
 use term_bank::{Bank, BankLit};
-use unifier::{Matched, match_onto, unify};
+use unifier::{Bindings, Matched, match_onto, unify};
 
 const A: u32 = 1;
 
@@ -17,6 +17,9 @@ const G: u32 = 4;
 
 /// The one symbol of one argument.
 const H: u32 = 5;
+
+/// Variables with numbers below it can be named in common by a unifier.
+const HIGHEST_COUNT: u32 = 1 << 31;
 
 /// The terms of a text, by a stack: x, y, z are variables and a, b constants, f takes one term from the stack (its symbol is H here)
 /// and g two.
@@ -108,6 +111,34 @@ fn pairs_are_unified(rt: HostRuntime) {
     }
 }
 
+/// The instance of a side's term. None where a variable's number is too high for it.
+fn applied(found: &Bindings, side: Side, term: &Term) -> Mem<Option<Term>> {
+    if !found.fits(HIGHEST_COUNT, HIGHEST_COUNT) || term.variable_bound() > SIZE_LIMIT {
+        return Ok(None);
+    }
+    Ok(Some(found.apply(side, term)?))
+}
+
+/// `g(X0,b)` and `g(a,X0)` apart: `f(X0)` becomes `f(a)` on the left and `f(b)` on the right, and X1 is X2 on the left.
+#[test]
+fn a_unifier_is_applied(rt: HostRuntime) {
+    let alloc = rt.alloc();
+    let left = binary(alloc, G, Term::Var(0), constant(alloc, B)).expect(&rt, "memory");
+    let right = binary(alloc, G, constant(alloc, A), Term::Var(0)).expect(&rt, "memory");
+    let found = unify(alloc, &left, &right, true).expect(&rt, "memory");
+    let found = found.expect(&rt, "a unifier");
+    for (side, term, wanted) in [
+        (Side::Left, "xf", "af"),
+        (Side::Right, "xf", "bf"),
+        (Side::Left, "y", "z"),
+    ] {
+        let term = popped(&rt, &mut terms_of(&rt, alloc, term));
+        let wanted = popped(&rt, &mut terms_of(&rt, alloc, wanted));
+        let made = applied(&found, side, &term).expect(&rt, "memory");
+        assert!(rt; same_term(&made.expect(&rt, "an instance"), &wanted));
+    }
+}
+
 /// The size of `f(X0,b) = b` on each side, after the unifier of `f(X0,b)` and `f(a,X0)` apart.
 #[test]
 fn the_size_of_an_instance(rt: HostRuntime) {
@@ -186,6 +217,22 @@ fn a_pattern_is_matched(rt: HostRuntime) {
     assert!(rt; !known);
     let further = can_go_on(alloc, (&pattern, &Term::Var(1)), &same, &b).expect(&rt, "memory");
     assert!(rt; further);
+}
+
+/// `f(X0,X1)` with the pairs of `f(X0,X0)` onto `f(a,a)`: X1 has none and stays.
+#[test]
+fn a_matcher_is_applied(rt: HostRuntime) {
+    let alloc = rt.alloc();
+    let mut terms = terms_of(&rt, alloc, "xxgaagxygayg");
+    let wanted = popped(&rt, &mut terms);
+    let term = popped(&rt, &mut terms);
+    let target = popped(&rt, &mut terms);
+    let pattern = popped(&rt, &mut terms);
+    let empty = Matched::empty(alloc);
+    let found = match_onto(alloc, &pattern, &target, &empty).expect(&rt, "memory");
+    let pairs = found.expect(&rt, "a matcher");
+    let made = pairs.apply(&term).expect(&rt, "memory");
+    assert!(rt; same_term(&made, &wanted));
 }
 
 /// Pairs of terms, by a stack. Then a letter says what is known of the two: p where they unify, q where they do apart
