@@ -4,6 +4,10 @@
 //
 //     rustc -O robinson.rs && ./robinson pairs 1000 1000
 //     ./robinson classical 20 1
+//     ./robinson twenty 100 1000
+//
+// Of the pairs it tells, too, those that clash (the first five of each ten), those in which a variable contains itself (the sixth) and those
+// that unify apart.
 
 use std::time::Instant;
 
@@ -191,6 +195,14 @@ fn classical(depth: u32) -> (Term, Term) {
     (list(left), list(right))
 }
 
+/// `f(f(X0,g(X1)),f(a,f(X2,b)))` and `f(f(g(X0),X1),f(X2,f(c,b)))`.
+fn twenty_symbols() -> (Term, Term) {
+    let over_g = |variable| App(4, vec![Var(variable)]);
+    let left = binary(binary(Var(0), over_g(1)), binary(constant(1), binary(Var(2), constant(2))));
+    let right = binary(binary(over_g(0), Var(1)), binary(Var(2), binary(constant(5), constant(2))));
+    (left, right)
+}
+
 fn main() {
     let arguments: Vec<String> = std::env::args().collect();
     let number: u32 = arguments[2].parse().unwrap();
@@ -198,11 +210,24 @@ fn main() {
     let made = match arguments[1].as_str() {
         "pairs" => pairs(number),
         "classical" => vec![classical(number)],
+        "twenty" => (0..number).map(|_| twenty_symbols()).collect(),
         _ => vec![(family(number, false), family(number, true))],
     };
     measure("all", &made, rounds);
-    let kept: Vec<(Term, Term)> = made.into_iter().filter(|(left, right)| unifies(left, right, true)).collect();
-    measure("those that unify apart", &kept, rounds);
+    if arguments[1] != "pairs" {
+        return;
+    }
+    let (mut clashing, mut circles, mut unifying) = (Vec::new(), Vec::new(), Vec::new());
+    for (index, pair) in made.into_iter().enumerate() {
+        match index % 10 {
+            0..=4 => clashing.push(pair),
+            5 => circles.push(pair),
+            _ => unifying.push(pair),
+        }
+    }
+    measure("those that clash", &clashing, rounds);
+    measure("those with a circle", &circles, rounds);
+    measure("those that unify apart", &unifying, rounds);
 }
 
 /// The best round of each list counts.
