@@ -5,5 +5,5 @@ use Rattle.pool_core.specs.Inputs.{AreInputs}
 use Rattle.clause_pool_tests.proofs.InputLemmas.{no_inputs}
 use Rattle.clause_pool_tests.proofs.inputs.empty_pool.Goals as goal
 
-pub new-requires-3-clause-inputs : goal.new-requires-3-clause-inputs
-new-requires-3-clause-inputs g c = subst (λ (cs : List Clause). AreInputs (map clause_of cs)) (sym c.new-2-inputs.ensures) no_inputs
+pub new-requires-2-clause-inputs : goal.new-requires-2-clause-inputs
+new-requires-2-clause-inputs g c = subst (λ (cs : List Clause). AreInputs (map clause_of cs)) (sym c.new-inputs.ensures) no_inputs
