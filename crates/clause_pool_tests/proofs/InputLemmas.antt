@@ -7,10 +7,9 @@ use Rattle.fol_base.specs.Clause.{TreeClause, clause_size}
 use Rattle.fol_base.specs.Canonical.{IsCanonical}
 use Rattle.fol_base.specs.Examples.{a as a_term, b as b_term, r as r_atom, clause}
 use Rattle.fol_base.specs.Rules.{disequation}
-use Rattle.fol_base.specs.WellFormed.{WellFormed}
 use Rattle.fol_base.specs.declared.limits.TheConstants.{MOST_SYMBOLS}
 use Rattle.pool_core.specs.Inputs.{AreInputs}
-use Rattle.clause_pool_tests.specs.Returns.{trivial, doubled, subsuming, s, t}
+use Rattle.clause_pool_tests.specs.Returns.{trivial, doubled}
 use Rattle.clause_pool_tests.specs.Inputs.{literal_with, clause_with, unary_tree, three_inputs}
 
 -- what is said of three clauses is said of all in their list
@@ -46,23 +45,7 @@ no_inputs = record {
   well_formed = record { usage = record { is_predicate = λ n. false; arity = λ n. 0 }; used = refl };
 }
 
--- the symbols of the tests of returns: those above 5 are predicates
-well-formed-three : WellFormed (subsuming).inputs
-well-formed-three = record { usage = record { is_predicate = λ n. nat_lt 5 n; arity = λ n. 0 }; used = refl }
-
-pub are_subsuming : AreInputs (subsuming).inputs
-are_subsuming =
-    let p : TreeClause = clause (r_atom ∷ s ∷ t ∷ []) in
-    let q : TreeClause = clause (r_atom ∷ s ∷ []) in
-    let r : TreeClause = clause (r_atom ∷ []) in
-    record {
-      canonical = all_three IsCanonical p q r refl refl refl;
-      no_names = all_three (λ c. c.names ≡ []) p q r refl refl refl;
-      small = all_three (λ c. clause_size c ≤ MOST_SYMBOLS) p q r (lit≤ tt) (lit≤ tt) (lit≤ tt);
-      few = lit≤ tt;
-      well_formed = well-formed-three;
-    }
-
+-- of the tests of returns the symbols above 5 are predicates
 pub are_doubled : AreInputs (doubled 10).inputs
 are_doubled =
     let p : TreeClause = clause (r_atom ∷ disequation a_term a_term ∷ []) in

@@ -3,5 +3,3 @@
 mod InputLemmas
 -- ResolvingLemmas: the batches of the tests by which a literal t != t goes are right.
 mod ResolvingLemmas
--- SubsumingLemmas: the batches of the tests by which a clause goes that another subsumes are right.
-mod SubsumingLemmas

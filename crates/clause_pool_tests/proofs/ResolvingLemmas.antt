@@ -27,24 +27,26 @@ use Rattle.pool_core.specs.Inputs.{IsRightBatch}
 use Rattle.pool_core.specs.Lines.{line_of, written}
 use Rattle.pool_core.specs.Record.{GivenJob, clauses_of}
 use Rattle.pool_core.specs.Reduction.{Lookup, HaveSymbolsOf, clauses_used, handed_back, same_numbers}
-use Rattle.pool_core.specs.Replay.{replay}
+use Rattle.pool_core.specs.Replay.{Origin, replay}
 use Rattle.pool_core.specs.declared.batch.Fate.TheVariants.{Kept}
+use Rattle.pool_core.specs.declared.batch.Batch.{Batch}
+use Rattle.pool_core.specs.declared.event.Event.{Event}
 use Rattle.pool_core.specs.declared.event.Event.TheVariants.{Claim}
 use Rattle.pool_core.specs.declared.options.Options.{Options}
 use Rattle.clause_pool_tests.specs.Returns.{trivial, doubled, doubled_out, first_doubled, second_doubled, second_history, resolved}
 
 -- ---- the clause r, and the empty one, where nothing reduces them
 
-pub only : (l m : TreeLiteral) (k : ℕ) → slice_get (l ∷ []) k ≡ Some m → l ≡ m
+only : (l m : TreeLiteral) (k : ℕ) → slice_get (l ∷ []) k ≡ Some m → l ≡ m
 only l m zero there = same_Some l m there
 only l m (suc k) there = absurd (none-some m there)
 
-pub two_places : (l m k : TreeLiteral) (i j : ℕ) → slice_get (l ∷ []) i ≡ Some m → slice_get (l ∷ []) j ≡ Some k → (i == j) ≡ false → ⊥
+two_places : (l m k : TreeLiteral) (i j : ℕ) → slice_get (l ∷ []) i ≡ Some m → slice_get (l ∷ []) j ≡ Some k → (i == j) ≡ false → ⊥
 two_places l m k zero zero at_i at_j differ = true≢false differ
 two_places l m k zero (suc j) at_i at_j differ = none-some k at_j
 two_places l m k (suc i) j at_i at_j differ = none-some m at_i
 
-pub none-when : (test : Bool) (o : Option TreeClause) → o ≡ None → (if test then o else None) ≡ None
+none-when : (test : Bool) (o : Option TreeClause) → o ≡ None → (if test then o else None) ≡ None
 none-when true o is = is
 none-when false o is = refl
 
@@ -79,7 +81,7 @@ module _ (p : ℕ → Bool) (Holds : TreeClause → Type 0) (u : TreeLiteral)
           (sym (and_parts (is_there (literal_instance it.matcher u) (slice_get (r ∷ []) m)) (stand_at it.matcher [] ks (r ∷ [])) rest).0
           ∙ elsewhere m it.matcher)
 
-  pub r-irreducible : IsIrreducible p Holds (clause (r ∷ []))
+  r-irreducible : IsIrreducible p Holds (clause (r ∷ []))
   r-irreducible = record {
     no_step = no_step;
     no_tautology = refl;
@@ -244,3 +246,13 @@ second-right = record {
       (r-irreducible usage.is_predicate (IsMember (is_told_beside second_job 1) second_clauses) (disequation a a) (not-in-r 10)
       (λ d member. one-beside-second member.0 d member.1));
 }
+
+-- ---- what is right in place of what
+
+-- a batch that is equal to a right one, after an equal history, is right
+pub moved-right :
+    (o o' : Origin) (h h' : List Event) (batch batch' : Batch)
+    → o' ≡ o → h' ≡ h → batch' ≡ batch → IsRightBatch o h batch → IsRightBatch o' h' batch'
+moved-right o o' h h' batch batch' same_origin same_history same_batch right =
+    subst (λ it. IsRightBatch it h' batch') (sym same_origin)
+    (subst (λ it. IsRightBatch o it batch') (sym same_history) (subst (IsRightBatch o h) (sym same_batch) right))

@@ -1,21 +1,18 @@
--- The pools and the batches of the tests of returns. The symbols are those of the base's examples, and s and t.
+-- The pools and the batches of the tests of returns. The symbols are those of the base's examples.
 use Rattle.std.specs.Prelude.{ℕ, false, List, [], ◌∷◌, ◌++◌}
-use Rattle.fol_base.specs.Tree.{application, no_trees, true_tree}
 use Rattle.fol_base.specs.Clause.{TreeLiteral, TreeClause}
-use Rattle.fol_base.specs.Examples.{a, b, r, equation, clause}
+use Rattle.fol_base.specs.Examples.{a, b, r, clause}
 use Rattle.fol_base.specs.Rules.{disequation}
 use Rattle.kernel_steps.specs.declared.step.Step.TheVariants.{Refl}
 use Rattle.literal_selection.specs.declared.choice.Selection.TheVariants.{Negative}
 use Rattle.pool_core.specs.Lines.{written, line_of}
 use Rattle.pool_core.specs.Replay.{Origin}
 use Rattle.pool_core.specs.declared.batch.Batch.{Batch}
-use Rattle.pool_core.specs.declared.batch.Fate.TheVariants.{Kept, Dropped}
-use Rattle.pool_core.specs.declared.batch.Redundancy.TheVariants.{Subsumed}
-use Rattle.pool_core.specs.declared.batch.Removal.{Removal}
+use Rattle.pool_core.specs.declared.batch.Fate.TheVariants.{Kept}
 use Rattle.pool_core.specs.declared.batch.Work.{Work}
-use Rattle.pool_core.specs.declared.batch.Work.TheVariants.{Gone, Met}
+use Rattle.pool_core.specs.declared.batch.Work.TheVariants.{Gone}
 use Rattle.pool_core.specs.declared.event.Event.{Event}
-use Rattle.pool_core.specs.declared.event.Event.TheVariants.{Claim, Return, Abandon}
+use Rattle.pool_core.specs.declared.event.Event.TheVariants.{Claim, Return}
 
 -- a pool that doesn't split, and counts up to a limit
 abbrev pub unsplit_up_to : ℕ → List TreeClause → Origin
@@ -56,40 +53,3 @@ second_doubled = resolved 2 1 1 (r ∷ [])
 -- the first has become r
 abbrev pub second_history : List Event
 second_history = doubled_out ++ Return first_doubled ∷ []
-
--- ---- clauses that subsume each other: r, then r or s, then r or s or t
-
-abbrev pub nullary : ℕ → TreeLiteral
-nullary symbol = equation (application symbol no_trees) true_tree
-
-abbrev pub s : TreeLiteral
-s = nullary 9
-
-abbrev pub t : TreeLiteral
-t = nullary 10
-
-abbrev pub subsuming : Origin
-subsuming = unsplit_up_to 10 (clause (r ∷ s ∷ t ∷ []) ∷ clause (r ∷ s ∷ []) ∷ clause (r ∷ []) ∷ [])
-
-abbrev pub subsumed : ℕ → ℕ → Removal
-subsumed victim by = record { victim = victim; justifiers = by ∷ []; fate = Dropped (Subsumed by) }
-
-abbrev pub subsuming_begun : List Event
-subsuming_begun = Claim 1 ∷ Claim 2 ∷ []
-
-abbrev pub subsuming_given_up : List Event
-subsuming_given_up = subsuming_begun ++ Abandon 1 ∷ []
-
--- The job on r is given up and given again after that on r or s, so it is told both.
-abbrev pub subsuming_out : List Event
-subsuming_out = subsuming_given_up ++ Claim 3 ∷ Claim 4 ∷ []
-
--- r removes r or s
-abbrev pub removing : Batch
-removing = batch 3 (Met [] (subsumed 1 2 ∷ []))
-
-abbrev pub after_removal : List Event
-after_removal = subsuming_out ++ Return removing ∷ []
-
-abbrev pub goes_by : ℕ → ℕ → ℕ → Batch
-goes_by job victim by = batch job (Gone (subsumed victim by))

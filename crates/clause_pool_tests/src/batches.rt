@@ -1,7 +1,6 @@
 // The clauses and the batches of the tests of returns.
 
-ghost use Rattle.std.specs.Prelude.{◌≡◌, [], ◌∷◌, map, IfOk};
-ghost use Rattle.fol_base.specs.Literal.{clause_of};
+ghost use Rattle.std.specs.Prelude.{◌≡◌, [], ◌∷◌};
 ghost use Rattle.fol_base.specs.Examples.{r};
 ghost use Rattle.fol_base.specs.Rules.{disequation};
 ghost use Rattle.fol_base.specs.Tree.{application, no_trees};
@@ -9,30 +8,33 @@ ghost use Rattle.kernel_steps.specs.declared.step.Step.TheVariants.{Refl};
 ghost use Rattle.pool_core.specs.Lines.{written_literal};
 ghost use Rattle.pool_core.specs.declared.batch.Fate.TheVariants.{Kept};
 ghost use Rattle.pool_core.specs.declared.batch.Work.TheVariants.{Gone};
-ghost use Rattle.clause_pool_tests.specs.Returns.{nullary, subsumed, goes_by, removing};
 
 use fol_base::{Clause, Clauses, Literal, Literals, Term, Terms};
 use kernel_steps::{Derivation, Line, Step};
-use plain_types::{Mem, Names, Numbers};
-use pool_core::{Batch, Fate, MetEntries, Redundancy, Removal, Removals, Work};
+use plain_types::{Names, Numbers};
+use pool_core::{Batch, Fate, Removal, Work};
 use std::alloc::Global;
+use std::process::Abort;
 
 /// The number of `$true`.
 const TRUTH: u32 = 0;
 
-/// The atom of a predicate without arguments.
-pub fn nullary_atom(alloc: Global, predicate: u32) -> Literal
-    ensures { result ≡ written_literal (nullary predicate) }
+/// The number of the predicate r.
+const R: u32 = 8;
+
+/// The atom `r`.
+pub(crate) fn atom(alloc: Global) -> Literal
+    ensures { result ≡ written_literal r }
 {
     Literal {
         positive: true,
-        left: Term::App(predicate, Terms::new(alloc)),
+        left: Term::App(R, Terms::new(alloc)),
         right: Term::App(TRUTH, Terms::new(alloc)),
     }
 }
 
 /// A constant is different from itself.
-pub fn unequal_to_itself(alloc: Global, constant: u32) -> Literal
+pub(crate) fn unequal_to_itself(alloc: Global, constant: u32) -> Literal
     ensures { result ≡ written_literal (disequation (application constant no_trees) (application constant no_trees)) }
 {
     Literal {
@@ -43,7 +45,7 @@ pub fn unequal_to_itself(alloc: Global, constant: u32) -> Literal
 }
 
 /// The clause of no literal.
-pub fn empty(alloc: Global) -> Clause
+pub(crate) fn empty(alloc: Global) -> Clause
     ensures { result ≡ record { literals = []; names = [] } }
 {
     Clause {
@@ -53,123 +55,77 @@ pub fn empty(alloc: Global) -> Clause
 }
 
 /// The clause of one literal.
-pub fn of_one(alloc: Global, literal: Literal) -> Mem<Clause>
-    ensures { IfOk result (λ clause. clause ≡ record { literals = literal ∷ []; names = [] }) }
+pub(crate) fn of_one(rt: &impl Abort, alloc: Global, literal: Literal) -> Clause
+    ensures { result ≡ record { literals = literal ∷ []; names = [] } }
 {
     let mut clause = empty(alloc);
-    clause.literals.push(literal)?;
-    Ok(clause)
+    clause.literals.push(literal).expect(rt, "memory");
+    clause
 }
 
 /// The clause of two literals.
-pub fn of_two(alloc: Global, first: Literal, second: Literal) -> Mem<Clause>
-    ensures { IfOk result (λ clause. clause ≡ record { literals = first ∷ second ∷ []; names = [] }) }
+pub(crate) fn of_two(rt: &impl Abort, alloc: Global, first: Literal, second: Literal) -> Clause
+    ensures { result ≡ record { literals = first ∷ second ∷ []; names = [] } }
 {
-    let mut clause = of_one(alloc, first)?;
-    clause.literals.push(second)?;
-    Ok(clause)
-}
-
-/// The clause of three literals.
-pub fn of_three(alloc: Global, first: Literal, second: Literal, third: Literal) -> Mem<Clause>
-    ensures { IfOk result (λ clause. clause ≡ record { literals = first ∷ second ∷ third ∷ []; names = [] }) }
-{
-    let mut clause = of_two(alloc, first, second)?;
-    clause.literals.push(third)?;
-    Ok(clause)
+    let mut clause = of_one(rt, alloc, first);
+    clause.literals.push(second).expect(rt, "memory");
+    clause
 }
 
 /// The list of one clause.
-pub fn only(alloc: Global, clause: Clause) -> Mem<Clauses>
-    ensures { IfOk result (λ clauses. clauses ≡ clause ∷ []) }
+pub(crate) fn only(rt: &impl Abort, alloc: Global, clause: Clause) -> Clauses
+    ensures { result ≡ clause ∷ [] }
 {
     let mut clauses = Clauses::new(alloc);
-    clauses.push(clause)?;
-    Ok(clauses)
+    clauses.push(clause).expect(rt, "memory");
+    clauses
 }
 
 /// The list of two clauses.
-pub fn both(alloc: Global, first: Clause, second: Clause) -> Mem<Clauses>
-    ensures { IfOk result (λ clauses. clauses ≡ first ∷ second ∷ []) }
+pub(crate) fn both(rt: &impl Abort, alloc: Global, first: Clause, second: Clause) -> Clauses
+    ensures { result ≡ first ∷ second ∷ [] }
 {
-    let mut clauses = only(alloc, first)?;
-    clauses.push(second)?;
-    Ok(clauses)
+    let mut clauses = only(rt, alloc, first);
+    clauses.push(second).expect(rt, "memory");
+    clauses
 }
 
 /// The given clause of a job goes, since its literal t != t does. The two clauses are what is left of it.
-pub fn resolved_batch(
+pub(crate) fn resolved_batch(
+    rt: &impl Abort,
     alloc: Global,
     job: u64,
     victim: u32,
     literal: u64,
     left: Clause,
     brought: Clause,
-) -> Mem<Batch>
-    ensures { IfOk result (λ batch. batch ≡ record {
+) -> Batch
+    ensures { result ≡ record {
       job = job;
       work = Gone (record {
         victim = victim;
         justifiers = [];
         fate = Kept (record { step = Refl victim literal []; clause = left } ∷ []) (brought ∷ []);
       });
-    }) }
+    } }
 {
-    let mut lines = Derivation::new(alloc);
     let step = Step::Refl {
         parent: u64::from(victim),
         literal,
         bind: Terms::new(alloc),
     };
-    lines.push(Line { step, clause: left })?;
+    let mut lines = Derivation::new(alloc);
+    lines.push(Line { step, clause: left }).expect(rt, "memory");
     let fate = Fate::Kept {
         lines,
-        results: only(alloc, brought)?,
+        results: only(rt, alloc, brought),
     };
-    Ok(Batch {
+    Batch {
         job,
         work: Work::Gone(Removal {
             victim,
             justifiers: Numbers::new(alloc),
             fate,
         }),
-    })
-}
-
-/// The removal of a clause that another subsumes.
-fn subsumed_removal(alloc: Global, victim: u32, by: u32) -> Mem<Removal>
-    ensures { IfOk result (λ removal. removal ≡ subsumed victim by) }
-{
-    let mut justifiers = Numbers::new(alloc);
-    justifiers.push(u64::from(by))?;
-    Ok(Removal {
-        victim,
-        justifiers,
-        fate: Fate::Dropped(Redundancy::Subsumed(by)),
-    })
-}
-
-/// The given clause of a job goes, since another subsumes it.
-pub fn subsumed_batch(alloc: Global, job: u64, victim: u32, by: u32) -> Mem<Batch>
-    ensures { IfOk result (λ batch. batch ≡ goes_by job victim by) }
-{
-    Ok(Batch {
-        job,
-        work: Work::Gone(subsumed_removal(alloc, victim, by)?),
-    })
-}
-
-/// The given clause of job 3 stays, and clause 2 removes clause 1.
-pub fn removing_batch(alloc: Global) -> Mem<Batch>
-    ensures { IfOk result (λ batch. batch ≡ removing) }
-{
-    let mut removals = Removals::new(alloc);
-    removals.push(subsumed_removal(alloc, 1, 2)?)?;
-    Ok(Batch {
-        job: 3,
-        work: Work::Met {
-            entries: MetEntries::new(alloc),
-            removals,
-        },
-    })
+    }
 }

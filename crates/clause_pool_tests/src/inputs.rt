@@ -1,83 +1,92 @@
-// The inputs of the tests, and a pool of them.
+// The inputs of the tests of claims, and a pool of them.
 
-ghost use Rattle.std.specs.Prelude.{◌≡◌, true, false, [], ◌∷◌, IfOk, map};
+ghost use Rattle.std.specs.Prelude.{◌≡◌, true, false, [], ◌∷◌, map};
 ghost use Rattle.fol_base.specs.Literal.{clause_of};
 ghost use Rattle.fol_base.specs.Term.{tree_of};
 ghost use Rattle.clause_pool_tests.specs.Inputs.{literal_with, clause_with, three_inputs};
 
 use fol_base::{Clause, Clauses, Literal, Literals, Term};
 use literal_selection::Selection;
-use plain_types::{Mem, Names};
+use plain_types::Names;
 use pool_core::{Options, Pool};
 use sample_terms::{atom, constant, unary};
 use std::alloc::Global;
+use std::process::Abort;
 use std::sync::Wait;
 use term_bank::Bank;
 
-pub const OPTIONS: Options = Options {
+pub(crate) const OPTIONS: Options = Options {
     select: Selection::Negative,
     split: false,
     inferences: 10,
 };
 
 /// The clause of one atom.
-fn unit(alloc: Global, predicate_term: Term) -> Mem<Clause>
-    ensures { IfOk result (λ clause. clause_of clause ≡ clause_with (literal_with true (tree_of predicate_term) ∷ [])) }
+fn unit(rt: &impl Abort, alloc: Global, predicate_term: Term) -> Clause
+    ensures { clause_of result ≡ clause_with (literal_with true (tree_of predicate_term) ∷ []) }
 {
     let mut literals = Literals::new(alloc);
-    literals.push(atom(alloc, predicate_term))?;
-    Ok(Clause {
+    literals
+        .push(atom(alloc, predicate_term))
+        .expect(rt, "memory");
+    Clause {
         literals,
         names: Names::new(alloc),
-    })
+    }
 }
 
 /// The clause of the negation of an atom, and of another atom.
-fn implication(alloc: Global, condition: Term, conclusion: Term) -> Mem<Clause>
-    ensures { IfOk result (λ clause. clause_of clause
-        ≡ clause_with (literal_with false (tree_of condition) ∷ literal_with true (tree_of conclusion) ∷ [])) }
+fn implication(rt: &impl Abort, alloc: Global, condition: Term, conclusion: Term) -> Clause
+    ensures { clause_of result ≡ clause_with (literal_with false (tree_of condition) ∷ literal_with true (tree_of conclusion) ∷ []) }
 {
     let mut literals = Literals::new(alloc);
-    literals.push(Literal {
+    let negative = Literal {
         positive: false,
         left: condition,
         right: Term::truth(alloc),
-    })?;
-    literals.push(atom(alloc, conclusion))?;
-    Ok(Clause {
+    };
+    literals.push(negative).expect(rt, "memory");
+    literals.push(atom(alloc, conclusion)).expect(rt, "memory");
+    Clause {
         literals,
         names: Names::new(alloc),
-    })
+    }
 }
 
 /// The list of three clauses.
-fn listed(alloc: Global, first: Clause, second: Clause, third: Clause) -> Mem<Clauses>
-    ensures { IfOk result (λ clauses. map clause_of clauses ≡ clause_of first ∷ clause_of second ∷ clause_of third ∷ []) }
+fn listed(rt: &impl Abort, alloc: Global, first: Clause, second: Clause, third: Clause) -> Clauses
+    ensures { map clause_of result ≡ clause_of first ∷ clause_of second ∷ clause_of third ∷ [] }
 {
     let mut clauses = Clauses::new(alloc);
-    clauses.push(first)?;
-    clauses.push(second)?;
-    clauses.push(third)?;
-    Ok(clauses)
+    clauses.push(first).expect(rt, "memory");
+    clauses.push(second).expect(rt, "memory");
+    clauses.push(third).expect(rt, "memory");
+    clauses
 }
 
 /// `p(a)`, `~p(X0) | q(X0)` and `r`.
-fn three_inputs(alloc: Global) -> Mem<Clauses>
-    ensures { IfOk result (λ clauses. map clause_of clauses ≡ three_inputs) }
+fn three_inputs(rt: &impl Abort, alloc: Global) -> Clauses
+    ensures { map clause_of result ≡ three_inputs }
 {
-    let p_of_a = unary(alloc, 16, constant(alloc, 1))?;
-    let p_of_x = unary(alloc, 16, Term::Var(0))?;
-    let q_of_x = unary(alloc, 17, Term::Var(0))?;
-    let first = unit(alloc, p_of_a)?;
-    let second = implication(alloc, p_of_x, q_of_x)?;
-    let third = unit(alloc, constant(alloc, 18))?;
-    let clauses = listed(alloc, first, second, third)?;
-    Ok(clauses)
+    let p_of_a = unary(alloc, 16, constant(alloc, 1)).expect(rt, "memory");
+    let p_of_x = unary(alloc, 16, Term::Var(0)).expect(rt, "memory");
+    let q_of_x = unary(alloc, 17, Term::Var(0)).expect(rt, "memory");
+    let first = unit(rt, alloc, p_of_a);
+    let second = implication(rt, alloc, p_of_x, q_of_x);
+    let third = unit(rt, alloc, constant(alloc, 18));
+    listed(rt, alloc, first, second, third)
 }
 
 /// A pool of these.
-pub fn three_clause_pool<R: Wait>(rt: &R, alloc: Global) -> Mem<Pool> {
-    let (bank, table) = Bank::new(alloc)?;
-    let inputs = three_inputs(alloc)?;
-    Pool::new(rt, alloc, &bank, table, &inputs, OPTIONS)
+pub(crate) fn three_clause_pool<R: Wait + Abort>(rt: &R, alloc: Global) -> Pool {
+    let (bank, table) = Bank::new(alloc).expect(rt, "memory");
+    let inputs = three_inputs(rt, alloc);
+    Pool::new(rt, alloc, &bank, table, &inputs, OPTIONS).expect(rt, "memory")
+}
+
+/// A pool without inputs.
+pub(crate) fn empty_pool<R: Wait + Abort>(rt: &R, alloc: Global) -> Pool {
+    let (bank, table) = Bank::new(alloc).expect(rt, "memory");
+    let inputs = Clauses::new(alloc);
+    Pool::new(rt, alloc, &bank, table, &inputs, OPTIONS).expect(rt, "memory")
 }

@@ -4,4 +4,4 @@ use Rattle.clause_pool_tests.proofs.InputLemmas.{are_inputs}
 use Rattle.clause_pool_tests.proofs.inputs.three_clause_pool.Goals as goal
 
 pub new-requires-2-clause-inputs : goal.new-requires-2-clause-inputs
-new-requires-2-clause-inputs g c = subst AreInputs (sym c.in_ok-inputs.ensures) are_inputs
+new-requires-2-clause-inputs g c = subst AreInputs (sym c.three_inputs-inputs.ensures) are_inputs

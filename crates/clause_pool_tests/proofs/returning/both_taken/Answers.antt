@@ -1,6 +1,5 @@
-use Rattle.clause_pool_tests.proofs.ResolvingLemmas.{second-right}
-use Rattle.clause_pool_tests.proofs.SubsumingLemmas.{moved-right}
+use Rattle.clause_pool_tests.proofs.ResolvingLemmas.{moved-right, second-right}
 use Rattle.clause_pool_tests.proofs.returning.both_taken.Goals as goal
 
 pub take-requires-clause-right : goal.take-requires-clause-right
-take-requires-clause-right g c = moved-right _ _ _ _ _ _ c.in_ok-pool.ensures.origin c.in_ok-pool.ensures.history c.in_ok-second.ensures second-right
+take-requires-clause-right g c = moved-right _ _ _ _ _ _ c.first_taken-pool.ensures.origin c.first_taken-pool.ensures.history c.second_batch-second.ensures second-right

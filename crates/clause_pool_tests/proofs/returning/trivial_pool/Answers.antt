@@ -4,4 +4,4 @@ use Rattle.clause_pool_tests.proofs.InputLemmas.{are_trivial}
 use Rattle.clause_pool_tests.proofs.returning.trivial_pool.Goals as goal
 
 pub new-requires-clause-inputs : goal.new-requires-clause-inputs
-new-requires-clause-inputs g c = subst AreInputs (sym c.in_ok-inputs.ensures) are_trivial
+new-requires-clause-inputs g c = subst AreInputs (sym c.trivial_inputs-inputs.ensures) are_trivial

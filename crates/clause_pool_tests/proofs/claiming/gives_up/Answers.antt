@@ -4,16 +4,17 @@ use Rattle.pool_core.specs.Answers.{IsAnswerToClaim}
 use Rattle.pool_core.specs.Record.{given_job}
 use Rattle.pool_core.specs.Replay.{Origin, replay}
 use Rattle.pool_core.specs.declared.ticket.Claimed.{Claimed}
-use Rattle.clause_pool_tests.proofs.claiming.given_up.Goals as goal
+use Rattle.clause_pool_tests.proofs.claiming.gives_up.Goals as goal
 
 -- the job of a ticket is out
 pub abandon-requires : goal.abandon-requires
-abandon-requires c =
+abandon-requires g c =
+    let answer = rw c.expect.ensures at c.claim.ensures.answer in
     let told =
-    subst (λ (a : Claimed). IsAnswerToClaim c.args.pool.now.origin c.args.pool.now.history 0 a c.claim.new.self.history) c.in-Given.is c.in_ok-answer.ensures.answer in
+    subst (λ (a : Claimed). IsAnswerToClaim c.args.pool.now.origin c.args.pool.now.history 0 a c.claim.new.self.history) c.in-Given.is answer in
     inl (record {
       given = (told.5).job;
       out =
-          subst (λ (o : Origin). given_job (replay o c.claim.new.self.history) c.in-Given.ticket.job ≡ Some (told.5).job) (sym c.in_ok-answer.ensures.origin) (told.5).out;
+          subst (λ (o : Origin). given_job (replay o c.claim.new.self.history) c.in-Given.ticket.job ≡ Some (told.5).job) (sym c.claim.ensures.origin) (told.5).out;
       says = tt;
     })
