@@ -182,6 +182,20 @@ fn matched_terms(alloc: Global, pattern: &Term, target: &Term, count: u32) -> Me
     }
 }
 
+/// The instance of a term by the pairs that turn a pattern into a target. None where there are none.
+fn matched_instance(
+    alloc: Global,
+    pattern: &Term,
+    target: &Term,
+    term: &Term,
+) -> Mem<Option<Term>> {
+    let empty = Matched::empty(alloc);
+    match match_onto(alloc, pattern, target, &empty)? {
+        Some(pairs) => Ok(Some(pairs.apply(term)?)),
+        None => Ok(None),
+    }
+}
+
 /// Whether a further pattern can be turned into a further target with the same variables.
 fn can_go_on<'a>(
     alloc: Global,
@@ -228,10 +242,8 @@ fn a_matcher_is_applied(rt: HostRuntime) {
     let term = popped(&rt, &mut terms);
     let target = popped(&rt, &mut terms);
     let pattern = popped(&rt, &mut terms);
-    let empty = Matched::empty(alloc);
-    let found = match_onto(alloc, &pattern, &target, &empty).expect(&rt, "memory");
-    let pairs = found.expect(&rt, "a matcher");
-    let made = pairs.apply(&term).expect(&rt, "memory");
+    let found = matched_instance(alloc, &pattern, &target, &term).expect(&rt, "memory");
+    let made = found.expect(&rt, "a matcher");
     assert!(rt; same_term(&made, &wanted));
 }
 
