@@ -34,12 +34,6 @@ ListsLiterals number entries ls = (i : ℕ) (l : TreeLiteral) → slice_get ls i
 abbrev pub ListsMembers : List (Tree × ℕ) → List Member → Type 0
 ListsMembers entries ms = (m : Member) → Contains ms m → ListsLiterals m.number entries (clause_at m.clause).literals
 
--- ---- what a change keeps
-
--- the entries of other clauses
-abbrev pub KeepsOthers : ℕ → List (Tree × ℕ) → List (Tree × ℕ) → Type 0
-KeepsOthers number old new = (t : Tree) (n : ℕ) → (n ≡ number → ⊥) → IsIn (t, n) old → IsIn (t, n) new
-
 -- ---- a query
 
 -- the numbers of clauses in which, by its heads, an instance of a term may occur

@@ -8,7 +8,8 @@ ghost use Rattle.fol_base.specs.Term.{tree_of};
 ghost use Rattle.fol_base.specs.Tree.{tree_size};
 ghost use Rattle.fol_base.specs.declared.limits.TheConstants.{SIZE_LIMIT};
 ghost use Rattle.partners.specs.Index.{KeepsAll};
-ghost use Rattle.given_work.specs.Occurring.{KeepsOthers, ListsLiterals, ListsSide, ListsTerm, ListsTerms, numbers_with_instances};
+ghost use Rattle.given_work.specs.Occurring.{ListsLiterals, ListsSide, ListsTerm, ListsTerms, numbers_with_instances};
+ghost use Rattle.unit_index.specs.Indexed.{KeepsOthers};
 
 use bank_clause::BankLiterals;
 use disc_tree::DiscTree;

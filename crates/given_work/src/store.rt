@@ -5,7 +5,8 @@ ghost use Rattle.bank_clause.specs.Clause.{IsMemberOf};
 ghost use Rattle.bank_clause.specs.declared.member.Member.{Member};
 ghost use Rattle.partners.specs.Partners.{AreOfBank};
 ghost use Rattle.subsume.specs.Editing.{HasNoNumber};
-ghost use Rattle.given_work.specs.Occurring.{KeepsOthers, ListsMembers};
+ghost use Rattle.given_work.specs.Occurring.{ListsMembers};
+ghost use Rattle.unit_index.specs.Indexed.{KeepsOthers};
 ghost use Rattle.given_work.specs.Store.{ArePlaced, members_in};
 
 use crate::occurring::{put_literals, take_literals};

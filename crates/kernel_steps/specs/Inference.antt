@@ -26,9 +26,9 @@ abbrev pub has_predicate_head : (ℕ → Bool) → Tree → Bool
 has_predicate_head is_predicate (variable v) = false
 has_predicate_head is_predicate (application f ts) = not (f == true_symbol) && is_predicate f
 
--- terms of one kind: both are predicate terms, or both are neither predicate terms nor `$true`
-abbrev pub are_of_one_kind : (ℕ → Bool) → Tree → Tree → Bool
-are_of_one_kind is_predicate s t =
+-- heads of one kind: both terms have a predicate as their head, or both are variables or have a function symbol as it
+abbrev pub have_heads_of_one_kind : (ℕ → Bool) → Tree → Tree → Bool
+have_heads_of_one_kind is_predicate s t =
     (has_predicate_head is_predicate s && has_predicate_head is_predicate t)
     || ((not (has_predicate_head is_predicate s) && not (is_truth s)) && (not (has_predicate_head is_predicate t) && not (is_truth t)))
 
@@ -53,7 +53,7 @@ pub record NamedSuperposition
   pub old : Tree
   pub old_there : subterm place (side_of into_side into) ≡ Some old
   pub no_variable : IsFalse (is_variable old)
-  pub one_kind : IsTrue (are_of_one_kind is_predicate (side_of from_side from) old)
+  pub one_kind : IsTrue (have_heads_of_one_kind is_predicate (side_of from_side from) old)
   pub first_unifier : Substitution
   pub second_unifier : Substitution
   pub most_general : IsMostGeneralUnifierApart (side_of from_side from) old first_unifier second_unifier
@@ -90,7 +90,7 @@ pub record NamedFactoring
   pub i_there : slice_get c.literals i ≡ Some literal_i
   pub literal_j : TreeLiteral
   pub j_there : slice_get c.literals j ≡ Some literal_j
-  pub one_kind : IsTrue (are_of_one_kind is_predicate (side_of side_i literal_i) (side_of side_j literal_j))
+  pub one_kind : IsTrue (have_heads_of_one_kind is_predicate (side_of side_i literal_i) (side_of side_j literal_j))
   pub unifier : Substitution
   pub most_general : IsMostGeneralUnifier (side_of side_i literal_i) (side_of side_j literal_j) unifier
   pub i_ordered : IsTrue (other_side_not_above unifier side_i literal_i)
@@ -129,7 +129,7 @@ pub record RewritesBy (is_predicate : ℕ → Bool) (unit : TreeClause) (c : Tre
   pub place : List ℕ
   pub old : Tree
   pub old_there : subterm place (side_of into_side literal) ≡ Some old
-  pub one_kind : IsTrue (are_of_one_kind is_predicate (side_of from_side equation) old)
+  pub one_kind : IsTrue (have_heads_of_one_kind is_predicate (side_of from_side equation) old)
   pub matcher : Substitution
   pub function_terms : PutsFunctionTerms is_predicate matcher
   pub matches : IsMatcher (side_of from_side equation) old matcher

@@ -13,7 +13,7 @@ use Rattle.kernel_steps.specs.declared.key.Key.{Key}
 use Rattle.kernel_steps.specs.declared.key.Key.TheVariants as key
 use Rattle.kernel_steps.specs.declared.step.TheConstants.{CLAUSE_NUMBERS}
 use Rattle.kernel_steps.specs.declared.step.Step.{Step}
-use Rattle.kernel_steps.specs.declared.step.Step.TheVariants.{Para, Refl, Factor, Merge, Split, Chain}
+use Rattle.kernel_steps.specs.declared.step.Step.TheVariants.{Clausify, Para, Refl, Factor, Merge, Split, Chain}
 use Rattle.kernel_steps.specs.declared.step.Line.{Line}
 
 -- ---- parents
@@ -45,6 +45,11 @@ is_on_literals (Refl parent literal bind) = true
 is_on_literals (Factor parent becomes becomes_side other other_side bind) = true
 is_on_literals (Merge parent stays goes bind) = true
 is_on_literals _ = false
+
+-- A clause of the form, or a conclusion from literals: the steps of a derivation in which nothing is split.
+abbrev pub is_plain_step : Step → Bool
+is_plain_step (Clausify i) = true
+is_plain_step step = is_on_literals step
 
 -- the name of the inference that a step makes, where its parents are clauses by their numbers
 abbrev pub key_of : Step → Option Key

@@ -6,7 +6,7 @@ mod limits;
 mod memory;
 mod sequence;
 
-pub use limits::{DEFAULT_INFERENCES, MOST_INFERENCES, MOST_WORKERS};
+pub use limits::{DEFAULT_INFERENCES, MOST_INFERENCES};
 pub use memory::{Mem, NoMemory};
 pub use sequence::{NameLit, Names, Numbers, Parts, Sequence, Text, Texts};
 

@@ -5,6 +5,3 @@ pub const DEFAULT_INFERENCES: u32 = 100_000;
 
 /// The most inferences that an option may ask for.
 pub const MOST_INFERENCES: u32 = 1_000_000;
-
-/// The most workers of a run.
-pub const MOST_WORKERS: u32 = 16;

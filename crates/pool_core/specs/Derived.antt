@@ -7,22 +7,16 @@ use Rattle.fol_base.specs.Kind.{is_function_term}
 use Rattle.fol_base.specs.Literal.{clause_of}
 use Rattle.fol_base.specs.WellFormed.{SymbolUse, has_arities, are_literals_of}
 use Rattle.kernel_steps.specs.Derivation.{IsDerivation, IsRefutation}
-use Rattle.kernel_steps.specs.Lines.{is_on_literals, has_small_terms, IsNumbered}
+use Rattle.kernel_steps.specs.Lines.{is_plain_step, has_small_terms, IsNumbered}
 use Rattle.kernel_steps.specs.Soundness.{binds_each}
 use Rattle.kernel_steps.specs.Symbols.{clause_symbols_pass, bound_symbols_pass}
 use Rattle.kernel_steps.specs.declared.step.Step.{Step}
-use Rattle.kernel_steps.specs.declared.step.Step.TheVariants.{Clausify}
 use Rattle.kernel_steps.specs.declared.step.Line.{Line}
 use Rattle.pool_core.specs.Replay.{Origin, replay}
 use Rattle.pool_core.specs.Lawful.{IsLawful}
 use Rattle.pool_core.specs.Inputs.{AreInputs, IsUseOf}
 use Rattle.pool_core.specs.declared.event.Event.{Event}
 use Rattle.pool_core.specs.declared.outcome.Outcome.TheVariants.{Refuted}
-
--- an input, or a conclusion from literals
-abbrev pub is_plain_step : Step → Bool
-is_plain_step (Clausify i) = true
-is_plain_step step = is_on_literals step
 
 -- a function term, each symbol with its number of arguments
 abbrev pub is_function_term_of : SymbolUse → Tree → Bool

@@ -15,7 +15,8 @@ use Rattle.kernel_steps.specs.declared.step.Line.{Line}
 use Rattle.kernel_steps.proofs.AboutCalls.LineLemmas.{last-there}
 use Rattle.clausal_form.specs.FormLaws.{use_of}
 use Rattle.tstp_writer.specs.WrittenLaws.{IsReadableRefutation}
-use Rattle.pool_core.specs.Derived.{is_plain_step, ArePoolLines, LinesAreDerived, RefutedIsRefutation}
+use Rattle.kernel_steps.specs.Lines.{is_plain_step}
+use Rattle.pool_core.specs.Derived.{ArePoolLines, LinesAreDerived, RefutedIsRefutation}
 use Rattle.pool_core.specs.Inputs.{AreInputs, IsUseOf, IsHistoryOf}
 use Rattle.pool_core.specs.Outcomes.{is_at_rest, heavy_or_saturated, outcome_by, outcome_of, is_of_living}
 use Rattle.pool_core.specs.Record.{PoolRecord}

@@ -15,7 +15,7 @@ use Rattle.fol_base.proofs.WorkedExamples.TestLemmas.{list_all-item}
 use Rattle.tptp_tree.specs.declared.problem.Annotated.{Annotated}
 use Rattle.signature.specs.declared.symbol.Symbol.{Symbol}
 use Rattle.signature.specs.Form.{clausal_form}
-use Rattle.kernel_steps.specs.Lines.{is_small_term, has_small_sides}
+use Rattle.kernel_steps.specs.Lines.{is_small_term, has_small_sides, is_plain_step}
 use Rattle.kernel_steps.specs.Soundness.{bindings_of, binds_each}
 use Rattle.kernel_steps.specs.Symbols.{symbols_pass, clause_symbols_pass}
 use Rattle.kernel_steps.specs.declared.step.Step.{Step}
@@ -24,8 +24,7 @@ use Rattle.kernel_steps.specs.declared.step.Line.{Line}
 use Rattle.clausal_form.specs.FormFunctions.{is_predicate_in}
 use Rattle.clausal_form.specs.FormLaws.{use_of}
 use Rattle.tstp_writer.specs.ReadableLines.{is_symbol_in, is_term_over, IsReadable, IsReadableLine}
-use Rattle.pool_core.specs.Derived.{is_plain_step, is_function_term_of, IsPlainLine, ArePoolLines}
-use Rattle.retracing.specs.Needed.{is_plain_step as is_retraced_step}
+use Rattle.pool_core.specs.Derived.{is_function_term_of, IsPlainLine, ArePoolLines}
 use Rattle.retracing.specs.Renumbered.{renumbered}
 use Rattle.retracing.specs.Retraced.{steps_of, AreRetraced}
 use Rattle.retracing.proofs.CarryLemmas.{property-carries_over}
@@ -33,10 +32,6 @@ use Rattle.pool_writer.proofs.FormSymbols.{form-symbols-pass, truth-passes}
 use Rattle.pool_writer.proofs.FormUse.{literals-over}
 
 -- ---- steps
-
-plain-retraced : (step : Step) → is_plain_step step ≡ is_retraced_step step
-plain-retraced (Clausify i) = refl
-plain-retraced _ = refl
 
 renumbered-plain : (to : ℕ → ℕ) (step : Step) → is_plain_step (renumbered to step) ≡ is_plain_step step
 renumbered-plain to (Clausify i) = refl
@@ -147,11 +142,11 @@ module _ (fs : List Annotated) (lines : List Line)
     plain-anew numbers made retraced n line at =
         (property-carries_over (IsPlain symbols) numbers lines made (renumbered-is-plain symbols) retraced plain-at n line at).plain
 
-    plain-steps-from : (ls : List Line) → ((n : ℕ) (line : Line) → slice_get ls n ≡ Some line → is_plain_step line.step ≡ true) → list_all is_retraced_step (steps_of ls) ≡ true
+    plain-steps-from : (ls : List Line) → ((n : ℕ) (line : Line) → slice_get ls n ≡ Some line → is_plain_step line.step ≡ true) → list_all is_plain_step (steps_of ls) ≡ true
     plain-steps-from [] each = refl
     plain-steps-from (l ∷ ls) each =
-        and_from (is_retraced_step l.step) (list_all is_retraced_step (steps_of ls)) (sym (plain-retraced l.step) ∙ each 0 l refl)
+        and_from (is_plain_step l.step) (list_all is_plain_step (steps_of ls)) (each 0 l refl)
         (plain-steps-from ls (λ n line at. each (suc n) line at))
 
-    pub plain-steps : list_all is_retraced_step (steps_of lines) ≡ true
+    pub plain-steps : list_all is_plain_step (steps_of lines) ≡ true
     plain-steps = plain-steps-from lines (λ n line at. (plain-at n line at).plain)

@@ -1,17 +1,18 @@
 // The members of a pool, as a text.
 
 ghost use Rattle.std.specs.Prelude.{◌≡◌, ◌++◌, map, IfOk};
-ghost use Rattle.fol_base.specs.Literal.{clause_of};
 ghost use Rattle.term_bank.specs.Bank.{identity};
 ghost use Rattle.bank_clause.specs.Clause.{AreMembersOf, IsMemberOf, clause_at};
 ghost use Rattle.pool_core.specs.Replay.{replay};
 ghost use Rattle.pool_core.specs.Saturated.{members_of};
-ghost use Rattle.pool_writer.specs.Saturation.{literals_text, member_text, saturation_text};
+ghost use Rattle.tptp_tree.specs.Printing.{formula_text};
+ghost use Rattle.tstp_writer.specs.ClauseTrees.{literal_formula, one_of};
+ghost use Rattle.pool_writer.specs.Saturation.{member_text, saturation_text};
 
 use bank_clause::Member;
 use clausal_form::Clausal;
-use fol_base::Clause;
-use plain_types::{Mem, Names, Text};
+use fol_base::LendsLiterals;
+use plain_types::{Mem, Text};
 use pool_core::Pool;
 use signature::Symbol;
 use std::alloc::Global;
@@ -30,7 +31,6 @@ pub fn write_saturation(alloc: Global, form: &Clausal, bank: &Bank, pool: &Pool)
     let members = pool.members(alloc)?;
     let mut page = Page::new(alloc);
     push_members(
-        alloc,
         &mut page,
         form.signature.as_slice(),
         bank,
@@ -41,7 +41,6 @@ pub fn write_saturation(alloc: Global, form: &Clausal, bank: &Bank, pool: &Pool)
 
 /// Adds the lines of members.
 fn push_members(
-    alloc: Global,
     page: &mut Page,
     symbols: &[Symbol],
     bank: &Bank,
@@ -52,14 +51,13 @@ fn push_members(
         ++ saturation_text symbols.now (map (λ m. clause_at m.clause) members.now)) }
 {
     for (place, member) in members.iter().enumerate() {
-        push_member(alloc, page, symbols, bank, place as u64, member)?;
+        push_member(page, symbols, bank, place as u64, member)?;
     }
     Ok(())
 }
 
 /// Adds the line of a member, by its place among them.
 fn push_member(
-    alloc: Global,
     page: &mut Page,
     symbols: &[Symbol],
     bank: &Bank,
@@ -72,15 +70,13 @@ fn push_member(
     page.bytes(b"cnf(s")?;
     page.number(place)?;
     page.bytes(b",plain,")?;
-    push_literals(alloc, page, symbols, member.clause.to_clause(bank)?)?;
+    push_literals(page, symbols, &member.clause.lend(bank))?;
     page.bytes(b").\n")
 }
 
-/// Adds the literals of a clause.
-fn push_literals(alloc: Global, page: &mut Page, symbols: &[Symbol], clause: Clause) -> Mem<()>
-    ensures { IfOk result (λ _. page.new ≡ page.old ++ literals_text symbols.now (clause_of clause)) }
+/// Adds literals as a clause without names.
+fn push_literals<L: LendsLiterals>(page: &mut Page, symbols: &[Symbol], literals: &L) -> Mem<()>
+    ensures { IfOk result (λ _. page.new ≡ page.old ++ formula_text (one_of (map (literal_formula symbols.now) (L.meaning literals.now)))) }
 {
-    let Clause { literals, .. } = clause;
-    let names = Names::new(alloc);
-    push_clause(page, symbols, NAME_PREFIX, &Clause { literals, names })
+    push_clause(page, symbols, NAME_PREFIX, literals, &[])
 }

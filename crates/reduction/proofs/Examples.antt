@@ -13,7 +13,7 @@ use Rattle.fol_base.specs.Sides.{side_of, other_side_of}
 use Rattle.fol_base.specs.Order.{tree_greater}
 use Rattle.fol_base.specs.Canonical.{canonical_clause}
 use Rattle.fol_base.specs.declared.clause.Side.{Side}
-use Rattle.kernel_steps.specs.Inference.{are_of_one_kind}
+use Rattle.kernel_steps.specs.Inference.{have_heads_of_one_kind}
 use Rattle.fol_base.specs.Clause.{TreeLiteral}
 use Rattle.fol_base.specs.Examples.{a, b, c, f, equation, clause, is_predicate, all_a}
 use Rattle.fol_base.specs.Rules.{disequation, superposed}
@@ -46,7 +46,7 @@ are_steps (suc (suc n)) line there = absurd (none-some line there)
 step_by :
     (number : ℕ) (l m made : TreeLiteral) (side : Side) (place : List ℕ) (old : Tree)
     → units number ≡ Some (clause (l ∷ []))
-    → subterm place m.left ≡ Some old → IsTrue (are_of_one_kind is_predicate (side_of side l) old)
+    → subterm place m.left ≡ Some old → IsTrue (have_heads_of_one_kind is_predicate (side_of side l) old)
     → IsMatcher (side_of side l) old all_a → IsTrue (tree_greater old (instance all_a (other_side_of side l)))
     → tree_variables (other_side_of side l) ≡ [] → IsFalse m.positive
     → superposed (literals_instance all_a (l ∷ [])) 0 side (m ∷ []) 0 Left place ≡ Some (made ∷ [])

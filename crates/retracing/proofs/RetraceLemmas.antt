@@ -10,12 +10,12 @@ use Rattle.fol_base.specs.Clause.{TreeClause}
 use Rattle.fol_base.specs.Literal.{clause_of}
 use Rattle.kernel_steps.specs.Parents.{Parent}
 use Rattle.kernel_steps.specs.Derivation.{is_clause_step, introduces_name, line_parent, line_parents, ComesBy, IsDerivation, IsRefutation}
-use Rattle.kernel_steps.specs.Lines.{step_parents}
+use Rattle.kernel_steps.specs.Lines.{step_parents, is_plain_step}
 use Rattle.kernel_steps.specs.Split.{has_number}
 use Rattle.kernel_steps.specs.declared.step.Step.{Step}
 use Rattle.kernel_steps.specs.declared.step.Line.{Line}
 use Rattle.kernel_steps.proofs.AboutCalls.LineLemmas.{ParentLine, parent_line, last-there}
-use Rattle.retracing.specs.Needed.{is_plain_step, HaveEarlierParents, AreNeeded}
+use Rattle.retracing.specs.Needed.{HaveEarlierParents, AreNeeded}
 use Rattle.retracing.specs.Renumbered.{place_among, renumbered, IsRetraced}
 use Rattle.retracing.specs.Retraced.{steps_of, AreRefutingSteps, IsRetracing}
 use Rattle.retracing.proofs.RisingLemmas.{later-greater, less-earlier, at-has, there-at-place}

@@ -11,7 +11,7 @@ use Rattle.fol_base.proofs.WorkedExamples.TestLemmas.{option_map-some, list_all-
 use Rattle.kernel_steps.specs.Parents.{Parent, Parents}
 use Rattle.kernel_steps.specs.Conclusion.{concludes, by_one, by_two}
 use Rattle.kernel_steps.specs.Derivation.{is_clause_step, introduces_name, line_parents, ComesBy, IsDerivation}
-use Rattle.kernel_steps.specs.Lines.{step_parents}
+use Rattle.kernel_steps.specs.Lines.{step_parents, is_plain_step}
 use Rattle.kernel_steps.specs.Soundness.{bindings_of}
 use Rattle.kernel_steps.specs.Split.{has_number}
 use Rattle.kernel_steps.specs.declared.step.Step.{Step}
@@ -19,7 +19,7 @@ use Rattle.kernel_steps.specs.declared.step.Step.TheVariants.{Input, Negate, Cla
 use Rattle.kernel_steps.specs.declared.step.Line.{Line}
 use Rattle.kernel_steps.proofs.AboutCalls.LineLemmas.{parent_line}
 use Rattle.kernel_steps.proofs.AboutCalls.VerdictParts.{by_one-parts, by_two-parts}
-use Rattle.retracing.specs.Needed.{is_plain_step, HaveEarlierParents}
+use Rattle.retracing.specs.Needed.{HaveEarlierParents}
 use Rattle.retracing.specs.Renumbered.{renumbered}
 use Rattle.retracing.specs.Retraced.{steps_of}
 

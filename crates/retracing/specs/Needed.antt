@@ -1,14 +1,8 @@
 -- The steps that the last one of a list needs.
 use Rattle.std.specs.Prelude.{◌≡◌, ℕ, ◌-◌, ◌<◌, Bool, true, List, [], ◌∷◌, Some, length, slice_get, ◌↔◌, IsTrue}
-use Rattle.kernel_steps.specs.Lines.{is_on_literals, step_parents}
+use Rattle.kernel_steps.specs.Lines.{step_parents}
 use Rattle.kernel_steps.specs.Split.{has_number, rises_from}
 use Rattle.kernel_steps.specs.declared.step.Step.{Step}
-use Rattle.kernel_steps.specs.declared.step.Step.TheVariants.{Clausify}
-
--- A clause of the form, or a conclusion from literals: the steps of a derivation in which nothing is split.
-abbrev pub is_plain_step : Step → Bool
-is_plain_step (Clausify i) = true
-is_plain_step step = is_on_literals step
 
 -- each step concludes from earlier ones
 abbrev pub HaveEarlierParents : List Step → Type 0

@@ -5,7 +5,8 @@ use Rattle.fol_base.specs.Clause.{TreeClause}
 use Rattle.kernel_steps.specs.Derivation.{IsDerivation, IsRefutation}
 use Rattle.kernel_steps.specs.declared.step.Step.{Step}
 use Rattle.kernel_steps.specs.declared.step.Line.{Line}
-use Rattle.retracing.specs.Needed.{is_plain_step, HaveEarlierParents, AreNeeded}
+use Rattle.kernel_steps.specs.Lines.{is_plain_step}
+use Rattle.retracing.specs.Needed.{HaveEarlierParents, AreNeeded}
 use Rattle.retracing.specs.Renumbered.{IsRetraced}
 
 abbrev pub steps_of : List Line → List Step

@@ -2,9 +2,9 @@
 
 ghost use Rattle.std.specs.Prelude.{◌≡◌, ◌+◌, ◌<◌, ◌||◌, ◌&&◌, ◌==◌, ℕ, length, IfOk, IsTrue};
 ghost use Rattle.std.specs.List.{list_all};
-ghost use Rattle.kernel_steps.specs.Lines.{step_parents};
+ghost use Rattle.kernel_steps.specs.Lines.{step_parents, is_plain_step};
 ghost use Rattle.kernel_steps.specs.Split.{has_number};
-ghost use Rattle.retracing.specs.Needed.{is_plain_step, HaveEarlierParents, AreNeeded};
+ghost use Rattle.retracing.specs.Needed.{HaveEarlierParents, AreNeeded};
 ghost use Rattle.retracing.specs.Marks.{is_marked, marked_numbers};
 
 use kernel_steps::Step;

@@ -1,7 +1,8 @@
 // Steps with other numbers for their parents.
 
 ghost use Rattle.std.specs.Prelude.{◌≡◌, IfOk, IsTrue};
-ghost use Rattle.retracing.specs.Needed.{is_plain_step, is_rising};
+ghost use Rattle.kernel_steps.specs.Lines.{is_plain_step};
+ghost use Rattle.retracing.specs.Needed.{is_rising};
 ghost use Rattle.retracing.specs.Renumbered.{place_among, renumbered};
 
 use kernel_steps::Step;

@@ -37,7 +37,7 @@ truth-greatest_of_none u h = none u ((tree_greater_decided true_tree u).0 h)
 -- ---- terms of one kind
 
 pub record OfOneKind (p : ℕ → Bool) (s : Tree) (old : Tree) : Type 0 where
-  pub for_step : kernel.are_of_one_kind p s old ≡ true
+  pub for_step : kernel.have_heads_of_one_kind p s old ≡ true
   pub for_matcher : unifier.are_of_one_kind p s old ≡ true
   pub no_truth : is_truth s ≡ false
 

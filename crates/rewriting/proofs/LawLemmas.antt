@@ -27,7 +27,7 @@ use Rattle.fol_base.proofs.AboutClauses.InferenceLemmas.{side_of-instance}
 use Rattle.fol_base.proofs.AboutTerms.KindLemmas.{function_term-no_truth, no_predicate_term}
 use Rattle.fol_base.proofs.AboutOrders.OrderLemmas.{tree_equality_decided, tree_greater_decided}
 use Rattle.fol_base.proofs.AboutTerms.WellFormedLemmas.{IsAtom, is_literal-cases, is_literal_of-parts}
-use Rattle.kernel_steps.specs.Inference.{RewritesBy, AllowsRoot, has_predicate_head, are_of_one_kind}
+use Rattle.kernel_steps.specs.Inference.{RewritesBy, AllowsRoot, has_predicate_head, have_heads_of_one_kind}
 use Rattle.unifier.specs.Matching.{by_pairs}
 use Rattle.unifier.proofs.AboutLayouts.KindLemmas.{matchers_put_function_terms}
 use Rattle.rewriting.specs.Redex.{spot_at, root_spot, is_within}
@@ -89,7 +89,7 @@ atom-no_function p l z (i ∷ place) old literal there atom function = true≢fa
 -- where a step is of one kind, its side is no variable at an atom's root
 no-atom :
     (p : ℕ → Bool) (l : TreeLiteral) (z : Side) (place : List ℕ) (old s : Tree)
-    → is_literal p l ≡ true → subterm place (side_of z l) ≡ Some old → IsTrue (are_of_one_kind p s old)
+    → is_literal p l ≡ true → subterm place (side_of z l) ≡ Some old → IsTrue (have_heads_of_one_kind p s old)
     → (is_variable s && (spot_at (root_spot z l) place).is_atom) ≡ false
 no-atom p l z place old (application f ts) literal there kind = refl
 no-atom p l z place old (variable v) literal there kind =

@@ -1,6 +1,7 @@
 // The symbols of a problem, as a walk over it meets them.
 
-ghost use Rattle.std.specs.Prelude.{◌≡◌, ◌≤◌, ◌<◌, ◌^◌, IfOk, map, fold};
+ghost use Rattle.std.specs.Prelude.{◌≡◌, ◌≤◌, ◌<◌, IfOk, map, fold};
+ghost use Rattle.tptp_tree.specs.declared.limits.TheConstants.{MOST_PROBLEM_SIZE};
 ghost use Rattle.tptp_tree.specs.Term.{terms_of, term_size, terms_size};
 ghost use Rattle.tptp_tree.specs.Formula.{formulas_of};
 ghost use Rattle.tptp_tree.specs.Shape.{term_of, formula_of};
@@ -47,7 +48,7 @@ fn meet_head(
     name: &[u8],
     arguments: &[TreeTerm],
 ) -> Mem<()>
-    requires { terms_size (terms_of (map term_of arguments.now)) < 2 ^ 31 }
+    requires { terms_size (terms_of (map term_of arguments.now)) < MOST_PROBLEM_SIZE }
     ensures { IfOk result (λ _. known.new.keys ≡ with_symbol known.old.keys
         (record { kind = kind; name = name.now; arity = terms_count (terms_of (map term_of arguments.now)) })) }
 {
@@ -58,7 +59,7 @@ fn meet_head(
 /// Adds the symbols of a term, its head before its arguments.
 #[cycle(meet_term)]
 fn meet_term(alloc: Global, known: &mut IndexSet<Symbol>, term: &TreeTerm) -> Mem<()>
-    requires { term_size (term_of term.now) ≤ 2 ^ 31 }
+    requires { term_size (term_of term.now) ≤ MOST_PROBLEM_SIZE }
     ensures { IfOk result (λ _. known.new.keys ≡ fold with_symbol known.old.keys (term_symbols (term_of term.now))) }
 {
     match term {
@@ -79,7 +80,7 @@ fn meet_term(alloc: Global, known: &mut IndexSet<Symbol>, term: &TreeTerm) -> Me
 /// Adds the symbols of terms.
 #[cycle(meet_term)]
 fn meet_terms(alloc: Global, known: &mut IndexSet<Symbol>, terms: &[TreeTerm]) -> Mem<()>
-    requires { terms_size (terms_of (map term_of terms.now)) ≤ 2 ^ 31 }
+    requires { terms_size (terms_of (map term_of terms.now)) ≤ MOST_PROBLEM_SIZE }
     ensures { IfOk result (λ _.
         known.new.keys ≡ fold with_symbol known.old.keys (terms_symbols (terms_of (map term_of terms.now)))) }
 {
@@ -92,7 +93,7 @@ fn meet_terms(alloc: Global, known: &mut IndexSet<Symbol>, terms: &[TreeTerm]) -
 /// Adds the symbols of a formula.
 #[cycle(meet_formula)]
 fn meet_formula(alloc: Global, known: &mut IndexSet<Symbol>, formula: &Formula) -> Mem<()>
-    requires { occurrences (formula_of formula.now) ≤ 2 ^ 31 }
+    requires { occurrences (formula_of formula.now) ≤ MOST_PROBLEM_SIZE }
     ensures { IfOk result (λ _. known.new.keys ≡ fold with_symbol known.old.keys (formula_symbols (formula_of formula.now))) }
 {
     match formula {
@@ -136,7 +137,7 @@ fn meet_formula(alloc: Global, known: &mut IndexSet<Symbol>, formula: &Formula) 
 /// Adds the symbols of formulas.
 #[cycle(meet_formula)]
 fn meet_formulas(alloc: Global, known: &mut IndexSet<Symbol>, formulas: &[Formula]) -> Mem<()>
-    requires { all_occurrences (formulas_of (map formula_of formulas.now)) ≤ 2 ^ 31 }
+    requires { all_occurrences (formulas_of (map formula_of formulas.now)) ≤ MOST_PROBLEM_SIZE }
     ensures { IfOk result (λ _.
         known.new.keys ≡ fold with_symbol known.old.keys (formulas_symbols (formulas_of (map formula_of formulas.now)))) }
 {

@@ -5,7 +5,7 @@ use Rattle.tptp_tree.specs.Formula.{FormulaTree, truth, negation}
 use Rattle.tptp_tree.specs.Levels.{IsWrittenWithin, SpellsFormulaWithin}
 use Rattle.tptp_tree.specs.Printing.{formula_text}
 
--- A formula or a clause of at most 500 levels says it, and its printed text spells it within 1,000.
+-- A formula or a clause of at most `MOST_NESTING` levels says it, and its printed text spells it within `MOST_PRINTED_NESTING`.
 pub record HasFewLevels (f : FormulaTree) : Type 0 where
   pub written : IsWrittenWithin MOST_NESTING f
   pub printed : SpellsFormulaWithin MOST_PRINTED_NESTING (formula_text f) f

@@ -1,8 +1,12 @@
 -- The printing and the sizes of small formulas.
-use Rattle.std.specs.Prelude.{◌≡◌, true, false, [], ◌∷◌, codes}
+use Rattle.std.specs.Prelude.{◌≡◌, ◌+◌, true, false, List, [], ◌∷◌, length, codes}
 use Rattle.tptp_tree.specs.Term.{TermTree, variable, application, no_terms, term_then}
 use Rattle.tptp_tree.specs.Formula.{implies, for_all, FormulaTree, truth, predicate, equation, negation, conjunction, disjunction, connected, quantified, no_formulas, formula_then}
-use Rattle.tptp_tree.specs.ProblemSize.{occurrences}
+use Rattle.tptp_tree.specs.declared.limits.TheConstants.{MOST_PROBLEM_SIZE}
+use Rattle.tptp_tree.specs.declared.formula.Formula.TheVariants.{True}
+use Rattle.tptp_tree.specs.declared.problem.Annotated.{Annotated}
+use Rattle.tptp_tree.specs.declared.role.Role.TheVariants.{Axiom}
+use Rattle.tptp_tree.specs.ProblemSize.{occurrences, problem_size, HasProblemSize}
 use Rattle.tptp_tree.specs.Printing.{formula_text}
 
 abbrev p : FormulaTree
@@ -43,3 +47,18 @@ OccurrencesInImplication =
 -- `$true` is no symbol that occurs
 abbrev pub OccurrencesInTruth : Type 0
 OccurrencesInTruth = occurrences (disjunction (formula_then truth (formula_then (equation false a a) no_formulas))) ≡ 2
+
+-- the axiom `$true`
+abbrev true_axiom : Annotated
+true_axiom = record { name = []; role = Axiom; clause = false; formula = True; file = []; place = 0 }
+
+-- two formulas in which nothing occurs
+abbrev pub SizeOfTwoFormulas : Type 0
+SizeOfTwoFormulas = problem_size (true_axiom ∷ true_axiom ∷ []) ≡ 2
+
+abbrev pub TwoFormulasFit : Type 0
+TwoFormulasFit = HasProblemSize (true_axiom ∷ true_axiom ∷ [])
+
+-- one formula more than a problem may have
+abbrev pub TooManyFormulas : Type 0
+TooManyFormulas = (fs : List Annotated) → length fs ≡ MOST_PROBLEM_SIZE + 1 → HasProblemSize fs → ⊥

@@ -1,6 +1,7 @@
 -- The size of a problem: formulas, occurrences and quantified variables. Each is spelled by a byte of its own at least, so that
 -- a problem of at most 2^28 bytes meets the bound.
-use Rattle.std.specs.Prelude.{ℕ, ◌+◌, ◌≤◌, ◌^◌, List, [], ◌∷◌, length}
+use Rattle.std.specs.Prelude.{ℕ, ◌+◌, ◌≤◌, List, [], ◌∷◌, length}
+use Rattle.tptp_tree.specs.declared.limits.TheConstants.{MOST_PROBLEM_SIZE}
 use Rattle.tptp_tree.specs.Term.{term_size, terms_size}
 use Rattle.tptp_tree.specs.Formula.{FormulaTree, truth, falsity, predicate, equation, negation, conjunction, disjunction, connected, quantified, FormulaTrees, no_formulas, formula_then}
 use Rattle.tptp_tree.specs.Shape.{formula_of}
@@ -33,4 +34,4 @@ problem_size fs = length fs + total_occurrences fs
 
 -- what every problem that is handed in meets
 abbrev pub HasProblemSize : List Annotated → Type 0
-HasProblemSize fs = problem_size fs ≤ 2 ^ 31
+HasProblemSize fs = problem_size fs ≤ MOST_PROBLEM_SIZE

@@ -1,6 +1,6 @@
 // The laws of the definitions: each is the contract of a function without arguments and with an empty body.
 
-ghost use Rattle.tptp_tree.specs.Examples.{BoundImplication, NegatedConjunction, NegatedEquation, BareOperands, OccurrencesInImplication, OccurrencesInTruth};
+ghost use Rattle.tptp_tree.specs.Examples.{BoundImplication, NegatedConjunction, NegatedEquation, BareOperands, OccurrencesInImplication, OccurrencesInTruth, SizeOfTwoFormulas, TwoFormulasFit, TooManyFormulas};
 ghost use Rattle.tptp_tree.specs.EntryExamples.{ClauseTokens, ClauseMeaning, OneLiteral, ClauseLevels, OpenTokens, OpenCauses, OneName, Roles, FormulaRoles, UnknownRole, LeftOutRole, Balanced, Crossed, WholeInclude, SelectedInclude, TwoEntries, NoEntries, EmptySelection};
 ghost use Rattle.std.specs.Prelude.{◌≡◌, ℕ, true, List};
 ghost use Rattle.tptp_token.specs.Lexemes.{Lexeme};
@@ -23,6 +23,9 @@ pub fn printing_examples()
 pub fn size_examples()
     ensures implication { OccurrencesInImplication }
     ensures truth { OccurrencesInTruth }
+    ensures two_formulas { SizeOfTwoFormulas }
+    ensures two_fit { TwoFormulasFit }
+    ensures too_many { TooManyFormulas }
 {}
 
 /// Worked examples of levels, printed and written.

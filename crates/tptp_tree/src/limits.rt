@@ -1,4 +1,8 @@
-// How deep the levels of formulas may be nested. A level is begun by `~`, by a quantifier and by a bracket.
+// How large a problem may be, and how deep the levels of formulas may be nested. A level is begun by `~`, by a quantifier and by a
+// bracket.
+
+/// The most formulas, occurrences of symbols and variables, and quantified variables of a problem, counted together.
+pub const MOST_PROBLEM_SIZE: u64 = 1 << 31;
 
 /// The most levels of a formula of a problem.
 pub const MOST_NESTING: u32 = 500;

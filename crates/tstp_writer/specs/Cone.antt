@@ -2,19 +2,10 @@
 use Rattle.std.specs.Prelude.{◌≡◌, ℕ, ◌<◌, Bool, ◌==◌, List, [], ◌∷◌, Some, slice_get, ◌↔◌, IsTrue}
 use Rattle.std.specs.List.{list_any}
 use Rattle.kernel_steps.specs.Derivation.{is_component_of}
+use Rattle.kernel_steps.specs.Lines.{step_parents}
 use Rattle.kernel_steps.specs.declared.step.Step.{Step}
-use Rattle.kernel_steps.specs.declared.step.Step.TheVariants.{Para, Refl, Factor, Merge, Split, Chain, Opposite}
+use Rattle.kernel_steps.specs.declared.step.Step.TheVariants.{Opposite}
 use Rattle.kernel_steps.specs.declared.step.Line.{Line}
-
--- the lines that a step names as its parents
-abbrev pub parents_of : Step → List ℕ
-parents_of (Para first second from from_side into into_side place first_bind second_bind) = first ∷ second ∷ []
-parents_of (Refl parent literal bind) = parent ∷ []
-parents_of (Factor parent becomes becomes_side other other_side bind) = parent ∷ []
-parents_of (Merge parent stays goes bind) = parent ∷ []
-parents_of (Split parent definitions parts) = parent ∷ definitions
-parents_of (Chain numbers pivots) = numbers
-parents_of _ = []
 
 abbrev pub has_number : List ℕ → ℕ → Bool
 has_number ns n = list_any (λ m. m == n) ns
@@ -22,7 +13,7 @@ has_number ns n = list_any (λ m. m == n) ns
 -- Whether a step needs a line, the one of that number: its parents, and of an opposite line the component line of its name.
 abbrev pub needs : Step → ℕ → Line → Bool
 needs (Opposite name) n line = is_component_of name line.step
-needs step n line = has_number (parents_of step) n
+needs step n line = has_number (step_parents step) n
 
 -- a line needs earlier lines alone
 abbrev pub NeedEarlier : List Line → Type 0

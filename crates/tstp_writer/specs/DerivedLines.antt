@@ -7,6 +7,7 @@ use Rattle.fol_base.specs.Literal.{clause_of}
 use Rattle.tptp_tree.specs.declared.problem.Annotated.{Annotated}
 use Rattle.signature.specs.Symbol.{IsSignature}
 use Rattle.signature.specs.Form.{clausal_form}
+use Rattle.kernel_steps.specs.Lines.{step_parents}
 use Rattle.kernel_steps.specs.Derivation.{is_clause_step, component_clause, ComesBy}
 use Rattle.kernel_steps.specs.declared.step.Step.{Step}
 use Rattle.kernel_steps.specs.declared.step.Step.TheVariants.{Clausify, Opposite}
@@ -14,7 +15,7 @@ use Rattle.kernel_steps.specs.declared.step.Line.{Line}
 use Rattle.clausal_form.specs.DerivationLine.{NamedLine, Taken, kernel_lines}
 use Rattle.clausal_form.specs.DerivationParts.{setting_of, line_place}
 use Rattle.clausal_form.specs.DerivationCauses.{is_line_of, taken, line_verdict}
-use Rattle.tstp_writer.specs.Cone.{parents_of, has_number, IsRising}
+use Rattle.tstp_writer.specs.Cone.{has_number, IsRising}
 use Rattle.tstp_writer.specs.ClauseTrees.{introduced_name}
 use Rattle.tstp_writer.specs.LineTrees.{Script, script_of, origin, Layout, place_in, derived_name, origin_name, step_source, clause_tree}
 use Rattle.tstp_writer.specs.ReadableLines.{Fits, IsReadableLine, NumbersFit, step_names, read_clause, written_place, placed_line, taken_as}
@@ -68,7 +69,7 @@ abbrev pub SourcesAreTaken : List Annotated → Script → Layout → List ℕ �
 SourcesAreTaken problem script layout names known lines e n (Clausify i) = OriginIsTaken problem script layout e i
 SourcesAreTaken problem script layout names known lines e n (Opposite name) = ComponentIsTaken names known lines e n name
 SourcesAreTaken problem script layout names known lines e n step =
-    AllByRecursion (ParentIsTaken layout names known lines e) (parents_of step)
+    AllByRecursion (ParentIsTaken layout names known lines e) (step_parents step)
 
 -- no line that was taken has the name of a derivation's line with that number
 abbrev pub IsNewLine : Layout → Taken → ℕ → Type 0

@@ -17,6 +17,7 @@ use Rattle.tptp_tree.specs.declared.problem.Annotated.{Annotated}
 use Rattle.signature.specs.declared.symbol.Symbol.{Symbol}
 use Rattle.signature.specs.Form.{ClausalForm, clausal_form}
 use Rattle.signature.specs.Prefix.{fresh_prefix_of}
+use Rattle.kernel_steps.specs.Lines.{step_parents}
 use Rattle.kernel_steps.specs.Derivation.{is_clause_step}
 use Rattle.kernel_steps.specs.Keys.{side_word}
 use Rattle.kernel_steps.specs.declared.step.Step.{Step}
@@ -26,7 +27,6 @@ use Rattle.tptp_source.specs.declared.sign.NumberSign.TheVariants.{Unsigned}
 use Rattle.tptp_source.specs.General.{GeneralTree, variable, word, number, negated, GeneralTrees, no_trees, tree_then}
 use Rattle.tptp_source.specs.Sources.{SourceTree, file_source, inference_source, component_source, opposite_source, word_of, list_of}
 use Rattle.clausal_form.specs.DerivationLine.{LineTree, entry_of}
-use Rattle.tstp_writer.specs.Cone.{parents_of}
 use Rattle.tstp_writer.specs.ClauseTrees.{term_tree, introduced_name, clause_formula}
 
 -- ---- what lines are written over
@@ -192,7 +192,7 @@ origin_name script layout place =
 abbrev pub parent_names : Script → Layout → Step → List (List ℕ)
 parent_names script layout (Negate place) = cited_name layout place ∷ []
 parent_names script layout (Clausify i) = origin_name script layout (origin script i) ∷ []
-parent_names script layout step = map (derived_name layout) (parents_of step)
+parent_names script layout step = map (derived_name layout) (step_parents step)
 
 -- ---- sources
 

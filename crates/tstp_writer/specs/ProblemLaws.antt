@@ -2,6 +2,7 @@
 use Rattle.std.specs.Prelude.{◌≡◌, ℕ, ◌*◌, ◌≤◌, true, false, ◌&&◌, List, map, filter_map, Option, IfSome}
 use Rattle.std.specs.List.{AllByRecursion}
 use Rattle.outside.specs.Library.{Holdings}
+use Rattle.tptp_tree.specs.declared.limits.TheConstants.{MOST_PRINTED_NESTING}
 use Rattle.tptp_tree.specs.declared.problem.Annotated.{Annotated}
 use Rattle.tptp_tree.specs.Printing.{formula_text}
 use Rattle.tptp_tree.specs.Spelling.{SpellsFormula}
@@ -14,10 +15,10 @@ use Rattle.tptp_tree.specs.Levels.{formula_levels}
 use Rattle.tstp_writer.specs.LineTrees.{Script, script_of, is_conjecture_at, Layout, layout_of, line_name, cited_name, negated_name, input_tree, negate_tree, input_at, negate_at}
 use Rattle.tstp_writer.specs.Printable.{IsShown, IsFormOf, IsPrintable}
 
--- The levels that a printed formula may have: twice those of a text of nesting 1,000, since what stood behind `~` without brackets may
+-- The levels that a printed formula may have: twice those of a text that was read, since what stood behind `~` without brackets may
 -- stand in parentheses.
 abbrev pub most_printed_levels : ℕ
-most_printed_levels = 2 * 1000
+most_printed_levels = 2 * MOST_PRINTED_NESTING
 
 -- The printed formula spells it, is of its language's form, and isn't too deep.
 pub record IsPrintableEntry (a : AnnotatedTree) : Type 0 where

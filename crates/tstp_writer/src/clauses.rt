@@ -1,9 +1,9 @@
 // How clauses are printed: terms, literals, and the names behind them.
 
-ghost use Rattle.std.specs.Prelude.{◌≡◌, ◌++◌, ◌∷◌, codes, map, IfOk, IsTrue};
+ghost use Rattle.std.specs.Prelude.{◌≡◌, ◌<◌, ◌++◌, ◌∷◌, codes, drop, length, map, IfOk, IsTrue};
 ghost use Rattle.fol_base.specs.Tree.{trees_of};
 ghost use Rattle.fol_base.specs.Term.{tree_of};
-ghost use Rattle.fol_base.specs.Literal.{literal_of, clause_of};
+ghost use Rattle.fol_base.specs.Lent.{lent_of};
 ghost use Rattle.tptp_token.specs.Spelling.{is_lower_word};
 ghost use Rattle.tptp_token.specs.Words.{name_text};
 ghost use Rattle.tptp_tree.specs.Formula.{equation, formulas_of};
@@ -12,7 +12,7 @@ ghost use Rattle.tstp_writer.specs.ClauseTrees.{symbol_name, term_tree, term_tre
 ghost use Rattle.tstp_writer.specs.NameTexts.{signed_name_text, more_names_text};
 
 use crate::page::Page;
-use fol_base::{Clause, Literal, TRUE_SYMBOL, Term};
+use fol_base::{LendsLiterals, LiteralRef, TRUE_SYMBOL, Term};
 use plain_types::{Mem, NameLit};
 use signature::Symbol;
 
@@ -86,18 +86,18 @@ fn push_atom(page: &mut Page, symbols: &[Symbol], term: &Term) -> Mem<()>
 }
 
 /// Adds an equation or its negation.
-fn push_equation(page: &mut Page, symbols: &[Symbol], literal: &Literal) -> Mem<()>
+fn push_equation(page: &mut Page, symbols: &[Symbol], literal: LiteralRef<'_>) -> Mem<()>
     ensures { IfOk result (λ _. page.new ≡ page.old
-        ++ formula_text (equation literal.now.positive (term_tree symbols.now (tree_of literal.now.left)) (term_tree symbols.now (tree_of literal.now.right)))) }
+        ++ formula_text (equation literal.entry.positive (term_tree symbols.now (tree_of literal.entry.left.now)) (term_tree symbols.now (tree_of literal.entry.right.now)))) }
 {
-    push_term(page, symbols, &literal.left)?;
+    push_term(page, symbols, literal.left)?;
     page.bytes(if literal.positive { b" = " } else { b" != " })?;
-    push_term(page, symbols, &literal.right)
+    push_term(page, symbols, literal.right)
 }
 
 /// Adds a literal: an atom or its negation, or an equation or its negation.
-fn push_literal(page: &mut Page, symbols: &[Symbol], literal: &Literal) -> Mem<()>
-    ensures { IfOk result (λ _. page.new ≡ page.old ++ formula_text (literal_formula symbols.now (literal_of literal.now))) }
+fn push_literal(page: &mut Page, symbols: &[Symbol], literal: LiteralRef<'_>) -> Mem<()>
+    ensures { IfOk result (λ _. page.new ≡ page.old ++ formula_text (literal_formula symbols.now (lent_of literal.entry))) }
 {
     if !literal.right.is_truth() {
         return push_equation(page, symbols, literal);
@@ -105,17 +105,18 @@ fn push_literal(page: &mut Page, symbols: &[Symbol], literal: &Literal) -> Mem<(
     if !literal.positive {
         page.bytes(b"~")?;
     }
-    push_atom(page, symbols, &literal.left)
+    push_atom(page, symbols, literal.left)
 }
 
 /// Adds the literals from the second on.
-fn push_more_literals(page: &mut Page, symbols: &[Symbol], literals: &[Literal]) -> Mem<()>
+fn push_more_literals<L: LendsLiterals>(page: &mut Page, symbols: &[Symbol], literals: &L) -> Mem<()>
+    requires { 0 < length (L.meaning literals.now) }
     ensures { IfOk result (λ _. page.new ≡ page.old
-        ++ more_operands_text (codes " | ") (formulas_of (map (literal_formula symbols.now) (map literal_of literals.now)))) }
+        ++ more_operands_text (codes " | ") (formulas_of (map (literal_formula symbols.now) (drop 1 (L.meaning literals.now))))) }
 {
-    for literal in literals {
+    for index in 1..literals.count() {
         page.bytes(b" | ")?;
-        push_literal(page, symbols, literal)?;
+        push_literal(page, symbols, literals.literal(index))?;
     }
     Ok(())
 }
@@ -149,33 +150,41 @@ fn push_more_names(page: &mut Page, prefix: &[u8], names: &[NameLit]) -> Mem<()>
     Ok(())
 }
 
-/// Adds a clause: its literals, then its names, and `$false` where there are neither.
-pub fn push_clause(page: &mut Page, symbols: &[Symbol], prefix: &[u8], clause: &Clause) -> Mem<()>
-    requires { IsTrue (is_lower_word prefix.now) }
-    ensures { IfOk result (λ _. page.new ≡ page.old ++ formula_text (clause_formula symbols.now prefix.now (clause_of clause.now))) }
-{
-    let names = clause.names.as_slice();
-    match clause.literals.as_slice().split_first() {
-        None => push_names(page, prefix, names),
-        Some((first, rest)) => push_literals(page, symbols, prefix, first, rest, names),
-    }
-}
-
-/// Adds literals, then names.
-fn push_literals(
+/// Adds a clause: its literals, then its names, and `$false` where there are neither. The literals are lent, so that a clause of a bank
+/// isn't copied to be printed.
+pub fn push_clause<L: LendsLiterals>(
     page: &mut Page,
     symbols: &[Symbol],
     prefix: &[u8],
-    first: &Literal,
-    rest: &[Literal],
+    literals: &L,
     names: &[NameLit],
 ) -> Mem<()>
     requires { IsTrue (is_lower_word prefix.now) }
     ensures { IfOk result (λ _. page.new ≡ page.old ++ formula_text (clause_formula symbols.now prefix.now
-        (record { literals = literal_of first.now ∷ map literal_of rest.now; names = names.now }))) }
+        (record { literals = L.meaning literals.now; names = names.now }))) }
 {
-    push_literal(page, symbols, first)?;
-    push_more_literals(page, symbols, rest)?;
+    if literals.count() == 0 {
+        push_names(page, prefix, names)
+    } else {
+        push_literals(page, symbols, prefix, literals, names)
+    }
+}
+
+/// Adds literals, of which there are some, then names.
+fn push_literals<L: LendsLiterals>(
+    page: &mut Page,
+    symbols: &[Symbol],
+    prefix: &[u8],
+    literals: &L,
+    names: &[NameLit],
+) -> Mem<()>
+    requires some { 0 < length (L.meaning literals.now) }
+    requires word { IsTrue (is_lower_word prefix.now) }
+    ensures { IfOk result (λ _. page.new ≡ page.old ++ formula_text (clause_formula symbols.now prefix.now
+        (record { literals = L.meaning literals.now; names = names.now }))) }
+{
+    push_literal(page, symbols, literals.literal(0))?;
+    push_more_literals(page, symbols, literals)?;
     push_more_names(page, prefix, names)
 }
 

@@ -5,6 +5,7 @@ use Rattle.fol_base.specs.Tree.{Tree, tree_variables}
 use Rattle.fol_base.specs.Term.{tree_of}
 use Rattle.fol_base.specs.Instance.{Substitution, instance}
 use Rattle.fol_base.specs.declared.clause.Side.{Side}
+use Rattle.unifier.specs.declared.equation.TheConstants.{MOST_EQUATIONS, MOST_NOTED}
 use Rattle.unifier.specs.declared.equation.SideTerm.{SideTerm}
 use Rattle.unifier.specs.declared.equation.Equation.{Equation}
 use Rattle.unifier.specs.declared.equation.Equations.{Equations}
@@ -32,7 +33,7 @@ bound_to w (e ∷ es) = if w == e.code then Some (item_of e.bound) else bound_to
 
 -- the equations in force
 abbrev pub equations_of : Equations → List Equation
-equations_of es = take (min es.len 8) es.items
+equations_of es = take (min es.len MOST_EQUATIONS) es.items
 
 abbrev pub bound_in : Equations → ℕ → Option Item
 bound_in es w = bound_to w (equations_of es)
@@ -43,7 +44,7 @@ Solves apart θ es = (w : ℕ) (a : Item) → bound_in es w ≡ Some a → θ w 
 
 -- the variables that are noted
 abbrev pub noted_of : Equations → List ℕ
-noted_of es = take (min es.noted_len 16) es.noted
+noted_of es = take (min es.noted_len MOST_NOTED) es.noted
 
 -- no equations, and no variable noted
 abbrev pub HasNone : Equations → Type 0

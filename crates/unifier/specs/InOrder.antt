@@ -4,6 +4,7 @@ use Rattle.std.proofs.Props.{props}
 use Rattle.unifier.specs.declared.cells.Cell.{Cell}
 use Rattle.unifier.specs.declared.cells.Cell.TheVariants.{Variable, Application, NoTrees, TreeThen}
 use Rattle.unifier.specs.declared.layout.Place.{Place}
+use Rattle.unifier.specs.declared.solution.TheConstants.{FEW_PLACES}
 use Rattle.unifier.specs.Cells.{cell_at, is_list, IsAfterParts, AreOrdered, HasKinds, AreKinded}
 use Rattle.unifier.specs.Layout.{cell_of, AreRising}
 
@@ -14,7 +15,7 @@ pub record InOrder (cells : List Cell) (places : List Place) : Type 0 where
   pub kinded : AreKinded cells
   pub terms : (w k : ℕ) → cell_of w places ≡ Some k → (k < length cells) × (is_list (cell_at cells k) ≡ false)
   pub own : (k w : ℕ) → k < length cells → cell_at cells k ≡ Variable w → cell_of w places ≡ Some k
-  pub findable : 16 < length places → AreRising places
+  pub findable : FEW_PLACES < length places → AreRising places
 
 -- such facts have at most one proof
 

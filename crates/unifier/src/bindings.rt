@@ -50,7 +50,7 @@ impl Bindings {
 
     /// The two substitutions into shared variables, for the first `left_vars` variables of the left side
     /// and the first `right_vars` of the right one. The shared variables have the numbers from 0 on,
-    /// without gaps. The condition is that neither count is above 2^31, and that each variable of the two terms
+    /// without gaps. The condition is that neither count is above `SIZE_LIMIT`, and that each variable of the two terms
     /// has a number below its side's count, or below one of both counts where the sides aren't taken apart;
     /// `unify` says which counts meet that, and `fits` tells it too.
     pub fn substs(&self, left_vars: u32, right_vars: u32) -> Mem<(Subst, Subst)>
@@ -64,7 +64,7 @@ impl Bindings {
 
     /// The terms for the first variables of a side, in the unifier's own variables, whose numbers are those of the variables of both
     /// sides: where the sides are taken apart, twice the number of a left one, and one more than twice that of a right one. The condition
-    /// is that neither `count` nor the number of a variable of the two terms is above 2^31; counts that fit tell it, by `counts_that_fit`.
+    /// is that neither `count` nor the number of a variable of the two terms is above `SIZE_LIMIT`; counts that fit tell it, by `counts_that_fit`.
     pub fn terms(&self, side: Side, count: u32) -> Mem<Subst>
         requires fits { fits self.now SIZE_LIMIT SIZE_LIMIT ≡ true }
         requires room { count ≤ SIZE_LIMIT }

@@ -19,7 +19,7 @@ use std::alloc::Global;
 /// A most general unifier (Robinson 1965). None exactly where no unifier exists. With `apart` the
 /// variables of the two sides are different ones, whatever their numbers. Only variables of the two terms
 /// are bound, and `Bindings::fits` asks for just these. A count for each side above its term's variables, and
-/// not above 2^31, meets the condition of `Bindings::substs`; so does, where the sides aren't taken apart, one
+/// not above `fol_base::SIZE_LIMIT`, meets the condition of `Bindings::substs`; so does, where the sides aren't taken apart, one
 /// such count above the variables of both terms, whatever the other is.
 ///
 /// Terms of usual size are solved by the equations that a walk down both of them finds. Larger ones, and those

@@ -27,7 +27,7 @@ use Rattle.fol_base.proofs.AboutClauses.InferenceLemmas.{side_of-instance, is_tr
 use Rattle.kbo_order.proofs.AboutLaws.StableLemmas.{trees_stable}
 use Rattle.kbo_order.proofs.AboutLaws.StrictOrderLemmas.{trees_ordered}
 use Rattle.literal_selection.proofs.EligibleLemmas.{eligible_lifts}
-use Rattle.kernel_steps.specs.Inference.{has_predicate_head, are_of_one_kind, other_side_not_above}
+use Rattle.kernel_steps.specs.Inference.{has_predicate_head, have_heads_of_one_kind, other_side_not_above}
 use Rattle.kernel_steps.proofs.AboutCalls.BoundLemmas.{is_truth-application}
 use Rattle.calculus.proofs.AboutLifting.UnifierLemmas.{instance-again}
 
@@ -119,7 +119,7 @@ and_false false = refl
 neither_kind :
     (p : ℕ → Bool) (s u : Tree)
     → has_predicate_head p s ≡ false → is_truth s ≡ false → has_predicate_head p u ≡ false → is_truth u ≡ false
-    → are_of_one_kind p s u ≡ true
+    → have_heads_of_one_kind p s u ≡ true
 neither_kind p s u s_head s_truth u_head u_truth =
     or_right (has_predicate_head p s && has_predicate_head p u)
     ((not (has_predicate_head p s) && not (is_truth s)) && (not (has_predicate_head p u) && not (is_truth u)))
@@ -145,7 +145,7 @@ function_head p ρ f ts h =
 -- terms that become one term, which isn't `$true`, are of one kind
 pub one_kind :
     (p : ℕ → Bool) (ρ π : Substitution) → PutsFunctionTerms p ρ → PutsFunctionTerms p π
-    → (s u : Tree) → instance ρ s ≡ instance π u → is_truth (instance ρ s) ≡ false → are_of_one_kind p s u ≡ true
+    → (s u : Tree) → instance ρ s ≡ instance π u → is_truth (instance ρ s) ≡ false → have_heads_of_one_kind p s u ≡ true
 one_kind p ρ π puts puts' (variable v) (variable w) e no_truth = refl
 one_kind p ρ π puts puts' (variable v) (application g us) e no_truth =
     let head = function_head p π g us (ap (is_function_term p) (sym e) ∙ puts v) in

@@ -19,7 +19,7 @@ use Rattle.fol_base.proofs.AboutClauses.RuleLemmas.{resolved-parts, factored-par
 use Rattle.fol_base.proofs.WorkedExamples.MatchingExamples.{first_is_a_general}
 use Rattle.kbo_order.proofs.AboutMultisets.MemberLemmas.{In-contains}
 use Rattle.kernel_steps.specs.Examples.{not_p, not_true}
-use Rattle.kernel_steps.specs.Inference.{are_of_one_kind, NamedSuperposition, NamedResolution, NamedFactoring, RewritesBy, CutsBy}
+use Rattle.kernel_steps.specs.Inference.{have_heads_of_one_kind, NamedSuperposition, NamedResolution, NamedFactoring, RewritesBy, CutsBy}
 use Rattle.kernel_steps.specs.Named.{IsInference}
 use Rattle.kernel_steps.specs.declared.key.Key.{Key}
 use Rattle.kernel_steps.specs.declared.key.Key.TheVariants.{Para, Refl, Factor, Replaced}
@@ -119,13 +119,13 @@ only x y (suc k) there = absurd (none-some y there)
 
 no_superposition :
     (s z : Side) (place : List ℕ) (old : Tree) (σ τ : Substitution)
-    → subterm place (side_of z r) ≡ Some old → are_of_one_kind is_predicate (side_of s r) old ≡ true
+    → subterm place (side_of z r) ≡ Some old → have_heads_of_one_kind is_predicate (side_of s r) old ≡ true
     → (IsTrue r.positive → place ≡ [] → IsFalse (tree_eq (instance σ (other_side_of s r)) (instance τ (other_side_of z r))))
     → ⊥
 no_superposition Left Left [] old σ τ there kind others_differ = true≢false (others_differ refl refl)
 no_superposition Left Left (k ∷ place) old σ τ there kind others_differ = absurd (none-some old there)
 no_superposition Left Right [] old σ τ there kind others_differ =
-    true≢false (sym kind ∙ ap (are_of_one_kind is_predicate r.left) (sym (same_Some true_tree old there)))
+    true≢false (sym kind ∙ ap (have_heads_of_one_kind is_predicate r.left) (sym (same_Some true_tree old there)))
 no_superposition Left Right (k ∷ place) old σ τ there kind others_differ = absurd (none-some old there)
 no_superposition Right z place old σ τ there kind others_differ = true≢false (sym kind)
 
@@ -143,7 +143,7 @@ superposition_of_r i s j z place d n =
     let into_is : r ≡ n.into = only r n.into j n.into_there in
     no_superposition s z place n.old n.first_unifier n.second_unifier
     (ap (λ (l : TreeLiteral). subterm place (side_of z l)) into_is ∙ n.old_there)
-    (ap (λ (l : TreeLiteral). are_of_one_kind is_predicate (side_of s l) n.old) from_is ∙ n.one_kind)
+    (ap (λ (l : TreeLiteral). have_heads_of_one_kind is_predicate (side_of s l) n.old) from_is ∙ n.one_kind)
     (λ positive root.
     ap (λ (l : TreeLiteral). tree_eq (instance n.first_unifier (other_side_of s l)) (instance n.second_unifier (other_side_of z r))) from_is
     ∙ ap (λ (l : TreeLiteral). tree_eq (instance n.first_unifier (other_side_of s n.from)) (instance n.second_unifier (other_side_of z l))) into_is

@@ -18,32 +18,32 @@ use Rattle.fol_base.specs.Covered.{InstanceOf, Covers}
 use Rattle.fol_base.specs.Examples.{x, a, b, f, p, r, equation, clause, is_predicate, functions, all_b}
 use Rattle.fol_base.specs.declared.clause.Side.{Side}
 use Rattle.fol_base.specs.declared.clause.Side.TheVariants.{Left, Right}
-use Rattle.kernel_steps.specs.Inference.{are_of_one_kind, NamedSuperposition}
+use Rattle.kernel_steps.specs.Inference.{have_heads_of_one_kind, NamedSuperposition}
 use Rattle.calculus.specs.Coverage.{CoversInstancesOf}
 use Rattle.calculus.proofs.AboutCovering.CoverLemmas.{subsumed_covered}
 
 -- ---- b = a and p(X0)
 
 -- neither side is of one kind with an atom or `$true`
-no_atom : (s : Side) → are_of_one_kind is_predicate (side_of s (equation b a)) (p (x 0)).left ≡ false
+no_atom : (s : Side) → have_heads_of_one_kind is_predicate (side_of s (equation b a)) (p (x 0)).left ≡ false
 no_atom Left = refl
 no_atom Right = refl
 
-no_truth : (s : Side) → are_of_one_kind is_predicate (side_of s (equation b a)) true_tree ≡ false
+no_truth : (s : Side) → have_heads_of_one_kind is_predicate (side_of s (equation b a)) true_tree ≡ false
 no_truth Left = refl
 no_truth Right = refl
 
 no_place :
     (s z : Side) (place : List ℕ) (old : Tree)
     → subterm place (side_of z (p (x 0))) ≡ Some old → is_variable old ≡ false
-    → are_of_one_kind is_predicate (side_of s (equation b a)) old ≡ true → ⊥
+    → have_heads_of_one_kind is_predicate (side_of s (equation b a)) old ≡ true → ⊥
 no_place s Left [] old there no_variable kind =
-    true≢false (sym kind ∙ ap (are_of_one_kind is_predicate (side_of s (equation b a))) (sym (same_Some (p (x 0)).left old there)) ∙ no_atom s)
+    true≢false (sym kind ∙ ap (have_heads_of_one_kind is_predicate (side_of s (equation b a))) (sym (same_Some (p (x 0)).left old there)) ∙ no_atom s)
 no_place s Left (zero ∷ []) old there no_variable kind = true≢false (ap is_variable (same_Some (x 0) old there) ∙ no_variable)
 no_place s Left (zero ∷ k ∷ place) old there no_variable kind = absurd (none-some old there)
 no_place s Left (suc k ∷ place) old there no_variable kind = absurd (none-some old there)
 no_place s Right [] old there no_variable kind =
-    true≢false (sym kind ∙ ap (are_of_one_kind is_predicate (side_of s (equation b a))) (sym (same_Some true_tree old there)) ∙ no_truth s)
+    true≢false (sym kind ∙ ap (have_heads_of_one_kind is_predicate (side_of s (equation b a))) (sym (same_Some true_tree old there)) ∙ no_truth s)
 no_place s Right (k ∷ place) old there no_variable kind = absurd (none-some old there)
 
 only_literal : (l m : TreeLiteral) (k : ℕ) → slice_get (l ∷ []) k ≡ Some m → l ≡ m
@@ -57,7 +57,7 @@ none_named i s j z place d n =
     no_place s z place n.old
     (ap (λ (l : TreeLiteral). subterm place (side_of z l)) (only_literal (p (x 0)) n.into j n.into_there) ∙ n.old_there)
     n.no_variable
-    (ap (λ (l : TreeLiteral). are_of_one_kind is_predicate (side_of s l) n.old) (only_literal (equation b a) n.from i n.from_there) ∙ n.one_kind)
+    (ap (λ (l : TreeLiteral). have_heads_of_one_kind is_predicate (side_of s l) n.old) (only_literal (equation b a) n.from i n.from_there) ∙ n.one_kind)
 
 -- ---- f(a) = b, b = a and f(a) = a
 

@@ -15,7 +15,7 @@ use Rattle.fol_base.specs.Examples.{x, a, b, f, f₂, p, r, equation, clause, is
 use Rattle.fol_base.specs.declared.clause.Side.TheVariants.{Left, Right}
 use Rattle.kernel_steps.specs.Derivation.{positive_of, negative_of}
 use Rattle.kernel_steps.specs.Examples.{not_p, not_true, with}
-use Rattle.kernel_steps.specs.Inference.{are_of_one_kind, other_side_not_above, NamedSuperposition, NamedResolution, NamedFactoring, CutsBy}
+use Rattle.kernel_steps.specs.Inference.{have_heads_of_one_kind, other_side_not_above, NamedSuperposition, NamedResolution, NamedFactoring, CutsBy}
 use Rattle.calculus.proofs.AboutLifting.UnifierLemmas.{arguments_of, first_of, rest_of, unify_apart, is_most_general_apart}
 
 -- ---- a right side, a negative literal; one clause under two substitutions
@@ -164,7 +164,7 @@ other_kind d n =
     let from_is : equation (x 0) b ≡ n.from = same_Some (equation (x 0) b) n.from n.from_there in
     let into_is : p a ≡ n.into = same_Some (p a) n.into n.into_there in
     let old_is : (p a).left ≡ n.old = ap (λ (l : TreeLiteral). l.left) into_is ∙ same_Some n.into.left n.old n.old_there in
-    true≢false (sym (ap₂ (λ (l : TreeLiteral) (t : Tree). are_of_one_kind is_predicate l.left t) from_is old_is ∙ n.one_kind))
+    true≢false (sym (ap₂ (λ (l : TreeLiteral) (t : Tree). have_heads_of_one_kind is_predicate l.left t) from_is old_is ∙ n.one_kind))
 
 -- the variables 0 and 1 become these
 abbrev first_two : Tree → Tree → Substitution
@@ -265,7 +265,7 @@ pub factoring_other_kind :
 factoring_other_kind d n =
     let i_is : equation (x 0) b ≡ n.literal_i = same_Some (equation (x 0) b) n.literal_i n.i_there in
     let j_is : p a ≡ n.literal_j = same_Some (p a) n.literal_j n.j_there in
-    true≢false (sym (ap₂ (λ (l m : TreeLiteral). are_of_one_kind is_predicate l.left m.left) i_is j_is ∙ n.one_kind))
+    true≢false (sym (ap₂ (λ (l m : TreeLiteral). have_heads_of_one_kind is_predicate l.left m.left) i_is j_is ∙ n.one_kind))
 
 pub factoring_lost_name :
     NamedFactoring is_predicate select_nothing (with (equation b a ∷ equation b a ∷ []) (positive_of 1 ∷ [])) 0 Left 1 Left

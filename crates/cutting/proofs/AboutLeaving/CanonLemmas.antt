@@ -9,37 +9,9 @@ use Rattle.fol_base.specs.InstanceLaws.{after}
 use Rattle.fol_base.specs.Clause.{TreeLiteral, literal_variables}
 use Rattle.fol_base.specs.Ground.{literals_instance}
 use Rattle.fol_base.specs.Canonical.{distinct, place_of, renaming}
+use Rattle.fol_base.proofs.AboutCanonical.CanonicalLemmas.{number_in, literals_variables-renamed}
 use Rattle.fol_base.proofs.AboutInstances.InstanceLemmas.{Agree, literals_instance-again, literals-agree}
 use Rattle.eq_rules.proofs.AboutConclusions.WideLemmas.{Has, numbered, literals_back}
-
--- the number of a variable in an order
-abbrev number_in : List ℕ → ℕ → ℕ
-number_in order v = unwrap_or (place_of v order) v
-
--- ---- variables with their numbers
-
-mutual
-  variables-renamed : (order : List ℕ) (t : Tree) → tree_variables (instance (renaming order) t) ≡ map (number_in order) (tree_variables t)
-  variables-renamed order (variable v) = refl
-  variables-renamed order (application f ts) = all_variables-renamed order ts
-
-  all_variables-renamed :
-      (order : List ℕ) (ts : Trees) → trees_variables (instances (renaming order) ts) ≡ map (number_in order) (trees_variables ts)
-  all_variables-renamed order no_trees = refl
-  all_variables-renamed order (tree_then t ts) =
-      ap₂ ◌++◌ (variables-renamed order t) (all_variables-renamed order ts)
-      ∙ sym (map-append (number_in order) (tree_variables t) (trees_variables ts))
-
-literals_variables-renamed :
-    (order : List ℕ) (ls : List TreeLiteral)
-    → flat_map literal_variables (literals_instance (renaming order) ls) ≡ map (number_in order) (flat_map literal_variables ls)
-literals_variables-renamed order [] = refl
-literals_variables-renamed order (l ∷ ls) =
-    ap₂ ◌++◌
-    (ap₂ ◌++◌ (variables-renamed order l.left) (variables-renamed order l.right)
-    ∙ sym (map-append (number_in order) (tree_variables l.left) (tree_variables l.right)))
-    (literals_variables-renamed order ls)
-    ∙ sym (map-append (number_in order) (literal_variables l) (flat_map literal_variables ls))
 
 -- ---- different variables have different numbers
 

@@ -65,7 +65,7 @@ predicate-head p (application f ts) h =
 
 -- of one kind for the calculus, and for a unifier
 pub record Kinds (p : ℕ → Bool) (s u : Tree) : Type 0 where
-  pub calculus : kernel.are_of_one_kind p s u ≡ true
+  pub calculus : kernel.have_heads_of_one_kind p s u ≡ true
   pub unifier : unifying.are_of_one_kind p s u ≡ true
 
 beq-differ : (a b : Bool) → a ≡ true → b ≡ false → beq a b ≡ true → ⊥

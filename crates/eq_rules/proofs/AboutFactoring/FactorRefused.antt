@@ -18,7 +18,7 @@ use Rattle.fol_base.proofs.AboutTerms.KindLemmas.{function_term-no_truth}
 use Rattle.fol_base.proofs.AboutClauses.RuleLemmas.{factored-parts}
 use Rattle.fol_base.proofs.AboutTerms.WellFormedLemmas.{sides_of_one_kind}
 use Rattle.literal_selection.proofs.EligibleLemmas.{eligible_lifts}
-use Rattle.kernel_steps.specs.Inference.{NamedFactoring, has_predicate_head, are_of_one_kind, other_side_not_above}
+use Rattle.kernel_steps.specs.Inference.{NamedFactoring, has_predicate_head, have_heads_of_one_kind, other_side_not_above}
 use Rattle.kernel_steps.specs.Named.{IsInference}
 use Rattle.kernel_steps.specs.declared.key.Key.TheVariants.{Factor}
 use Rattle.eq_rules.specs.Factoring.{are_alike, literal_may_become, may_become}
@@ -55,7 +55,7 @@ both_false a b e f = ap₂ beq e f
 kind-alike :
     (p : ℕ → Bool) (l : TreeLiteral) (s : Side) (m : TreeLiteral) (z : Side)
     → is_literal p l ≡ true → is_literal p m ≡ true → l.positive ≡ true → m.positive ≡ true
-    → are_of_one_kind p (side_of s l) (side_of z m) ≡ true → are_alike l s m z ≡ true
+    → have_heads_of_one_kind p (side_of s l) (side_of z m) ≡ true → are_alike l s m z ≡ true
 kind-alike p l s m z l_kind m_kind a b h =
     let t : Tree = side_of s l in
     let u : Tree = side_of z m in
@@ -150,7 +150,7 @@ module _
         (sym
         (kind-alike p l s m z l_kind m_kind
         (sym (ap (λ (k : TreeLiteral). k.positive) l_is) ∙ both.0) (sym (ap (λ (k : TreeLiteral). k.positive) m_is) ∙ both.1)
-        (sym (ap₂ (λ (k n : TreeLiteral). are_of_one_kind p (side_of s k) (side_of z n)) l_is m_is) ∙ n.one_kind))
+        (sym (ap₂ (λ (k n : TreeLiteral). have_heads_of_one_kind p (side_of s k) (side_of z n)) l_is m_is) ∙ n.one_kind))
         ∙ refused)
 
     pub apart_unfactored :

@@ -206,7 +206,7 @@ module _ (c : TreeClause) (first order : List ℕ) (none : first ≡ []) where
 -- ---- a canonical form is canonical
 
 -- the number of a variable, if it has one
-abbrev number_in : List ℕ → ℕ → ℕ
+abbrev pub number_in : List ℕ → ℕ → ℕ
 number_in order v = unwrap_or (place_of v order) v
 
 numbers-renamed :
@@ -244,18 +244,18 @@ numbers-renamed order (v ∷ vs) =
         (cases_Bool (is_some (place_of v order)))
 
 mutual
-  variables-renamed : (order : List ℕ) (t : Tree) → tree_variables (instance (renaming order) t) ≡ map (number_in order) (tree_variables t)
+  pub variables-renamed : (order : List ℕ) (t : Tree) → tree_variables (instance (renaming order) t) ≡ map (number_in order) (tree_variables t)
   variables-renamed order (variable v) = refl
   variables-renamed order (application f ts) = all_variables-renamed order ts
 
-  all_variables-renamed :
+  pub all_variables-renamed :
       (order : List ℕ) (ts : Trees) → trees_variables (instances (renaming order) ts) ≡ map (number_in order) (trees_variables ts)
   all_variables-renamed order no_trees = refl
   all_variables-renamed order (tree_then t ts) =
       ap₂ ◌++◌ (variables-renamed order t) (all_variables-renamed order ts)
       ∙ sym (map-append (number_in order) (tree_variables t) (trees_variables ts))
 
-literals_variables-renamed :
+pub literals_variables-renamed :
     (order : List ℕ) (ls : List TreeLiteral)
     → flat_map literal_variables (map (literal_instance (renaming order)) ls) ≡ map (number_in order) (flat_map literal_variables ls)
 literals_variables-renamed order [] = refl

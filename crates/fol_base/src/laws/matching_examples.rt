@@ -5,8 +5,8 @@ ghost use Rattle.fol_base.specs.Instance.{Substitution};
 ghost use Rattle.fol_base.specs.Compatible.{compatible, compatible_generalisation, compatible_instance};
 ghost use Rattle.fol_base.specs.Unifier.{IsUnifier, IsUnifierApart, IsMostGeneralUnifier, IsMostGeneralUnifierApart, IsMatcher};
 ghost use Rattle.fol_base.specs.Subsumption.{Subsumes, assertions, is_among};
-ghost use Rattle.fol_base.specs.Kind.{is_literal, are_predicate_atoms, is_predicate_of};
-ghost use Rattle.fol_base.specs.WellFormed.{is_term_of, is_literal_of, are_literals_of, are_symbols_of, WellFormed};
+ghost use Rattle.fol_base.specs.Kind.{is_literal, are_predicate_atoms, is_predicate_of, PutsFunctionTerms};
+ghost use Rattle.fol_base.specs.WellFormed.{is_term_of, is_literal_of, are_literals_of, are_symbols_of, WellFormed, PutsFunctionTermsOf};
 ghost use Rattle.fol_base.specs.Symbols.{are_function_symbols, have_one_arity, has_constant, FunctionSymbols};
 ghost use Rattle.fol_base.specs.Tree.{true_tree};
 ghost use Rattle.fol_base.specs.GroundForm.{is_atom_literal, IsGroundForm, form_size};
@@ -48,6 +48,8 @@ pub fn kind_examples()
     ensures atom_below_a_function { IsFalse (is_literal is_predicate (equation (f (p a).left) b)) }
     ensures atoms { IsTrue (are_predicate_atoms is_predicate (clause (p a ∷ []) ∷ clause (r ∷ disequation (q a).left true_tree ∷ []) ∷ [])) }
     ensures no_atoms { IsFalse (are_predicate_atoms is_predicate (clause (p a ∷ equation a b ∷ []) ∷ [])) }
+    ensures function_terms_put { PutsFunctionTerms is_predicate all_a }
+    ensures atoms_put { PutsFunctionTerms is_predicate (λ _. (p a).left) → ⊥ }
 {}
 
 /// Lists of function symbols, and of the answers whether a symbol is a predicate.
@@ -76,6 +78,8 @@ pub fn well_formed_examples()
     ensures predicate_as_function { IsFalse (is_literal_of use_of_symbols (equation (f (p a).left) b)) }
     ensures truth_below_a_function { IsFalse (is_literal_of use_of_symbols (equation (f true_tree) b)) }
     ensures truth_on_the_left { IsFalse (is_literal_of use_of_symbols (equation true_tree a)) }
+    ensures terms_put { PutsFunctionTermsOf use_of_symbols all_a }
+    ensures other_number_of_arguments_put { PutsFunctionTermsOf use_of_symbols (λ _. f₂ a b) → ⊥ }
     ensures together { WellFormed (clause (p (f (x 0)) ∷ []) ∷ clause (equation (f a) b ∷ r ∷ []) ∷ []) }
     ensures two_numbers_of_arguments { WellFormed (clause (equation (f a) b ∷ []) ∷ clause (equation (f₂ a b) b ∷ []) ∷ []) → ⊥ }
     ensures predicate_and_function { WellFormed (clause (p a ∷ []) ∷ clause (equation (p a).left b ∷ []) ∷ []) → ⊥ }

@@ -31,7 +31,8 @@ use Rattle.disc_tree.proofs.AboutQueries.UnifierLemmas.{instance-compatible}
 use Rattle.superpose.proofs.AboutLists.ListLemmas.{In, In-contained, In-left, In-right}
 use Rattle.partners.specs.Index.{KeepsAll}
 use Rattle.partners.proofs.IndexLemmas.{in-found}
-use Rattle.given_work.specs.Occurring.{KeepsOthers, ListsLiterals, ListsMembers, ListsSide, ListsTerm, ListsTerms, numbers_of_instances, numbers_with_instances}
+use Rattle.given_work.specs.Occurring.{ListsLiterals, ListsMembers, ListsSide, ListsTerm, ListsTerms, numbers_of_instances, numbers_with_instances}
+use Rattle.unit_index.specs.Indexed.{KeepsOthers}
 use Rattle.given_work.proofs.AboutIndexes.Slots.{Contains-filtered}
 
 -- ---- one term

@@ -9,7 +9,7 @@ ghost use Rattle.fol_base.specs.Rules.{disequation};
 ghost use Rattle.fol_base.specs.declared.clause.Side.TheVariants.{Left, Right};
 ghost use Rattle.kernel_steps.specs.Derivation.{positive_of, negative_of};
 ghost use Rattle.kernel_steps.specs.Examples.{not_p, not_true, with};
-ghost use Rattle.kernel_steps.specs.Inference.{are_of_one_kind, NamedSuperposition, NamedResolution, NamedFactoring, MergesEqual, RewritesBy, CutsBy, Reduces, is_tautology, IsIrreducible};
+ghost use Rattle.kernel_steps.specs.Inference.{have_heads_of_one_kind, NamedSuperposition, NamedResolution, NamedFactoring, MergesEqual, RewritesBy, CutsBy, Reduces, is_tautology, IsIrreducible};
 
 /// Superposition by most general unifiers, and where it gives nothing.
 pub fn superposition_examples()
@@ -36,10 +36,10 @@ pub fn inference_examples()
 
 /// Terms of one kind.
 pub fn kind_examples()
-    ensures atoms { IsTrue (are_of_one_kind is_predicate (p a).left (q b).left) }
-    ensures terms { IsTrue (are_of_one_kind is_predicate (x 0) (f a)) }
-    ensures atom_and_term { IsFalse (are_of_one_kind is_predicate (p a).left (f a)) }
-    ensures truths { IsFalse (are_of_one_kind is_predicate true_tree true_tree) }
+    ensures atoms { IsTrue (have_heads_of_one_kind is_predicate (p a).left (q b).left) }
+    ensures terms { IsTrue (have_heads_of_one_kind is_predicate (x 0) (f a)) }
+    ensures atom_and_term { IsFalse (have_heads_of_one_kind is_predicate (p a).left (f a)) }
+    ensures truths { IsFalse (have_heads_of_one_kind is_predicate true_tree true_tree) }
 {}
 
 /// Reducing steps, and what is none.

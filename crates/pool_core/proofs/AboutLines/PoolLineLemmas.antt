@@ -18,7 +18,7 @@ use Rattle.fol_base.proofs.WorkedExamples.TestLemmas.{option_map-some, list_all-
 use Rattle.kernel_steps.specs.Parents.{Parent, Parents}
 use Rattle.kernel_steps.specs.Conclusion.{empty_clause, binds, bound_literals, verdict, concludes, verdict_if, clause_with, by_one, by_two}
 use Rattle.kernel_steps.specs.Derivation.{is_clause_step, introduces_name, line_parent, line_parents, continued, ComesBy, IsDerivation}
-use Rattle.kernel_steps.specs.Lines.{clause_parents, is_on_literals, is_small_term, has_small_sides, has_small_terms, IsNumbered}
+use Rattle.kernel_steps.specs.Lines.{clause_parents, is_on_literals, is_small_term, has_small_sides, has_small_terms, IsNumbered, is_plain_step}
 use Rattle.kernel_steps.specs.Soundness.{bindings_of, binds_each}
 use Rattle.kernel_steps.specs.Symbols.{symbols_pass, clause_symbols_pass}
 use Rattle.kernel_steps.specs.declared.step.TheConstants.{CLAUSE_NUMBERS}
@@ -33,7 +33,7 @@ use Rattle.pool_core.specs.Lines.{with_lines, line_number, with_parents, pool_li
 use Rattle.pool_core.specs.Registering.{over, registered_last}
 use Rattle.pool_core.specs.Reduction.{Lookup, AreLinesFrom}
 use Rattle.pool_core.specs.Wholeness.{IsWhole}
-use Rattle.pool_core.specs.Derived.{is_plain_step, is_function_term_of, IsPlainLine, HaveInputSymbols}
+use Rattle.pool_core.specs.Derived.{is_function_term_of, IsPlainLine, HaveInputSymbols}
 use Rattle.pool_core.specs.declared.outcome.Outcome.{Outcome}
 use Rattle.pool_core.specs.declared.outcome.Outcome.TheVariants.{Refuted}
 use Rattle.pool_core.proofs.AboutLines.FormedLemmas.{IsFormed, result-formed, result-canonical, each-formed, lines-fit}

@@ -19,7 +19,7 @@ use Rattle.fol_base.specs.declared.clause.Side.{Side}
 use Rattle.fol_base.specs.declared.clause.Side.TheVariants.{Left, Right}
 use Rattle.fol_base.proofs.AboutClauses.RuleLemmas.{resolved-parts, merged-parts, factored-parts}
 use Rattle.kernel_steps.specs.Examples.{not_p}
-use Rattle.kernel_steps.specs.Inference.{has_predicate_head, are_of_one_kind, NamedSuperposition, NamedResolution, NamedFactoring, RewritesBy, CutsBy, Reduces}
+use Rattle.kernel_steps.specs.Inference.{has_predicate_head, have_heads_of_one_kind, NamedSuperposition, NamedResolution, NamedFactoring, RewritesBy, CutsBy, Reduces}
 use Rattle.kernel_steps.specs.Named.{IsInference}
 use Rattle.kernel_steps.specs.declared.key.Key.{Key}
 use Rattle.kernel_steps.specs.declared.key.Key.TheVariants.{Para, Refl, Factor, Replaced}
@@ -116,19 +116,19 @@ no_atom_in_variable (k ∷ place) old there = absurd (none-some old there)
 -- of atoms that hold no others
 module _ (t u : Tree) (none : HasNoAtom u) where
   -- a term that is no atom is of another kind than an atom
-  other_kind : (old : Tree) → has_predicate_head is_predicate old ≡ false → are_of_one_kind is_predicate (p t).left old ≡ true → ⊥
+  other_kind : (old : Tree) → has_predicate_head is_predicate old ≡ false → have_heads_of_one_kind is_predicate (p t).left old ≡ true → ⊥
   other_kind old is kind = true≢false (sym kind ∙ ap (λ b. (true && b) || false) is)
 
   no_superposition :
       (s z : Side) (place : List ℕ) (old : Tree) (σ τ : Substitution)
-      → subterm place (side_of z (p u)) ≡ Some old → are_of_one_kind is_predicate (side_of s (p t)) old ≡ true
+      → subterm place (side_of z (p u)) ≡ Some old → have_heads_of_one_kind is_predicate (side_of s (p t)) old ≡ true
       → (place ≡ [] → IsFalse (tree_eq (instance σ (other_side_of s (p t))) (instance τ (other_side_of z (p u)))))
       → ⊥
   no_superposition Left Left [] old σ τ there kind others_differ = true≢false (others_differ refl)
   no_superposition Left Left (zero ∷ place) old σ τ there kind others_differ = other_kind old (none place old there) kind
   no_superposition Left Left (suc k ∷ place) old σ τ there kind others_differ = none-some old there
   no_superposition Left Right [] old σ τ there kind others_differ =
-      true≢false (sym kind ∙ ap (are_of_one_kind is_predicate (p t).left) (sym (same_Some _ old there)))
+      true≢false (sym kind ∙ ap (have_heads_of_one_kind is_predicate (p t).left) (sym (same_Some _ old there)))
   no_superposition Left Right (k ∷ place) old σ τ there kind others_differ = none-some old there
   no_superposition Right z place old σ τ there kind others_differ = true≢false (sym kind)
 
@@ -140,7 +140,7 @@ module _ (t u : Tree) (none : HasNoAtom u) where
       let into_is : p u ≡ n.into = only (p u) n.into j n.into_there in
       no_superposition s z place n.old n.first_unifier n.second_unifier
       (ap (λ (l : TreeLiteral). subterm place (side_of z l)) into_is ∙ n.old_there)
-      (ap (λ (l : TreeLiteral). are_of_one_kind is_predicate (side_of s l) n.old) from_is ∙ n.one_kind)
+      (ap (λ (l : TreeLiteral). have_heads_of_one_kind is_predicate (side_of s l) n.old) from_is ∙ n.one_kind)
       (λ root.
       ap (λ (l : TreeLiteral). tree_eq (instance n.first_unifier (other_side_of s l)) (instance n.second_unifier (other_side_of z (p u)))) from_is
       ∙ ap (λ (l : TreeLiteral). tree_eq (instance n.first_unifier (other_side_of s n.from)) (instance n.second_unifier (other_side_of z l))) into_is

@@ -130,8 +130,8 @@ module _
         → (e : TreeClause) → IsInference p mode clauses (para_key number s partner t) e → ⊥
     unlike_refused l_kind m_kind refused e it =
         let n = named_here e it in
-        let one_kind : kernel.are_of_one_kind p (side_of s.side starts.literal) enters.old ≡ true =
-        sym (ap₂ (λ (k : TreeLiteral) (o : Tree). kernel.are_of_one_kind p (side_of s.side k) o) (from_is e n) (old_is e n)) ∙ n.one_kind in
+        let one_kind : kernel.have_heads_of_one_kind p (side_of s.side starts.literal) enters.old ≡ true =
+        sym (ap₂ (λ (k : TreeLiteral) (o : Tree). kernel.have_heads_of_one_kind p (side_of s.side k) o) (from_is e n) (old_is e n)) ∙ n.one_kind in
         true≢false
         (sym
         (kinds-alike p s t starts.literal enters.literal enters.old l_kind m_kind starts.no_truth enters.no_truth enters.old_there one_kind)

@@ -86,7 +86,7 @@ both-same : (a b c : Bool) → a ≡ c → b ≡ c → beq c c ≡ true → beq 
 both-same a b c e f h = ap₂ beq e f ∙ h
 
 -- a predicate term and a function term aren't of one kind
-mixed : (p : ℕ → Bool) (t u : Tree) → is_predicate_term p t ≡ true → is_function_term p u ≡ true → kernel.are_of_one_kind p t u ≡ true → ⊥
+mixed : (p : ℕ → Bool) (t u : Tree) → is_predicate_term p t ≡ true → is_function_term p u ≡ true → kernel.have_heads_of_one_kind p t u ≡ true → ⊥
 mixed p t u e f h =
     ⊎_elim
     (λ heads.
@@ -98,7 +98,7 @@ mixed p t u e f h =
     (or_cases (has_predicate_head p t && has_predicate_head p u)
     ((not (has_predicate_head p t) && not (is_truth t)) && (not (has_predicate_head p u) && not (is_truth u))) h)
 
-mixed-back : (p : ℕ → Bool) (t u : Tree) → is_function_term p t ≡ true → is_predicate_term p u ≡ true → kernel.are_of_one_kind p t u ≡ true → ⊥
+mixed-back : (p : ℕ → Bool) (t u : Tree) → is_function_term p t ≡ true → is_predicate_term p u ≡ true → kernel.have_heads_of_one_kind p t u ≡ true → ⊥
 mixed-back p t u e f h =
     ⊎_elim
     (λ heads.
@@ -120,7 +120,7 @@ module _ (p : ℕ → Bool) (t u : Tree) (first second : Bool) (t_kind : KindBy 
       ⊎_elim (λ f. absurd (beq-differ first second h e.1 f.1)) (λ f. both_predicates p t u e.0 f.0) u_kind)
       t_kind
 
-  kinds-says : kernel.are_of_one_kind p t u ≡ true → beq first second ≡ true
+  kinds-says : kernel.have_heads_of_one_kind p t u ≡ true → beq first second ≡ true
   kinds-says h =
       ⊎_elim
       (λ e.
@@ -152,7 +152,7 @@ module _
       let place_mark : Bool = is_root t.place && is_truth (other_side_of t.at.side m) in
       kinds-from p (side_of s.side l) old mark place_mark from_kind old_kind (and_parts (not (is_truth old)) (beq mark place_mark) h).1
 
-  pub kinds-alike : kernel.are_of_one_kind p (side_of s.side l) old ≡ true → are_alike s t l m old ≡ true
+  pub kinds-alike : kernel.have_heads_of_one_kind p (side_of s.side l) old ≡ true → are_alike s t l m old ≡ true
   kinds-alike h =
       let mark : Bool = is_truth (other_side_of s.side l) in
       let place_mark : Bool = is_root t.place && is_truth (other_side_of t.at.side m) in

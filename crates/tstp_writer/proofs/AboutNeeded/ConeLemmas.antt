@@ -8,6 +8,7 @@ use Rattle.fol_base.specs.Clause.{TreeClause}
 use Rattle.fol_base.specs.Literal.{clause_of}
 use Rattle.tptp_tree.specs.declared.problem.Annotated.{Annotated}
 use Rattle.signature.specs.Form.{clausal_form}
+use Rattle.kernel_steps.specs.Lines.{step_parents}
 use Rattle.kernel_steps.specs.Parents.{Parent, Parents}
 use Rattle.kernel_steps.specs.Conclusion.{names_alone, names_at}
 use Rattle.kernel_steps.specs.Derivation.{is_clause_step, line_parents, is_component_of, component_clause, ComesBy}
@@ -16,14 +17,14 @@ use Rattle.kernel_steps.specs.declared.step.Step.TheVariants.{Input, Negate, Cla
 use Rattle.kernel_steps.specs.declared.step.Line.{Line}
 use Rattle.kernel_steps.proofs.AboutCalls.LineLemmas.{slice_get-take, ParentLine, parent_line}
 use Rattle.kernel_steps.proofs.AboutCalls.VerdictParts.{by_one-parts, by_two-parts, split-parts, chain-parts}
-use Rattle.tstp_writer.specs.Cone.{parents_of, has_number, needs, IsClosed, IsCone}
+use Rattle.tstp_writer.specs.Cone.{has_number, needs, IsClosed, IsCone}
 use Rattle.tstp_writer.specs.ReadableLines.{IsReadableLine}
 use Rattle.tstp_writer.specs.WrittenLaws.{IsReadableRefutation}
 use Rattle.tstp_writer.proofs.AboutNeeded.EarlierLemmas.{looked-up, component-named, need-earlier}
 
 -- ---- what steps need
 
-pub step-needs : (step : Step) (m : ℕ) (other : Line) → has_number (parents_of step) m ≡ true → needs step m other ≡ true
+pub step-needs : (step : Step) (m : ℕ) (other : Line) → has_number (step_parents step) m ≡ true → needs step m other ≡ true
 step-needs (Input place) m other has = has
 step-needs (Negate place) m other has = has
 step-needs (Clausify i) m other has = has
@@ -39,7 +40,7 @@ step-needs (Chain numbers pivots) m other has = has
 -- what is needed is a component line, or a parent
 needed-cases :
     (step : Step) (m : ℕ) (other : Line) → needs step m other ≡ true
-    → (is_clause_step other.step ≡ true) ⊎ (has_number (parents_of step) m ≡ true)
+    → (is_clause_step other.step ≡ true) ⊎ (has_number (step_parents step) m ≡ true)
 needed-cases (Input place) m other need = inr need
 needed-cases (Negate place) m other need = inr need
 needed-cases (Clausify i) m other need = inr need
@@ -59,7 +60,7 @@ one-there parents a k p there has =
 -- what a step concludes from is there
 parent-there :
     (form : List TreeClause) (lines : List Line) (step : Step) (c : TreeClause) (m : ℕ)
-    → ComesBy step form lines c → has_number (parents_of step) m ≡ true → (p : Parent) × (line_parents lines m ≡ Some p)
+    → ComesBy step form lines c → has_number (step_parents step) m ≡ true → (p : Parent) × (line_parents lines m ≡ Some p)
 parent-there form lines (Input place) c m comes has = absurd (false≢true has)
 parent-there form lines (Clausify i) c m comes has = absurd (false≢true has)
 parent-there form lines (Para first second from from_side into into_side place first_bind second_bind) c m comes has =
@@ -126,7 +127,7 @@ module _ (problem : List Annotated) (lines : List Line) (last : ℕ) (numbers : 
   readable-there n line at inside = r.readable n line at ((cone.exact n).0 inside)
 
   parent-of :
-      (n m : ℕ) (line : Line) → slice_get lines n ≡ Some line → has_number numbers n ≡ true → has_number (parents_of line.step) m ≡ true
+      (n m : ℕ) (line : Line) → slice_get lines n ≡ Some line → has_number numbers n ≡ true → has_number (step_parents line.step) m ≡ true
       → (p : Parent) × ParentLine lines n m p
   parent-of n m line at inside has =
       let found =
@@ -186,7 +187,7 @@ module _ (problem : List Annotated) (lines : List Line) (last : ℕ) (numbers : 
     pub has : has_number numbers m ≡ true
 
   pub cone-parent :
-      (n m : ℕ) (line : Line) → slice_get lines n ≡ Some line → has_number numbers n ≡ true → has_number (parents_of line.step) m ≡ true
+      (n m : ℕ) (line : Line) → slice_get lines n ≡ Some line → has_number numbers n ≡ true → has_number (step_parents line.step) m ≡ true
       → IsConeParent n m
   cone-parent n m line at has parent =
       let found = parent-of n m line at has parent in

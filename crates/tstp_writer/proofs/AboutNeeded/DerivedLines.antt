@@ -8,13 +8,14 @@ use Rattle.fol_base.specs.Clause.{TreeClause}
 use Rattle.fol_base.specs.Literal.{clause_of}
 use Rattle.tptp_tree.specs.declared.problem.Annotated.{Annotated}
 use Rattle.signature.specs.Form.{clausal_form}
+use Rattle.kernel_steps.specs.Lines.{step_parents}
 use Rattle.kernel_steps.specs.Derivation.{ComesBy, IsOpposite}
 use Rattle.kernel_steps.specs.declared.step.Step.{Step}
 use Rattle.kernel_steps.specs.declared.step.Step.TheVariants.{Input, Negate, Clausify, Para, Refl, Factor, Merge, Component, Opposite, Split, Chain}
 use Rattle.kernel_steps.specs.declared.step.Line.{Line}
 use Rattle.clausal_form.specs.DerivationLine.{LineTree, NamedLine}
 use Rattle.clausal_form.specs.DerivationParts.{Setting, setting_of}
-use Rattle.tstp_writer.specs.Cone.{parents_of, has_number, IsRising, IsCone, IsAbove}
+use Rattle.tstp_writer.specs.Cone.{has_number, IsRising, IsCone, IsAbove}
 use Rattle.tstp_writer.specs.LineTrees.{Script, script_of, Layout, lines_at, layout_of, line_name, place_in, derived_name, step_source, clause_tree, line_tree, derived_tree}
 use Rattle.tstp_writer.specs.ReadableLines.{NumbersFit, LinesFit, IsReadableLine, written_place, placed_line, derived_taken, Fits, step_numbers, step_names, names_of_lines, read_clause}
 use Rattle.tstp_writer.specs.DerivedLines.{HasNumberedForm, ParentIsTaken, SourcesAreTaken, AreIntroduced, ComponentIsTaken}
@@ -52,7 +53,7 @@ module _ (file : List ℕ) (problem : List Annotated) (lines : List Line) (numbe
       → Stands file problem lines numbers ls before → length ls ≤ 2 ^ 64
       → slice_get lines n ≡ Some line → has_number numbers n ≡ true → line.step ≡ step
       → ComesBy step (clausal_form problem).clauses (take n lines) (clause_of line.clause)
-      → ((m : ℕ) → has_number (parents_of step) m ≡ true → ParentIsTaken layout names known lines (named_state ls introduced) m)
+      → ((m : ℕ) → has_number (step_parents step) m ≡ true → ParentIsTaken layout names known lines (named_state ls introduced) m)
       → ((name : ℕ) → step ≡ Opposite name → ComponentIsTaken names known lines (named_state ls introduced) n name)
       → SourcesAreTaken problem script layout names known lines (named_state ls introduced) n step
   sources-taken ls before n line (Clausify i) introduced known st small at has step_is comes parents components =
@@ -183,7 +184,7 @@ module _ (file : List ℕ) (problem : List Annotated) (lines : List Line) (numbe
         stands-earlier m inside less =
             stands-before before n after m (subst IsRising (sym whole) cone.rising) (subst (λ ns. has_number ns m ≡ true) (sym whole) inside) less
 
-        parents : (m : ℕ) → has_number (parents_of (c.line).step) m ≡ true → ParentIsTaken layout names known lines (named_state ls introduced) m
+        parents : (m : ℕ) → has_number (step_parents (c.line).step) m ≡ true → ParentIsTaken layout names known lines (named_state ls introduced) m
         parents m parent =
             let p : IsConeParent problem lines last numbers r cone n m =
             cone-parent problem lines last numbers r cone n m c.line c.there has parent in

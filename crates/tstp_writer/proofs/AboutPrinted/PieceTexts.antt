@@ -52,6 +52,17 @@ there f [] i x h e = absurd (omega arith)
 there f (y ∷ ys) zero x h e = ap (λ z. Some (f z)) (sym e)
 there f (y ∷ ys) (suc i) x h e = there f ys i x (omega arith) e
 
+-- a list by its first item and the rest
+pub first_and_rest : {X : Type 0} (xs : List X) (x : X) → slice_get xs 0 ≡ Some x → xs ≡ x ∷ drop 1 xs
+first_and_rest [] x h = absurd (none-some x h)
+first_and_rest (y ∷ ys) x h = ap (λ z. z ∷ ys) (same_Some y x h)
+
+-- a text goes on with the item that is there
+pub drop-there : {X : Type 0} (xs : List X) (i : ℕ) (x : X) → slice_get xs i ≡ Some x → drop i xs ≡ x ∷ drop (i + 1) xs
+drop-there [] i x h = absurd (none-some x h)
+drop-there (y ∷ ys) zero x h = ap (λ z. z ∷ ys) (same_Some y x h)
+drop-there (y ∷ ys) (suc i) x h = drop-there ys i x h
+
 -- an item of a mapped list, and none past its end
 pub item_there :
     {X Y : Type 0} (f : X → Y) (xs : List X) (i : ℕ) (x : X) → true ≡ ltb i (length xs) → x ≡ get_or xs i x → slice_get (map f xs) i ≡ Some (f x)

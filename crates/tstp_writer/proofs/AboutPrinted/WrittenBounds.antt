@@ -61,7 +61,7 @@ side-small Left l = omega arith
 side-small Right l = omega arith
 
 -- a parent under a binding that is right is small
-bound-small : (bind : List Tree) (c : TreeClause) → binds bind c ≡ true → sum_by literal_size (bound_literals bind c) ≤ 8000
+bound-small : (bind : List Tree) (c : TreeClause) → binds bind c ≡ true → sum_by literal_size (bound_literals bind c) ≤ MOST_BOUND_SYMBOLS
 bound-small bind c h =
     let parts = and_parts (length bind == bound_of (clause_variables c)) _ h in
     let rest = and_parts (list_all (λ t. not (is_truth t)) bind) (nat_le (clause_size (bound_clause bind c)) MOST_BOUND_SYMBOLS) parts.1 in
@@ -70,9 +70,9 @@ bound-small bind c h =
 literal-fits : (bind : List Tree) (c : TreeClause) (i : ℕ) (l : TreeLiteral) → binds bind c ≡ true → slice_get (bound_literals bind c) i ≡ Some l → Fits i
 literal-fits bind c i l h at = let small = literal-small (bound_literals bind c) i l at in omega (arith, small.0, bound-small bind c h)
 
-all-fit : (place : List ℕ) → AllByRecursion (λ i. i < 8000) place → AllByRecursion Fits place
+all-fit : (place : List ℕ) → AllByRecursion (λ i. i < MOST_BOUND_SYMBOLS) place → AllByRecursion Fits place
 all-fit [] h = tt
-all-fit (i ∷ place) h = (let low : i < 8000 = h.0 in omega (arith, low), all-fit place h.1)
+all-fit (i ∷ place) h = (let low : i < MOST_BOUND_SYMBOLS = h.0 in omega (arith, low), all-fit place h.1)
 
 -- ---- steps
 
@@ -92,14 +92,14 @@ para-fits first second first_bind second_bind from into from_side into_side plac
     superposed-parts (bound_literals first_bind first) from from_side (bound_literals second_bind second) into into_side place made h in
     let literal = superposed_literal-parts parts.from from_side parts.into into_side place parts.literal parts.literal_made in
     let into_small = literal-small (bound_literals second_bind second) into parts.into parts.into_there in
-    let small : tree_size (side_of into_side parts.into) ≤ 8000 =
+    let small : tree_size (side_of into_side parts.into) ≤ MOST_BOUND_SYMBOLS =
     omega (arith, side-small into_side parts.into, into_small.1, bound-small second_bind second second_bound) in
     record {
       from_fits = literal-fits first_bind first from parts.from first_bound parts.from_there;
       into_fits = literal-fits second_bind second into parts.into second_bound parts.into_there;
       place_fits =
           all-fit place
-          (place-below 8000 place (side_of into_side parts.into) (side_of from_side parts.from) literal.old_there small);
+          (place-below MOST_BOUND_SYMBOLS place (side_of into_side parts.into) (side_of from_side parts.from) literal.old_there small);
     }
 
 pub refl-fits :

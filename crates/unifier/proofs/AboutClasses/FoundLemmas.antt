@@ -11,6 +11,7 @@ use Rattle.fol_base.specs.declared.clause.Side.TheVariants.{Left, Right}
 use Rattle.unifier.specs.declared.layout.Place.{Place}
 use Rattle.unifier.specs.declared.layout.Layout.{Layout}
 use Rattle.unifier.specs.declared.equation.Equations.{Equations}
+use Rattle.unifier.specs.declared.solution.TheConstants.{FEW_PLACES}
 use Rattle.unifier.specs.declared.agreeing.Walked.TheVariants.{Agreed, Clashed}
 use Rattle.unifier.specs.Cells.{Value, tree, as_tree, IsValuation}
 use Rattle.unifier.specs.InOrder.{InOrder}
@@ -210,7 +211,7 @@ module _ (apart : Bool) (es : Equations) (s t : Tree) (start mid last : Layout)
 
 -- the cells are in order
 pub equations-in-order :
-    (apart : Bool) (es : Equations) (last : Layout) → IsResolving apart es last → length last.places.items ≤ 16 → InOrder last.cells.items last.places.items
+    (apart : Bool) (es : Equations) (last : Layout) → IsResolving apart es last → length last.places.items ≤ FEW_PLACES → InOrder last.cells.items last.places.items
 equations-in-order apart es last h few = record {
   ordered = h.ordered;
   kinded = h.kinded;

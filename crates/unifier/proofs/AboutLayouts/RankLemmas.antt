@@ -7,6 +7,7 @@ use Rattle.std.proofs.Math.ListN.{get_or-append}
 use Rattle.std.proofs.Math.Seq.{get_or-append_seam}
 use Rattle.fol_base.specs.declared.clause.Side.{Side}
 use Rattle.fol_base.specs.declared.clause.Side.TheVariants.{Left, Right}
+use Rattle.fol_base.specs.declared.limits.TheConstants.{SIZE_LIMIT}
 use Rattle.unifier.specs.declared.solution.Solution.{Solution}
 use Rattle.unifier.specs.SolvedForm.{code_of}
 use Rattle.unifier.specs.Layout.{cell_of, all_pass}
@@ -160,16 +161,16 @@ pub has-names :
     (b : Solution) (l r : ℕ) (names : List ℕ) → all_pass (is_within b.apart l r) b.places.items ≡ true → AreNames (solved_form b) l r names → HasNames b (length names)
 has-names b l r names h are w k found = omega (arith, (bound-within b l r w k h found).1, are.many)
 
--- numbers below 2^31 have names of 32 bits on both sides
+-- numbers below the limit of sizes have names of 32 bits on both sides
 pub own-names :
-    (b : Solution) (l r : ℕ) → l ≤ 2 ^ 31 → r ≤ 2 ^ 31 → all_pass (is_within b.apart l r) b.places.items ≡ true → HasNames b (2 ^ 32)
+    (b : Solution) (l r : ℕ) → l ≤ SIZE_LIMIT → r ≤ SIZE_LIMIT → all_pass (is_within b.apart l r) b.places.items ≡ true → HasNames b (2 ^ 32)
 own-names b l r left right h w k found = omega (arith, (bound-within b l r w k h found).1, few b.apart)
   where
     few : (apart : Bool) → code_count apart l r ≤ 2 ^ 32
     few true = omega (arith, left, right)
     few false = omega (arith, left, right)
 
-pub own-codes : (apart : Bool) (side : Side) (v count : ℕ) → v < count → count ≤ 2 ^ 31 → code_of apart side v < 2 ^ 32
+pub own-codes : (apart : Bool) (side : Side) (v count : ℕ) → v < count → count ≤ SIZE_LIMIT → code_of apart side v < 2 ^ 32
 own-codes true Left v count less few = omega (arith, less, few)
 own-codes true Right v count less few = omega (arith, less, few)
 own-codes false Left v count less few = omega (arith, less, few)

@@ -1,4 +1,4 @@
-use Rattle.given_work.specs.Occurring.{KeepsOthers}
+use Rattle.unit_index.specs.Indexed.{KeepsOthers}
 use Rattle.given_work.proofs.occurring.take_literals.Given as goal
 
 abbrev pub invariant-loop-index : goal.invariant-loop-index

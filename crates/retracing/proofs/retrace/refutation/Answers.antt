@@ -6,7 +6,8 @@ use Rattle.fol_base.specs.Literal.{clause_of}
 use Rattle.fol_base.proofs.WorkedExamples.TestLemmas.{list_all-item}
 use Rattle.kernel_steps.specs.declared.step.Step.{Step}
 use Rattle.kernel_steps.specs.declared.step.Line.{Line}
-use Rattle.retracing.specs.Needed.{is_plain_step, HaveEarlierParents, AreNeeded}
+use Rattle.kernel_steps.specs.Lines.{is_plain_step}
+use Rattle.retracing.specs.Needed.{HaveEarlierParents, AreNeeded}
 use Rattle.retracing.proofs.RisingLemmas.{at-has}
 use Rattle.retracing.proofs.RetraceLemmas.{IsBuilt, built-none, can-conclude, built-one-more, needed-low, is-refutation, is-retracing}
 use Rattle.retracing.proofs.retrace.refutation.Goals as goal

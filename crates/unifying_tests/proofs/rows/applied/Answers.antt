@@ -1,9 +1,10 @@
 use Rattle.std.proofs.Common.{arith}
+use Rattle.fol_base.specs.declared.limits.TheConstants.{SIZE_LIMIT}
 use Rattle.fol_base.specs.Term.{tree_of}
 use Rattle.fol_base.proofs.AboutTerms.VariableLemmas.{VariablesBelow-bound}
 use Rattle.unifying_tests.proofs.rows.applied.Goals as goal
 
 pub apply-requires-clause-below : goal.apply-requires-clause-below
 apply-requires-clause-below c =
-    VariablesBelow-bound 2147483648 (tree_of c.args.term.now)
+    VariablesBelow-bound SIZE_LIMIT (tree_of c.args.term.now)
     (omega (arith, c.variable_bound.ensures.value, c.if-variable_bound-gt-SIZE_LIMIT.false))
