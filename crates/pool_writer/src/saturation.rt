@@ -40,12 +40,7 @@ pub fn write_saturation(alloc: Global, form: &Clausal, bank: &Bank, pool: &Pool)
 }
 
 /// Adds the lines of members.
-fn push_members(
-    page: &mut Page,
-    symbols: &[Symbol],
-    bank: &Bank,
-    members: &[Member],
-) -> Mem<()>
+fn push_members(page: &mut Page, symbols: &[Symbol], bank: &Bank, members: &[Member]) -> Mem<()>
     requires { AreMembersOf bank.now members.now }
     ensures { IfOk result (λ _. page.new ≡ page.old
         ++ saturation_text symbols.now (map (λ m. clause_at m.clause) members.now)) }

@@ -109,7 +109,11 @@ fn push_literal(page: &mut Page, symbols: &[Symbol], literal: LiteralRef<'_>) ->
 }
 
 /// Adds the literals from the second on.
-fn push_more_literals<L: LendsLiterals>(page: &mut Page, symbols: &[Symbol], literals: &L) -> Mem<()>
+fn push_more_literals<L: LendsLiterals>(
+    page: &mut Page,
+    symbols: &[Symbol],
+    literals: &L,
+) -> Mem<()>
     requires { 0 < length (L.meaning literals.now) }
     ensures { IfOk result (λ _. page.new ≡ page.old
         ++ more_operands_text (codes " | ") (formulas_of (map (literal_formula symbols.now) (drop 1 (L.meaning literals.now))))) }

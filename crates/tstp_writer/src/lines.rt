@@ -148,7 +148,13 @@ pub(crate) fn push_clause_line(
 {
     push_head(page, true, number, Role::Plain)?;
     let Clause { literals, names } = &line.clause;
-    push_clause(page, script.symbols, script.prefix, literals, names.as_slice())?;
+    push_clause(
+        page,
+        script.symbols,
+        script.prefix,
+        literals,
+        names.as_slice(),
+    )?;
     page.bytes(b",")?;
     push_source(page, script, layout, &line.step)?;
     page.bytes(b").\n")
