@@ -54,8 +54,8 @@ use Rattle.eq_rules.proofs.AboutConclusions.WideLemmas.{literals-below, renamed-
 use Rattle.rewriting.specs.Searching.{IsFoundOf}
 use Rattle.rewriting.specs.Laws.{MayRewrite, AreWellFormed}
 use Rattle.rewriting.specs.declared.searching.Found.{Found}
-use Rattle.rewriting.proofs.LawLemmas.{RewritesFound, found_rewrites}
-use Rattle.rewriting.proofs.TryLemmas.{numbers-asserted}
+use Rattle.rewriting.proofs.AboutRedexes.LawLemmas.{RewritesFound, found_rewrites}
+use Rattle.rewriting.proofs.AboutSearches.TryLemmas.{numbers-asserted}
 use Rattle.demodulate.specs.Steps.{matched_terms, own_terms, IsLineOf}
 use Rattle.demodulate.proofs.AboutSteps.StepParts.{Rewrites, of_found, tests-all}
 use Rattle.demodulate.proofs.AboutSteps.SymbolLemmas.{subterm-passes, variable-passes}
