@@ -6,7 +6,8 @@ ghost use Rattle.fol_base.specs.Examples.{x, a, b, c, p, clause, equation};
 ghost use Rattle.fol_base.specs.Rules.{disequation};
 ghost use Rattle.fol_base.specs.declared.clause.Side.TheVariants.{Left, Right};
 ghost use Rattle.cutting.specs.Cutting.{before_last, fitting_side, last_index, may_fit, open_side, turned, unsolvable};
-ghost use Rattle.cutting.specs.Removing.{is_trivial, own_terms, plain_without};
+ghost use Rattle.cutting.specs.Removing.{is_trivial, plain_without};
+ghost use Rattle.kernel_steps.specs.Lines.{own_terms};
 
 /// Literals that come into question for a cut, and not `$true = $true`; what stands before a literal goes, where the unit's literal is
 /// positive and where it isn't.

@@ -3,11 +3,11 @@
 ghost use Rattle.std.specs.Prelude.{◌≡◌, ◌+◌, ◌++◌, map, length, take, IfOk};
 ghost use Rattle.tptp_tree.specs.Term.{terms_of};
 ghost use Rattle.tptp_tree.specs.Shape.{term_of};
-ghost use Rattle.tptp_tree.specs.Formula.{formulas_of, predicate, equation};
+ghost use Rattle.tptp_tree.specs.Formula.{formulas_of, predicate, equation, with_sign};
 ghost use Rattle.signature.specs.Occurrences.{formula_symbols, formulas_symbols, term_symbols};
 ghost use Rattle.signature.specs.Environment.{free_names};
 ghost use Rattle.signature.specs.Clausal.{with_variables, with_skolem_terms};
-ghost use Rattle.formula_nnf.specs.Shape.{nnf_tree, signed};
+ghost use Rattle.formula_nnf.specs.Shape.{nnf_tree};
 ghost use Rattle.skolem.specs.Matrix.{matrices_of};
 ghost use Rattle.skolem.specs.Shape.{matrix_tree};
 ghost use Rattle.skolem.specs.Skolemized.{skolemized, skolemized_list, numbers_after, skolemized_form, AreKnown};
@@ -131,7 +131,7 @@ fn atom<'a>(
 ) -> Mem<Matrix<'a>>
     requires known { AreKnown signature.now (formula_symbols (predicate name.now (terms_of arguments.now))) }
     ensures { IfOk result (λ matrix. matrix_tree matrix
-        ≡ (skolemized (numbers_after signature.now) (signed positive (predicate name.now (terms_of arguments.now)))
+        ≡ (skolemized (numbers_after signature.now) (with_sign positive (predicate name.now (terms_of arguments.now)))
         (environment_of progress.now.bindings) (made_of progress.now)).matrix) }
 {
     let atom = Atom::Pred(name, arguments);

@@ -29,10 +29,6 @@ abbrev mutual
 
 -- ---- literals
 
-abbrev pub with_sign : Bool → FormulaTree → FormulaTree
-with_sign true f = f
-with_sign false f = negation f
-
 -- The atom that a term of a predicate is; symbol 0 is `$true`. No literal has a variable in the place of an atom, and here it is `$true`.
 abbrev pub atom_formula : List Symbol → Tree → FormulaTree
 atom_formula symbols (variable v) = truth

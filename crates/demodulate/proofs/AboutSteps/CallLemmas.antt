@@ -30,7 +30,8 @@ use Rattle.demodulate.specs.Normal.{IsNextLine}
 use Rattle.rewriting.specs.Laws.{Becomes}
 use Rattle.rewriting.specs.declared.searching.Found.{Found}
 use Rattle.rewriting.proofs.AboutRedexes.LawLemmas.{redexes_give}
-use Rattle.demodulate.specs.Steps.{always, matched_terms, own_terms, IsLineOf}
+use Rattle.demodulate.specs.Steps.{always, matched_terms, IsLineOf}
+use Rattle.kernel_steps.specs.Lines.{own_terms}
 use Rattle.demodulate.proofs.AboutSteps.LineLemmas.{appended-variables}
 use Rattle.demodulate.proofs.AboutRanks.TermLemmas.{literals-stay, own-there}
 

@@ -6,7 +6,7 @@ use Rattle.std.proofs.lemmas.Map.Views.{any-filter_same}
 use Rattle.fol_base.proofs.WorkedExamples.TestLemmas.{list_any-agree}
 use Rattle.fol_base.specs.Canonical.{numbers_from}
 use Rattle.tptp_tree.specs.Term.{TermTrees}
-use Rattle.tptp_tree.specs.Formula.{predicate, formulas_of}
+use Rattle.tptp_tree.specs.Formula.{predicate, formulas_of, with_sign}
 use Rattle.fol_base.specs.Tree.{variable, application, tree_variables}
 use Rattle.fol_base.specs.Clause.{TreeLiteral}
 use Rattle.skolem.specs.declared.bound_term.BoundTerm.{BoundTerm}
@@ -18,7 +18,7 @@ use Rattle.signature.specs.Environment.{Environment, terms_under, without_names,
 use Rattle.signature.specs.Clausal.{SymbolNumbers, Made, Scope, atom_literal, with_variables, with_skolem_terms, skolem_arguments, applied}
 use Rattle.signature.proofs.OccurrenceLemmas.{drop-item, drop-end}
 use Rattle.formula_nnf.specs.declared.form.Nnf.{Nnf}
-use Rattle.formula_nnf.specs.Shape.{nnf_tree, signed}
+use Rattle.formula_nnf.specs.Shape.{nnf_tree}
 use Rattle.skolem.specs.declared.progress.Progress.{Progress}
 use Rattle.skolem.specs.Matrix.{MatrixTree, literal, MatrixTrees, no_matrices, matrix_then, matrices_of, list_of_matrices}
 use Rattle.skolem.specs.Skolemized.{Skolemized, SkolemizedList, skolemized, skolemized_list, numbers_after, AreKnown}
@@ -311,6 +311,6 @@ forms-known known fs i f h e a =
 pub atom-matrix :
     (known : List Symbol) (positive : Bool) (p : List ℕ) (ts : TermTrees) (env : Environment) (m : Made) (l : TreeLiteral)
     → l ≡ atom_literal positive (application (number_of known (predicate_symbol p (terms_count ts))) (terms_under known env ts))
-    → literal l ≡ (skolemized (numbers_after known) (signed positive (predicate p ts)) env m).matrix
+    → literal l ≡ (skolemized (numbers_after known) (with_sign positive (predicate p ts)) env m).matrix
 atom-matrix known true p ts env m l h = ap literal h
 atom-matrix known false p ts env m l h = ap literal h

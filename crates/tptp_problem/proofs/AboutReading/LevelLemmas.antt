@@ -11,7 +11,7 @@ use Rattle.tptp_tree.specs.Levels.{unit_levels, phrase_levels, literal_levels, c
 use Rattle.tptp_tree.proofs.AboutLevels.LimitLemmas.{faultless-within}
 use Rattle.tptp_tree.proofs.AboutLevels.PrintedLevels.{written-doubles}
 use Rattle.tptp_reader.specs.Annotating.{IsReading}
-use Rattle.tptp_reader.specs.Shape.{tree_of}
+use Rattle.tptp_tree.specs.Shape.{entry_of}
 use Rattle.tptp_reader.specs.declared.entry.Read.{Read}
 use Rattle.tptp_reader.proofs.AboutTexts.PrintedLemmas.{reading-again}
 use Rattle.tptp_problem.specs.Formulas.{Placed}
@@ -21,9 +21,9 @@ use Rattle.tptp_problem.proofs.AboutReading.ConjectureLemmas.{all-hold}
 
 reading-levels :
     (file : LoadedFile) (first : ℕ) (read : Read) → IsReading MOST_NESTING file.bytes (tokens_of file) first read
-    → HasFewLevels (tree_of read.annotated).formula
+    → HasFewLevels (entry_of read.annotated).formula
 reading-levels file first read h =
-    let written : IsWrittenWithin MOST_NESTING (tree_of read.annotated).formula =
+    let written : IsWrittenWithin MOST_NESTING (entry_of read.annotated).formula =
     (h.phrase.body, sym h.meant.formula, faultless-within MOST_NESTING h.phrase h.spelled.faultless) in
     record { written = written; printed = written-doubles MOST_NESTING _ written (reading-again MOST_NESTING file.bytes first read h).formula }
 

@@ -12,13 +12,13 @@ use Rattle.kernel_steps.specs.Keys.{commas_before, with_commas}
 use Rattle.signature.specs.declared.symbol.Symbol.{Symbol}
 use Rattle.tptp_token.specs.Spelling.{is_lower_word}
 use Rattle.tptp_token.specs.Words.{name_text}
-use Rattle.tptp_tree.specs.Formula.{FormulaTree, truth, predicate, equation, formulas_of}
+use Rattle.tptp_tree.specs.Formula.{FormulaTree, truth, predicate, equation, formulas_of, with_sign}
 use Rattle.tptp_tree.specs.Term.{TermTree, variable as named_variable, application as named_application, TermTrees, no_terms, term_then}
 use Rattle.tptp_tree.specs.Printing.{term_text, arguments_text, more_arguments_text, is_joined, in_parentheses, formula_text, more_operands_text}
 use Rattle.tptp_source.specs.General.{GeneralTree, trees_of}
 use Rattle.tptp_source.specs.Sources.{inference_source, component_source, opposite_source, word_of as word_term, list_of as list_term}
 use Rattle.tstp_writer.specs.SourceTexts.{general_text, arguments_text as general_arguments, items_text, more_text, name_term, source_text}
-use Rattle.tstp_writer.specs.ClauseTrees.{symbol_name, term_tree, term_trees, with_sign, atom_formula, literal_formula, introduced_name, signed_name_formula, one_of, clause_formula}
+use Rattle.tstp_writer.specs.ClauseTrees.{symbol_name, term_tree, term_trees, atom_formula, literal_formula, introduced_name, signed_name_formula, one_of, clause_formula}
 use Rattle.tptp_source.specs.Sources.{SourceTree}
 use Rattle.tptp_tree.specs.Entries.{AnnotatedTree, language_word, role_word}
 use Rattle.clausal_form.specs.DerivationLine.{LineTree}
