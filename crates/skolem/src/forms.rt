@@ -8,7 +8,7 @@ ghost use Rattle.signature.specs.Occurrences.{formula_symbols, formulas_symbols,
 ghost use Rattle.signature.specs.Environment.{free_names};
 ghost use Rattle.signature.specs.Clausal.{with_variables, with_skolem_terms};
 ghost use Rattle.formula_nnf.specs.Shape.{nnf_tree, signed};
-ghost use Rattle.skolem.specs.Matrix.{matrices_of};
+ghost use Rattle.skolem.specs.Matrix.{literal, matrices_of};
 ghost use Rattle.skolem.specs.Shape.{matrix_tree};
 ghost use Rattle.skolem.specs.Skolemized.{skolemized, skolemized_list, numbers_after, skolemized_form, AreKnown};
 ghost use Rattle.skolem.specs.Bindings.{HasVariables};
@@ -66,10 +66,12 @@ fn matrix_of<'a>(
         Nnf::True => Ok(Matrix::True),
         Nnf::False => Ok(Matrix::False),
         Nnf::Pred(positive, name, arguments) => {
-            atom(alloc, signature, progress, *positive, name, arguments)
+            let literal = atom(alloc, signature, progress, *positive, name, arguments)?;
+            Ok(Matrix::Lit(literal))
         }
         Nnf::Equal(positive, left, right) => {
-            equation(alloc, signature, progress, *positive, left, right)
+            let literal = equation(alloc, signature, progress, *positive, left, right)?;
+            Ok(Matrix::Lit(literal))
         }
         Nnf::And(forms) => Ok(Matrix::And(matrices_of(
             alloc,
@@ -121,45 +123,43 @@ fn matrices_of<'a>(
 }
 
 /// A predicate's literal.
-fn atom<'a>(
+pub(crate) fn atom<'a>(
     alloc: Global,
     signature: &'a Signature,
     progress: &Progress,
     positive: bool,
     name: &'a Text,
     arguments: &'a TreeTerms,
-) -> Mem<Matrix<'a>>
+) -> Mem<MatrixLiteral<'a>>
     requires known { AreKnown signature.now (formula_symbols (predicate name.now (terms_of arguments.now))) }
-    ensures { IfOk result (λ matrix. matrix_tree matrix
+    ensures { IfOk result (λ made. literal made
         ≡ (skolemized (numbers_after signature.now) (signed positive (predicate name.now (terms_of arguments.now)))
         (environment_of progress.now.bindings) (made_of progress.now)).matrix) }
 {
     let atom = Atom::Pred(name, arguments);
-    let literal = MatrixLiteral::of_atom(alloc, signature, &progress.bindings, positive, atom)?;
-    Ok(Matrix::Lit(literal))
+    MatrixLiteral::of_atom(alloc, signature, &progress.bindings, positive, atom)
 }
 
 /// An equation's literal.
-fn equation<'a>(
+pub(crate) fn equation<'a>(
     alloc: Global,
     signature: &'a Signature,
     progress: &Progress,
     positive: bool,
     left: &'a TreeTerm,
     right: &'a TreeTerm,
-) -> Mem<Matrix<'a>>
+) -> Mem<MatrixLiteral<'a>>
     requires known { AreKnown signature.now (term_symbols (term_of left.now) ++ term_symbols (term_of right.now)) }
-    ensures { IfOk result (λ matrix. matrix_tree matrix
+    ensures { IfOk result (λ made. literal made
         ≡ (skolemized (numbers_after signature.now) (equation positive (term_of left.now) (term_of right.now))
         (environment_of progress.now.bindings) (made_of progress.now)).matrix) }
 {
     let atom = Atom::Equal(left, right);
-    let literal = MatrixLiteral::of_atom(alloc, signature, &progress.bindings, positive, atom)?;
-    Ok(Matrix::Lit(literal))
+    MatrixLiteral::of_atom(alloc, signature, &progress.bindings, positive, atom)
 }
 
 /// Each name is bound to a new variable.
-fn bind_variables(alloc: Global, names: &[Text], progress: &mut Progress) -> Mem<()>
+pub(crate) fn bind_variables(alloc: Global, names: &[Text], progress: &mut Progress) -> Mem<()>
     ensures scope { IfOk result (λ _. scope_of_progress progress.new
         ≡ with_variables names.now (environment_of progress.old.bindings) (made_of progress.old)) }
     ensures bindings { IfOk result (λ _.
@@ -173,7 +173,7 @@ fn bind_variables(alloc: Global, names: &[Text], progress: &mut Progress) -> Mem
 
 /// Each name is bound to a Skolem term, whose arguments are the variables in the terms of the form's other free variables. They are the
 /// same for all names, since the terms of the earlier ones have no other variables.
-fn bind_skolem_terms(
+pub(crate) fn bind_skolem_terms(
     alloc: Global,
     signature: &Signature,
     names: &[Text],
