@@ -11,13 +11,13 @@ ghost use Rattle.formula_nnf.specs.Shape.{nnf_tree, signed};
 ghost use Rattle.skolem.specs.Matrix.{literal, matrices_of};
 ghost use Rattle.skolem.specs.Shape.{matrix_tree};
 ghost use Rattle.skolem.specs.Skolemized.{skolemized, skolemized_list, numbers_after, skolemized_form, AreKnown};
-ghost use Rattle.skolem.specs.Bindings.{HasVariables};
+ghost use Rattle.skolem.specs.Bindings.{HasVariables, Covers};
 ghost use Rattle.skolem.specs.Progress.{environment_of, made_of, scope_of_progress, skolem_step, skolem_steps};
 
 use crate::bound_term::BoundTerm;
 use crate::literal::{Atom, MatrixLiteral};
 use crate::matrix::{Matrices, Matrix};
-use crate::progress::Progress;
+use crate::progress::{Arguments, Progress};
 use formula_nnf::{Nnf, NnfBox};
 use plain_types::{Mem, NoMemory, Text};
 use signature::Signature;
@@ -185,19 +185,22 @@ pub(crate) fn bind_skolem_terms(
     ensures bindings { IfOk result (λ _.
         take (length progress.old.bindings) progress.new.bindings ≡ progress.old.bindings) }
 {
-    let found = progress.arguments(alloc, names, body)?;
-    let arguments = Rc::new(alloc, found)?;
-    bind_applied(alloc, signature, names, &arguments, progress)
+    let Arguments { variables, covers } = progress.arguments(alloc, names, body)?;
+    let arguments = Rc::new(alloc, variables)?;
+    bind_applied(alloc, signature, names, &arguments, covers, progress)
 }
 
-/// Each name is bound to the next Skolem symbol, applied to those variables.
+/// Each name is bound to the next Skolem symbol, applied to those variables. Those of the binding at the place `covers` are among them; it is
+/// counted from 1, and 0 says nothing.
 fn bind_applied(
     alloc: Global,
     signature: &Signature,
     names: &[Text],
     arguments: &Rc<Vec<u32>>,
+    covers: usize,
     progress: &mut Progress,
 ) -> Mem<()>
+    requires covers { Covers progress.old.bindings covers arguments.now.value.items }
     ensures scope { IfOk result (λ _. scope_of_progress progress.new
         ≡ skolem_steps (numbers_after signature.now) arguments.now.value.items names.now (scope_of_progress progress.old)) }
     ensures bindings { IfOk result (λ _.
@@ -205,7 +208,7 @@ fn bind_applied(
 {
     let mut first = 0;
     for name in names {
-        bind_skolem_term(alloc, signature, arguments, name, first, progress)?;
+        bind_skolem_term(alloc, signature, arguments, name, first, covers, progress)?;
         if first == 0 {
             first = progress.bindings.len();
         }
@@ -213,17 +216,19 @@ fn bind_applied(
     Ok(())
 }
 
-/// Binds a name to the next Skolem symbol, applied to those variables. They are those of the binding at a place, which is counted from 1; 0 says
-/// nothing.
+/// Binds a name to the next Skolem symbol, applied to those variables. They are those of the binding at the place `alike`, and those of that at
+/// `covers` are among them. Places are counted from 1; 0 says nothing.
 fn bind_skolem_term(
     alloc: Global,
     signature: &Signature,
     arguments: &Rc<Vec<u32>>,
     name: &Text,
     alike: usize,
+    covers: usize,
     progress: &mut Progress,
 ) -> Mem<()>
     requires alike { HasVariables progress.old.bindings alike arguments.now.value.items }
+    requires covers { Covers progress.old.bindings covers arguments.now.value.items }
     ensures scope { IfOk result (λ _.
         scope_of_progress progress.new ≡ skolem_step (numbers_after signature.now) arguments.now.value.items name.now (scope_of_progress progress.old)) }
     ensures bindings { IfOk result (λ _.
@@ -237,7 +242,7 @@ fn bind_skolem_term(
         symbol,
         arguments: arguments.clone()?,
     };
-    progress.bind_term(alloc, name, term, arity, alike)?;
+    progress.bind_term(alloc, name, term, arity, alike, covers)?;
     Ok(())
 }
 

@@ -5,6 +5,7 @@ mod bindings;
 mod bound_term;
 mod filling;
 mod forms;
+mod gathering;
 pub mod laws;
 mod literal;
 mod matrix;
