@@ -45,11 +45,7 @@ pub(crate) struct Outline {
 
 /// The symbols of the largest clause of a normal form without free variables, those that define names included. Sizes over `MOST_SYMBOLS`
 /// are all told as one more than that.
-pub fn largest_clause<'a>(
-    alloc: Global,
-    form: &Nnf<'a>,
-    signature: &'a Signature,
-) -> Mem<u64>
+pub fn largest_clause<'a>(alloc: Global, form: &Nnf<'a>, signature: &'a Signature) -> Mem<u64>
     requires known { AreKnown signature.now (formula_symbols (nnf_tree form.now)) }
     ensures { IfOk result (λ size. size
         ≡ told (max (outline_of (skolemized_form signature.now (nnf_tree form.now)).matrix).largest
@@ -169,13 +165,7 @@ fn of_literal(alloc: Global, literal: &MatrixLiteral<'_>) -> Mem<Outline>
 }
 
 /// One list after another (`listed`), or their product.
-fn joined(
-    alloc: Global,
-    listed: bool,
-    began: u32,
-    first: Outline,
-    second: Outline,
-) -> Mem<Outline>
+fn joined(alloc: Global, listed: bool, began: u32, first: Outline, second: Outline) -> Mem<Outline>
     ensures { IfOk result (λ outline. (t u : ClauseOutline) → IsOutline first t → IsOutline second u
         → IsOutline outline (joined_outline listed began t u)) }
 {

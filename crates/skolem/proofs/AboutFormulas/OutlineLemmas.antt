@@ -1,23 +1,22 @@
 -- The outlines of clauses, as a walk over a form works them off.
-use Rattle.std.proofs.Common.{◌≡◌, ℕ, zero, suc, ◌+◌, ◌-◌, ◌*◌, ◌^◌, ◌<◌, ◌≤◌, ◌⊎◌, inl, inr, ◌==◌, min, Bool, true, false, ◌&&◌, ◌||◌, List, [], ◌∷◌, ◌++◌, length, map, drop, get_or, refl, ap, sym, subst, ◌∙◌, arith, eq-eqb, eqb-true}
+use Rattle.std.proofs.Common.{◌≡◌, ℕ, zero, suc, ◌+◌, ◌-◌, ◌*◌, ◌^◌, ◌<◌, ◌≤◌, ◌⊎◌, inl, inr, ◌==◌, min, Bool, ◌||◌, List, [], ◌∷◌, ◌++◌, length, map, get_or, refl, ap, sym, subst, ◌∙◌, arith, eq-eqb}
 use Rattle.std.specs.Prelude.{max, filter, nat_lt, if◌then◌else◌}
 use Rattle.std.specs.List.{list_any}
-use Rattle.std.proofs.lemmas.Bool.{cases_lt, ltb-true, ltb-false}
+use Rattle.std.proofs.lemmas.Bool.{cases_lt}
 use Rattle.std.proofs.lemmas.List.Folds.{list_any-append}
 use Rattle.fol_base.specs.Canonical.{numbers_from}
-use Rattle.fol_base.specs.Clause.{TreeLiteral, literal_size, literal_variables}
 use Rattle.fol_base.specs.declared.limits.TheConstants.{MOST_SYMBOLS}
 use Rattle.tptp_tree.specs.Formula.{formulas_of}
 use Rattle.signature.specs.declared.symbol.Symbol.{Symbol}
 use Rattle.signature.specs.Clausal.{made_in_order, is_large_count}
-use Rattle.signature.proofs.OccurrenceLemmas.{drop-item, drop-end}
+use Rattle.signature.proofs.OccurrenceLemmas.{drop-end}
 use Rattle.formula_nnf.specs.declared.form.Nnf.{Nnf}
 use Rattle.formula_nnf.specs.Shape.{nnf_tree}
 use Rattle.skolem.specs.declared.outline.Outline.{Outline}
 use Rattle.skolem.specs.declared.progress.Progress.{Progress}
 use Rattle.skolem.specs.Skolemized.{SkolemizedList, skolemized_list, numbers_after}
 use Rattle.skolem.specs.Progress.{environment_of, made_of}
-use Rattle.skolem.specs.Outline.{ClauseOutline, constant_outline, literal_outline, sum_outline, pairs_outline_of, pairs_outline, name_size, named_outline, product_outline, joined_outline, outline_of, outlines_of, AreSame, told, IsOutline}
+use Rattle.skolem.specs.Outline.{ClauseOutline, sum_outline, pairs_outline_of, pairs_outline, named_outline, product_outline, joined_outline, outline_of, outlines_of, AreSame, told, IsOutline}
 use Rattle.skolem.proofs.AboutBindings.OccurringLemmas.{any-filter}
 use Rattle.skolem.proofs.AboutBindings.OrderLemmas.{differs}
 use Rattle.skolem.proofs.AboutBindings.PlaceLemmas.{any-members}

@@ -1,4 +1,4 @@
-use Rattle.std.proofs.Common.{◌≡◌, ℕ, ◌==◌, ◌∙◌, ap, drop, arith}
+use Rattle.std.proofs.Common.{◌≡◌, ◌==◌, ◌∙◌, ap, drop, arith}
 use Rattle.std.specs.List.{list_any}
 use Rattle.skolem.specs.Progress.{variables_at}
 use Rattle.skolem.proofs.AboutBindings.PlaceLemmas.{each-once}

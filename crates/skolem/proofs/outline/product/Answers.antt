@@ -1,4 +1,4 @@
-use Rattle.std.proofs.Common.{true, false, sym, ◌∙◌, arith}
+use Rattle.std.proofs.Common.{true, false, sym, arith}
 use Rattle.std.proofs.lemmas.Bool.{lt-ltb, le-ltb}
 use Rattle.skolem.specs.Outline.{named_outline}
 use Rattle.skolem.proofs.AboutBindings.OrderLemmas.{if-ok}
