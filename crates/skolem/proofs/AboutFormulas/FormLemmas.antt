@@ -236,11 +236,11 @@ matrices_left known fs i p = list_of_matrices (list_left known fs i p).matrices
 abbrev pub made_left : List Symbol → List Nnf → ℕ → Progress → Made
 made_left known fs i p = (list_left known fs i p).made
 
-abbrev one : List Symbol → Nnf → Progress → Skolemized
+abbrev pub one : List Symbol → Nnf → Progress → Skolemized
 one known f p = skolemized (numbers_after known) (nnf_tree f) (environment_of p.bindings) (made_of p)
 
 -- the rest after one more form
-rest-same :
+pub rest-same :
     (known : List Symbol) (fs : List Nnf) (i : ℕ) (f : Nnf) (p q : Progress)
     → made_of q ≡ (one known f p).made → q.bindings ≡ p.bindings
     → list_left known fs (i + 1) q
@@ -249,7 +249,7 @@ rest-same known fs i f p q g b =
     ap (λ bs. skolemized_list (numbers_after known) (formulas_of (map nnf_tree (drop (i + 1) fs))) (environment_of bs) (made_of q)) b
     ∙ ap (skolemized_list (numbers_after known) (formulas_of (map nnf_tree (drop (i + 1) fs))) (environment_of p.bindings)) g
 
-left-then :
+pub left-then :
     (known : List Symbol) (fs : List Nnf) (i : ℕ) (f : Nnf) (p : Progress)
     → i < length fs → f ≡ get_or fs i f
     → list_left known fs i p
