@@ -3,11 +3,14 @@ use Rattle.std.proofs.Common.{◌≡◌, ℕ, zero, suc, ◌+◌, ◌*◌, ◌<�
 use Rattle.std.specs.Prelude.{nat_lt, if◌then◌else◌}
 use Rattle.std.proofs.lemmas.Bool.{and_parts, true≢false}
 use Rattle.std.proofs.lemmas.List.Sums.{sum_by-append, sum_by-cons}
-use Rattle.tptp_tree.specs.Term.{term_size, terms_size}
+use Rattle.tptp_tree.specs.Term.{TermTrees, term_size, terms_size}
 use Rattle.tptp_tree.specs.Formula.{FormulaTree, truth, falsity, predicate, equation, negation, conjunction, disjunction, connected, quantified, FormulaTrees, no_formulas, formula_then}
 use Rattle.fol_base.specs.Clause.{TreeLiteral, literal_size}
-use Rattle.signature.specs.Environment.{Environment}
-use Rattle.signature.specs.Clausal.{SymbolNumbers, Made, Worked, Scope, Literals, all_pairs, is_large, named, product, scope_of, makes_variables}
+use Rattle.fol_base.specs.Tree.{application}
+use Rattle.signature.specs.Symbol.{predicate_symbol, number_of}
+use Rattle.signature.specs.Occurrences.{terms_count}
+use Rattle.signature.specs.Environment.{Environment, term_under, terms_under}
+use Rattle.signature.specs.Clausal.{SymbolNumbers, Made, Worked, Scope, Literals, all_pairs, is_large, named, product, atom_literal, scope_of, makes_variables}
 use Rattle.skolem.specs.Matrix.{MatrixTree, truth as true_matrix, falsity as false_matrix, literal, conjunction as all_of, disjunction as some_of, MatrixTrees, no_matrices, matrix_then}
 use Rattle.skolem.specs.MatrixClauses.{matrix_clauses, listed_matrices, product_of_matrices}
 use Rattle.skolem.specs.Skolemized.{Skolemized, skolemized, skolemized_list}
@@ -102,12 +105,22 @@ mutual
 one-literal : (l : TreeLiteral) (size : ℕ) (m : Made) → size ≤ literal_size l → symbols_in m.defining + size ≤ symbols_in ((l ∷ []) ∷ []) + symbols_in m.defining
 one-literal l size m h = omega (arith, h, sum_by-cons literal_size l [], sum_by-cons literals_size (l ∷ []) [])
 
+one-atom :
+    (n : SymbolNumbers) (p : List ℕ) (ts : TermTrees) (env : Environment) (sign : Bool) (o : Made)
+    → symbols_in o.defining + written_total (predicate p ts)
+    ≤ symbols_in
+    ((atom_literal sign (application (number_of n.symbols (predicate_symbol p (terms_count ts))) (terms_under n.symbols env ts)) ∷ []) ∷ [])
+    + symbols_in o.defining
+one-atom n p ts env sign o =
+    one-literal (atom_literal sign (application (number_of n.symbols (predicate_symbol p (terms_count ts))) (terms_under n.symbols env ts)))
+    (written_total (predicate p ts)) o (omega (arith, written-sizes n.symbols env ts))
+
 negated-total :
     (n k : SymbolNumbers) (f : FormulaTree) (env : Environment) (m o : Made)
     → symbols_in o.defining + written_total (negation f) ≤ all_symbols (matrix_clauses k (skolemized n (negation f) env m).matrix o)
 negated-total n k truth env m o = omega (arith, keeps k (skolemized n (negation truth) env m).matrix o)
 negated-total n k falsity env m o = omega (arith, keeps k (skolemized n (negation falsity) env m).matrix o)
-negated-total n k (predicate p ts) env m o = one-literal _ (written_total (predicate p ts)) o (omega (arith, written-sizes n.symbols env ts))
+negated-total n k (predicate p ts) env m o = one-atom n p ts env false o
 negated-total n k (equation positive s t) env m o = omega (arith, keeps k (skolemized n (negation (equation positive s t)) env m).matrix o)
 negated-total n k (negation f) env m o = omega (arith, keeps k (skolemized n (negation (negation f)) env m).matrix o)
 negated-total n k (conjunction fs) env m o = omega (arith, keeps k (skolemized n (negation (conjunction fs)) env m).matrix o)
@@ -121,18 +134,22 @@ mutual
       → symbols_in o.defining + written_total f ≤ all_symbols (matrix_clauses k (skolemized n f env m).matrix o)
   total-so n k truth env m o = omega arith
   total-so n k falsity env m o = omega arith
-  total-so n k (predicate p ts) env m o = one-literal _ (written_total (predicate p ts)) o (omega (arith, written-sizes n.symbols env ts))
+  total-so n k (predicate p ts) env m o = one-atom n p ts env true o
   total-so n k (equation positive s t) env m o =
-      one-literal _ (written_total (equation positive s t)) o (omega (arith, written-size n.symbols env s, written-size n.symbols env t))
+      one-literal (record { positive = positive; left = term_under n.symbols env s; right = term_under n.symbols env t })
+      (written_total (equation positive s t)) o (omega (arith, written-size n.symbols env s, written-size n.symbols env t))
   total-so n k (negation f) env m o = negated-total n k f env m o
   total-so n k (conjunction fs) env m o = listed-total n k fs env m o
-  total-so n k (disjunction fs) env m o = by (all_forms_have_clauses fs) refl
+  total-so n k (disjunction fs) env m o = by (all_forms_have_clauses fs) refl (product-total n k m.variables ([] ∷ []) fs env m o refl)
     where
       by :
           (t : Bool) → all_forms_have_clauses fs ≡ t
+          → (all_forms_have_clauses fs ≡ true
+          → symbols_in ([] ∷ []) + symbols_in o.defining + written_totals fs
+          ≤ all_symbols (product_of_matrices k m.variables ([] ∷ []) (skolemized_list n fs env m).matrices o))
           → symbols_in o.defining + (if t then written_totals fs else 0) ≤ all_symbols (matrix_clauses k (skolemized n (disjunction fs) env m).matrix o)
-      by true e = omega (arith, product-total n k m.variables ([] ∷ []) fs env m o refl e)
-      by false e = omega (arith, keeps k (skolemized n (disjunction fs) env m).matrix o)
+      by true e h = omega (arith, h e)
+      by false e h = omega (arith, keeps k (skolemized n (disjunction fs) env m).matrix o)
   total-so n k (connected c f g) env m o = omega arith
   total-so n k (quantified q xs f) env m o =
       let s : Scope = scope_of n (makes_variables q true) xs f env m in

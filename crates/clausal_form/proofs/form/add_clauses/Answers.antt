@@ -17,21 +17,21 @@ returns-in-Err-clause-refused c n prefix m h k =
     (cause-so n c.args.annotated.now prefix m c.args.form.now c.args.form.now.counted c.in-Err.cause h k c.requires.expands
     (subst (IsMatrixOrCause c.args.form.now.signature c.args.annotated.now) c.in-Err.is c.in_ok-made.ensures)) c.refused.ensures
 
-pub returns-in-Err-2-clause-refused : goal.returns-in-Err-2-clause-refused
-returns-in-Err-2-clause-refused c n prefix m h k =
-    refusal-so n c.args.annotated.now m c.args.form.now.counted c.in-Err-2.cause c.refused-2.result
+pub returns-in-Err-counted_with-clause-refused : goal.returns-in-Err-counted_with-clause-refused
+returns-in-Err-counted_with-clause-refused c n prefix m h k =
+    refusal-so n c.args.annotated.now m c.args.form.now.counted c.in-Err-counted_with.cause c.refused-in-Err-counted_with.result
     (fault-so n c.args.annotated.now m _ _ _ c.in_ok-matrix.field-0.measure c.named_matrix.new.naming.measure c.in_ok-measure.measure
     (written (matrix_tree c.in_ok-matrix.field-0.matrix)) (defining_clauses c.named_matrix.new.naming)
-    c.args.form.now.counted c.in_ok-skolem.skolem c.args.form.now.next (Some c.in-Err-2.cause)
+    c.args.form.now.counted c.in_ok-skolem.skolem c.args.form.now.next (Some c.in-Err-counted_with.cause)
     (named-formula n c.args.annotated.now prefix m c.args.form.now _ c.new-naming.result c.named_matrix.new.naming _ _ h k (subst (IsMatrixOrCause c.args.form.now.signature c.args.annotated.now) c.in-Ok.is c.in_ok-made.ensures).0
     (c.new-naming.ensures.arities ∙ ap (λ (v : Vec ℕ Global). v.items) c.replace-so_far.ensures.value) c.new-naming.ensures.first
     c.new-naming.ensures.definitions c.in_ok-matrix.ensures.work)
     refl c.in_ok-matrix.ensures.work.measured c.in_ok-matrix.ensures.work.defining c.in_ok-measure.ensures
-    h.next (c.in_ok-skolem.ensures ∙ ap (λ xs. c.args.form.now.next + length xs) (c.as_slice.ensures.value ∙ (subst (IsMatrixOrCause c.args.form.now.signature c.args.annotated.now) c.in-Ok.is c.in_ok-made.ensures).1)) c.requires.expands c.in-Err-2.ensures.beyond)
-    c.refused-2.ensures
+    h.next (c.in_ok-skolem.ensures ∙ ap (λ xs. c.args.form.now.next + length xs) (c.as_slice.ensures.value ∙ (subst (IsMatrixOrCause c.args.form.now.signature c.args.annotated.now) c.in-Ok.is c.in_ok-made.ensures).1)) c.requires.expands c.in-Err-counted_with.ensures.beyond)
+    c.refused-in-Err-counted_with.ensures
 
-pub returns-in_ok-write_formula-in-Ok-clause-added : goal.returns-in_ok-write_formula-in-Ok-clause-added
-returns-in_ok-write_formula-in-Ok-clause-added c n prefix m h k =
+pub returns-in_ok-write_formula-in-Ok-counted_with-clause-added : goal.returns-in_ok-write_formula-in-Ok-counted_with-clause-added
+returns-in_ok-write_formula-in-Ok-counted_with-clause-added c n prefix m h k =
     let part : List Literals = written (matrix_tree c.in_ok-matrix.field-0.matrix) in
     let defining : List Literals = defining_clauses c.named_matrix.new.naming in
     let named : IsNamed n c.args.annotated.now m (part ++ defining)
@@ -43,19 +43,19 @@ returns-in_ok-write_formula-in-Ok-clause-added c n prefix m h k =
       skolem = named.skolem_made;
       naming = named.naming_made;
       clauses =
-          c.in_ok-write_formula-in-Ok.ensures.clauses
+          c.in_ok-write_formula-in-Ok-counted_with.ensures.clauses
           ∙ ap (λ cs. map clause_of c.args.form.now.output.clauses.items ++ map canonical_literals cs) (sym named.clauses);
       origins =
-          c.in_ok-write_formula-in-Ok.ensures.origins
+          c.in_ok-write_formula-in-Ok-counted_with.ensures.origins
           ∙ ap (λ cs. c.args.form.now.output.origins.items ++ map (placed c.args.place) cs) (sym named.clauses);
       counted =
           counted-so n c.args.annotated.now m _ _ _ c.in_ok-matrix.field-0.measure c.named_matrix.new.naming.measure c.in_ok-measure.measure part defining
           c.args.form.now.counted c.in_ok-skolem.skolem _ named refl c.in_ok-matrix.ensures.work.measured c.in_ok-matrix.ensures.work.defining
-          c.in_ok-measure.ensures c.in-Ok-2.ensures.within c.in-Ok-2.ensures.total;
+          c.in_ok-measure.ensures c.in-Ok-counted_with.ensures.within c.in-Ok-counted_with.ensures.total;
       within =
           fault-so n c.args.annotated.now m _ _ _ c.in_ok-matrix.field-0.measure c.named_matrix.new.naming.measure c.in_ok-measure.measure part defining
           c.args.form.now.counted c.in_ok-skolem.skolem c.args.form.now.next None
           named refl c.in_ok-matrix.ensures.work.measured c.in_ok-matrix.ensures.work.defining c.in_ok-measure.ensures
           h.next (c.in_ok-skolem.ensures ∙ ap (λ xs. c.args.form.now.next + length xs) (c.as_slice.ensures.value ∙ (subst (IsMatrixOrCause c.args.form.now.signature c.args.annotated.now) c.in-Ok.is c.in_ok-made.ensures).1))
-          c.requires.expands c.in-Ok-2.ensures.within;
+          c.requires.expands c.in-Ok-counted_with.ensures.within;
     }

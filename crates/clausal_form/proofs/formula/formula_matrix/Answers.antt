@@ -13,7 +13,7 @@ use Rattle.signature.specs.declared.symbol.Symbol.{Symbol}
 use Rattle.skolem.specs.Skolemized.{AreKnown}
 use Rattle.skolem.proofs.AboutFormulas.ProblemLemmas.{normal_form_keeps_known_symbols}
 use Rattle.clausal_form.proofs.AboutNaming.NameLemmas.{closed-known}
-use Rattle.clausal_form.proofs.AboutCounts.PassingLemmas.{cause-of-form, heavy-form-of}
+use Rattle.clausal_form.proofs.AboutCounts.PassingLemmas.{heavy-form-of, heavy-matrix-of}
 use Rattle.clausal_form.proofs.formula.formula_matrix.Goals as goal
 
 -- the normal form has known symbols alone
@@ -35,10 +35,11 @@ cause_over_total-requires c =
       over = omega (arith, c.form_weight-weight.ensures.symbols);
     }
 
-pub returns-then-weight-is_heavy : goal.returns-then-weight-is_heavy
-returns-then-weight-is_heavy c =
-    heavy-form-of c.args.signature.now c.args.annotated.now _ _ c.in_ok-form.ensures c.form_weight-weight.ensures.heavy c.if-weight-is_heavy.true
+pub returns-then-weight : goal.returns-then-weight
+returns-then-weight c =
+    heavy-form-of c.args.signature.now c.args.annotated.now _ _ c.in_ok-form.ensures c.form_weight-weight.ensures.heavy c.if-weight.true
 
-pub returns-in_ok-cause_over_total : goal.returns-in_ok-cause_over_total
-returns-in_ok-cause_over_total c =
-    cause-of-form c.args.signature.now c.args.annotated.now _ _ c.in_ok-form.ensures c.in_ok-cause_over_total.ensures
+pub returns-then-is_heavy_matrix : goal.returns-then-is_heavy_matrix
+returns-then-is_heavy_matrix c =
+    heavy-matrix-of c.args.signature.now c.args.annotated.now _ _ _ c.in_ok-form.ensures c.in_ok-made.ensures.matrix c.is_heavy_matrix.ensures
+    c.if-is_heavy_matrix.true

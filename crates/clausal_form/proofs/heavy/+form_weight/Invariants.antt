@@ -1,4 +1,4 @@
-use Rattle.std.proofs.Common.{◌≡◌, ◌+◌, ◌*◌, ◌&&◌, ◌||◌, map, drop}
+use Rattle.std.proofs.Common.{◌≡◌, ◌≤◌, ◌+◌, ◌-◌, ◌*◌, ◌^◌, ◌&&◌, ◌||◌, map, drop}
 use Rattle.tptp_tree.specs.Formula.{formula_size, formulas_size, formulas_of}
 use Rattle.formula_nnf.specs.Shape.{nnf_tree}
 use Rattle.clausal_form.specs.Heavy.{some_form_has_clauses, all_forms_have_clauses, some_heavy_form, written_totals}
@@ -16,4 +16,5 @@ invariant-form_weights-loop-form l =
     ((l.weights.some || some_form_has_clauses (formulas_of (map nnf_tree (drop l.form-index l.forms)))) ≡ some_form_has_clauses (formulas_of (map nnf_tree l.forms)))
     × (((l.weights.all && all_forms_have_clauses (formulas_of (map nnf_tree (drop l.form-index l.forms)))) ≡ all_forms_have_clauses (formulas_of (map nnf_tree l.forms)))
     × (((l.weights.heavy || some_heavy_form (formulas_of (map nnf_tree (drop l.form-index l.forms)))) ≡ some_heavy_form (formulas_of (map nnf_tree l.forms)))
-    × (capped (l.weights.symbols + written_totals (formulas_of (map nnf_tree (drop l.form-index l.forms)))) ≡ capped (written_totals (formulas_of (map nnf_tree l.forms))))))
+    × ((capped (l.weights.symbols + written_totals (formulas_of (map nnf_tree (drop l.form-index l.forms)))) ≡ capped (written_totals (formulas_of (map nnf_tree l.forms))))
+    × (l.weights.symbols ≤ 2 ^ 64 - 1))))
