@@ -59,11 +59,7 @@ pub(crate) fn formula_matrix<'a>(
 
 /// Why there can be no form, where the literals have over `MOST_FORM_SYMBOLS` symbols together: which limit is passed first depends on how
 /// many arguments names have.
-fn cause_over_total<'a>(
-    alloc: Global,
-    form: &Nnf<'a>,
-    signature: &'a Signature,
-) -> Mem<FormCause>
+fn cause_over_total<'a>(alloc: Global, form: &Nnf<'a>, signature: &'a Signature) -> Mem<FormCause>
     requires known { AreKnown signature.now (formula_symbols (nnf_tree form.now)) }
     requires over { MOST_FORM_SYMBOLS < written_total (nnf_tree form.now) }
     ensures { IfOk result (λ cause. Passes cause (skolemized_form signature.now (nnf_tree form.now)).matrix) }
