@@ -3,7 +3,7 @@ use Rattle.std.proofs.Common.{◌≡◌, ◌≤◌, ℕ, zero, suc, List, [], �
 use Rattle.std.proofs.Math.Nat.{le-max_left}
 use Rattle.std.specs.List.{AllByRecursion}
 use Rattle.outside.specs.Library.{Holdings}
-use Rattle.tptp_tree.specs.declared.limits.TheConstants.{MOST_NESTING}
+use Rattle.tptp_tree.specs.declared.limits.TheConstants.{MOST_NESTING, MOST_PRINTED_NESTING}
 use Rattle.tptp_tree.specs.Formula.{FormulaTree, truth, falsity, predicate, equation, negation, conjunction, disjunction, connected, quantified}
 use Rattle.tptp_tree.specs.Spelling.{Atom, true_atom, false_atom, predicate_atom, equation_atom, atom_meant, UnitPhrase, negated, bound, in_brackets, atomic, unit_meant, Phrase, alone, all_of, some_of, joined_by, meant}
 use Rattle.tptp_tree.specs.Entries.{atom_of, LiteralPhrase, positive_literal, negated_literal, negated_in_brackets, literal_meant, ClausePhrase, literals, clause_in_brackets, clause_meant, Body, formula_body, clause_body, body_meant}
@@ -15,7 +15,7 @@ use Rattle.tptp_tree.specs.Shape.{entry_of}
 use Rattle.tptp_reader.specs.declared.entry.Read.{Read}
 use Rattle.tptp_reader.proofs.AboutTexts.PrintedLemmas.{reading-again}
 use Rattle.tptp_problem.specs.Formulas.{Placed}
-use Rattle.tptp_problem.specs.Levels.{HasFewLevels, negated_times, TooManyLevels}
+use Rattle.tptp_problem.specs.Levels.{HasFewLevels, negated_times, TooManyLevels, TooManyPrinted, PrintedWithin}
 use Rattle.tptp_problem.specs.Problem.{LoadedFile, tokens_of, IsProblem}
 use Rattle.tptp_problem.proofs.AboutReading.ConjectureLemmas.{all-hold}
 
@@ -89,3 +89,10 @@ written-negations levels n h = omega (arith, negations-times n, ap negations h.1
 pub too-many-levels : TooManyLevels
 too-many-levels h =
     let over : suc MOST_NESTING ≤ MOST_NESTING = written-negations MOST_NESTING (suc MOST_NESTING) h.written in omega (arith, over)
+
+pub printed-within : PrintedWithin
+printed-within f h = h.printed
+
+pub too-many-printed : TooManyPrinted
+too-many-printed text h =
+    let over : 1001 ≤ MOST_PRINTED_NESTING = omega (arith, negations-times 1001, ap negations h.2, phrase-negations h.0, h.3) in omega (arith, over)
