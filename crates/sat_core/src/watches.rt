@@ -18,6 +18,7 @@ use crate::trail::{Assigned, Trail};
 use crate::values::Values;
 use plain_types::{Mem, NameLit};
 use std::alloc::Global;
+use std::mem;
 
 /// The indices of two literals of a clause.
 #[derive(Clone, Copy)]
@@ -76,6 +77,8 @@ fn is_alone(trail: &Trail, literals: &[NameLit], alone: NameLit) -> bool
 #[derive(Drop)]
 pub struct Watches {
     pub lists: Vec<Vec<Watch>>,
+    /// The list that is gone through, taken out of those; else empty.
+    pub visited: Vec<Watch>,
     pub copies: Copies,
     /// Clauses without two different literals that haven't been looked at.
     pub units: Vec<Closed>,
@@ -94,6 +97,7 @@ impl Watches {
         }
         Ok(Watches {
             lists,
+            visited: Vec::new(alloc),
             copies: Copies::new(alloc),
             units: Vec::new(alloc),
             seen: 0,
@@ -117,37 +121,36 @@ impl Watches {
         Ok(())
     }
 
-    /// Changes an entry of a list.
-    fn change(&mut self, list: usize, index: usize, watch: Watch)
-        requires list { list < length self.old.lists.items }
+    /// Changes an entry of the list that is gone through.
+    fn change(&mut self, index: usize, watch: Watch)
         ensures lists { length self.new.lists.items ≡ length self.old.lists.items }
         ensures seen { self.new.seen ≡ self.old.seen }
     {
-        let list = &mut self.lists[list];
-        if index < list.len() {
-            list[index] = watch;
+        if index < self.visited.len() {
+            self.visited[index] = watch;
         }
     }
 
-    /// Moves an entry of one list to the list of the literal with a code.
-    fn move_watch(&mut self, list: usize, index: usize, literal: usize, watch: Watch) -> Mem<()>
-        requires list { list < length self.old.lists.items }
+    /// Moves an entry of the list that is gone through to the list of the literal with a code.
+    fn move_watch(&mut self, index: usize, literal: usize, watch: Watch) -> Mem<()>
         ensures lists { IfOk result (λ _. length self.new.lists.items ≡ length self.old.lists.items) }
         ensures seen { IfOk result (λ _. self.new.seen ≡ self.old.seen) }
     {
-        if literal < self.lists.len() {
-            let from = &mut self.lists[list];
-            if index < from.len() {
-                from.swap_remove(index);
-                self.lists[literal].push(watch)?;
-            }
+        if index < self.visited.len() && literal < self.lists.len() {
+            self.visited.swap_remove(index);
+            self.lists[literal].push(watch)?;
         }
         Ok(())
     }
 
     /// Looks at an entry of the list of a literal that has become false.
-    fn visit(&mut self, values: &Values, list: usize, index: usize, watch: Watch) -> Mem<Visited>
-        requires list { list < length self.old.lists.items }
+    fn visit(
+        &mut self,
+        values: &Values,
+        falsified: usize,
+        index: usize,
+        watch: Watch,
+    ) -> Mem<Visited>
         ensures lists { IfOk result (λ _. length self.new.lists.items ≡ length self.old.lists.items) }
         ensures seen { IfOk result (λ _. self.new.seen ≡ self.old.seen) }
     {
@@ -155,13 +158,13 @@ impl Watches {
             return Ok(Visited::Kept);
         }
         let start = watch.start;
-        match self.copies.look(values, start, list) {
+        match self.copies.look(values, start, falsified) {
             Look::True(other) => {
-                self.change(list, index, Watch { other, start });
+                self.change(index, Watch { other, start });
                 Ok(Visited::Kept)
             }
             Look::Moved(other, literal) => {
-                self.move_watch(list, index, literal, Watch { other, start })?;
+                self.move_watch(index, literal, Watch { other, start })?;
                 Ok(Visited::Moved)
             }
             Look::Closed(other) => {
@@ -169,6 +172,41 @@ impl Watches {
                 Ok(Visited::Closed(Closed { number, other }))
             }
         }
+    }
+
+    /// Goes through the list that is taken out, of the literal with a code that has become false; a clause all of whose literals are
+    /// false ends it.
+    fn visit_all(
+        &mut self,
+        clauses: &Clauses<'_>,
+        trail: &mut Trail,
+        falsified: usize,
+    ) -> Mem<Option<usize>>
+        requires sound { IsSound (known clauses.now) trail.old.entries.items trail.old.slots.items }
+        ensures propagates { IfOk result (λ _. Propagates (known clauses.now) trail.old.entries.items trail.old.slots.items
+            trail.new.entries.items trail.new.slots.items) }
+        ensures conflict { IfOk result (λ found. IfSome found (IsConflict (known clauses.now) trail.new.slots.items)) }
+        ensures lists { IfOk result (λ _. length self.new.lists.items ≡ length self.old.lists.items) }
+        ensures seen { IfOk result (λ _. self.new.seen ≡ self.old.seen) }
+    {
+        let mut index = 0;
+        for _ in 0..self.visited.len() {
+            if index >= self.visited.len() {
+                break;
+            }
+            let watch = self.visited[index];
+            match self.visit(&trail.values, falsified, index, watch)? {
+                Visited::Kept => index += 1,
+                Visited::Moved => {}
+                Visited::Closed(closed) => {
+                    if let Some(conflict) = settle(clauses, trail, closed)? {
+                        return Ok(Some(conflict));
+                    }
+                    index += 1;
+                }
+            }
+        }
+        Ok(None)
     }
 
     /// Looks at the clauses that watch a literal which has become false; a clause all of whose literals are false
@@ -188,25 +226,11 @@ impl Watches {
         ensures lists { IfOk result (λ _. length self.new.lists.items ≡ length self.old.lists.items) }
         ensures seen { IfOk result (λ _. self.new.seen ≡ self.old.seen) }
     {
-        let list = code(falsified);
-        let mut index = 0;
-        for _ in 0..self.lists[list].len() {
-            if index >= self.lists[list].len() {
-                break;
-            }
-            let watch = self.lists[list][index];
-            match self.visit(&trail.values, list, index, watch)? {
-                Visited::Kept => index += 1,
-                Visited::Moved => {}
-                Visited::Closed(closed) => {
-                    if let Some(conflict) = settle(clauses, trail, closed)? {
-                        return Ok(Some(conflict));
-                    }
-                    index += 1;
-                }
-            }
-        }
-        Ok(None)
+        let falsified = code(falsified);
+        mem::swap(&mut self.lists[falsified], &mut self.visited);
+        let conflict = self.visit_all(clauses, trail, falsified)?;
+        mem::swap(&mut self.lists[falsified], &mut self.visited);
+        Ok(conflict)
     }
 
     /// Looks at the clauses without two different literals.

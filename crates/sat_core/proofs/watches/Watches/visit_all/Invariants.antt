@@ -1,7 +1,7 @@
 use Rattle.std.proofs.Common.{◌≡◌, ◌≤◌, length}
 use Rattle.sat_core.specs.Search.{Propagates}
 use Rattle.sat_core.specs.Known.{known}
-use Rattle.sat_core.proofs.watches.Watches.visit_list.Given as goal
+use Rattle.sat_core.proofs.watches.Watches.visit_all.Given as goal
 
 abbrev pub invariant-loop : goal.invariant-loop
 invariant-loop l = record {

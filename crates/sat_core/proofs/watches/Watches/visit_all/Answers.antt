@@ -1,8 +1,8 @@
 use Rattle.std.proofs.Common.{◌∙◌, arith}
 use Rattle.sat_core.proofs.AboutTrails.PropagationLemmas.{propagates_then}
 use Rattle.sat_core.specs.Known.{known}
-use Rattle.sat_core.proofs.watches.Watches.visit_list.Goals as goal
-use Rattle.sat_core.proofs.watches.Watches.visit_list.Goals.{in-Kept, in-Moved, in-Closed+in_ok-conflict-in-Closed+in_default}
+use Rattle.sat_core.proofs.watches.Watches.visit_all.Goals as goal
+use Rattle.sat_core.proofs.watches.Watches.visit_all.Goals.{in-Kept, in-Moved, in-Closed+in_ok-conflict-in-Closed+in_default}
 
 pub loop-preserved : goal.loop-preserved
 loop-preserved c =
