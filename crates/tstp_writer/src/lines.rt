@@ -19,7 +19,6 @@ use crate::layout::{Layout, push_line_name};
 use crate::page::Page;
 use crate::script::Script;
 use crate::sources::push_source;
-use fol_base::Clause;
 use kernel_steps::{Line, Step};
 use plain_types::Mem;
 use std::alloc::Global;
@@ -146,13 +145,12 @@ pub(crate) fn push_clause_line(
         (step_source (script_in script.entry) layout.now line.now.step))) }
 {
     push_head(page, true, number, Role::Plain)?;
-    let Clause { literals, names } = &line.clause;
     push_clause(
         page,
         script.symbols,
         script.prefix,
-        literals,
-        names.as_slice(),
+        &line.clause.literals,
+        line.clause.names.as_slice(),
     )?;
     page.bytes(b",")?;
     push_source(page, script, layout, &line.step)?;

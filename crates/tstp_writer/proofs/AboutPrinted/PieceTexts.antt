@@ -62,7 +62,9 @@ first_and_rest (y ∷ ys) x h = ap (λ z. z ∷ ys) (same_Some y x h)
 pub drop-there : {X : Type 0} (xs : List X) (i : ℕ) (x : X) → slice_get xs i ≡ Some x → drop i xs ≡ x ∷ drop (i + 1) xs
 drop-there [] i x h = absurd (none-some x h)
 drop-there (y ∷ ys) zero x h = ap (λ z. z ∷ ys) (same_Some y x h)
-drop-there (y ∷ ys) (suc i) x h = drop-there ys i x h
+drop-there (y ∷ ys) (suc i) x h =
+    let next : suc (i + 1) ≡ suc i + 1 = omega arith in
+    drop-there ys i x h ∙ ap (λ n. x ∷ drop n (y ∷ ys)) next
 
 -- an item of a mapped list, and none past its end
 pub item_there :
