@@ -1,4 +1,4 @@
-// Solves the clauses of files in the DIMACS form: `solving FILE ..`. It prints what each file is answered with. It stands as `src/main.rt`
+// Solves the clauses of files in the DIMACS form, without comment lines: `solving FILE ..`. It prints what each file is answered with. It stands as `src/main.rt`
 // in a crate over `plain_types` and `sat_core`.
 #![tactic(auto)]
 

@@ -1,4 +1,5 @@
-// The tests of the bank of terms, of its clauses and of the parts of clauses. They stand apart, since a crate with tests is proved twice, with them and without.
+// The tests of the bank of terms, of its clauses and of the parts of clauses. They stand apart, since a crate with tests is proved twice,
+// with them and without.
 #![tactic(auto)]
 
 #[cfg(test)]

@@ -17,7 +17,9 @@ use Rattle.tptp_source.specs.Sources.{SourceTree, file_source}
 use Rattle.clausal_form.specs.DerivationClause.{is_written_clause, name_number, symbols_in}
 use Rattle.clausal_form.specs.DerivationItems.{only_one, plain_word, row_arguments}
 use Rattle.clausal_form.specs.DerivationSteps.{LineKind, input_kind, negate_kind, clausify_kind, component_kind, opposite_kind, bindings_count, of_number, rule_step}
-use Rattle.clausal_form.specs.DerivationLine.{LineTree, same_formula, same_entry, entry_of, kernel_line, NamedLine, Taken, kernel_lines}
+use Rattle.clausal_form.specs.DerivationLine.{LineTree, same_formula, same_entry, NamedLine, Taken, kernel_lines}
+use Rattle.tptp_tree.specs.Shape.{entry_of}
+use Rattle.kernel_steps.specs.FromTrees.{line_of}
 use Rattle.clausal_form.specs.DerivationParts.{Setting, entry_at, line_kind, items_of, parent_places, parents_of, parent_lines, only_parent_step, line_names, line_literals, all_bound, line_clause, line_bindings}
 
 -- Why a line is refused, in the order in which it is asked.
@@ -194,11 +196,11 @@ pub data LineVerdict : Type 0 where
 abbrev pub compared : Setting → Taken → LineTree → Given → LineVerdict
 compared s e t (fault cause) = refused cause
 compared s e t (gives_formula step f) =
-    if same_formula f (t.entry).formula then taken (kernel_line step empty_clause) else refused conclusion
+    if same_formula f (t.entry).formula then taken (line_of step empty_clause) else refused conclusion
 compared s e t (gives_clause step c) =
     if not (clause_eq c (line_clause s e t)) then refused conclusion
     else if has_new_symbol s e t || is_old_name s e (line_kind t) then refused new_symbol
-    else taken (kernel_line step c)
+    else taken (line_of step c)
 
 -- the causes in their order
 abbrev pub line_verdict : Setting → Taken → LineTree → LineVerdict

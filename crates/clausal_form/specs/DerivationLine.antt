@@ -2,16 +2,8 @@
 use mathlib.Core.Bool.{beq}
 use Rattle.std.specs.Prelude.{ℕ, Bool, true, false, ◌&&◌, List, [], ◌∷◌, ◌++◌, map, bytes_eq, if◌then◌else◌}
 use Rattle.std.specs.List.{list_any}
-use Rattle.fol_base.specs.Tree.{Tree, variable, application, list_of}
-use Rattle.fol_base.specs.Clause.{TreeLiteral, TreeClause}
-use Rattle.fol_base.specs.declared.term.Term.{Term}
-use Rattle.fol_base.specs.declared.term.Term.TheVariants.{Var, App}
-use Rattle.fol_base.specs.declared.clause.Literal.{Literal}
-use Rattle.tptp_tree.specs.Shape.{formula_of}
 pub use Rattle.tptp_tree.specs.Equality.{same_term, same_terms, same_formula}
 use Rattle.tptp_tree.specs.Entries.{AnnotatedTree, role_word}
-use Rattle.tptp_tree.specs.declared.problem.Annotated.{Annotated}
-use Rattle.kernel_steps.specs.declared.step.Step.{Step}
 use Rattle.kernel_steps.specs.declared.step.Line.{Line}
 use Rattle.tptp_source.specs.Sources.{SourceTree}
 use Rattle.clausal_form.specs.DerivationSteps.{LineKind, component_kind, kind_of}
@@ -29,21 +21,7 @@ same_entry a b =
     bytes_eq a.name b.name
     && (bytes_eq (role_word a.role) (role_word b.role) && (beq a.is_clause b.is_clause && same_formula a.formula b.formula))
 
--- a formula of a problem
-abbrev pub entry_of : Annotated → AnnotatedTree
-entry_of a = record { name = a.name; role = a.role; is_clause = a.clause; formula = formula_of a.formula }
-
 -- ---- lines as the kernel has them
-
-abbrev pub kernel_term : Tree → Term
-kernel_term (variable v) = Var v
-kernel_term (application f ts) = App f (list_of ts)
-
-abbrev pub kernel_literal : TreeLiteral → Literal
-kernel_literal l = record { positive = l.positive; left = kernel_term l.left; right = kernel_term l.right }
-
-abbrev pub kernel_line : Step → TreeClause → Line
-kernel_line step c = record { step = step; clause = record { literals = map kernel_literal c.literals; names = c.names } }
 
 pub record NamedLine : Type 0 where
   pub name : List ℕ

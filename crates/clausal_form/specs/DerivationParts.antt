@@ -15,7 +15,8 @@ use Rattle.tptp_source.specs.Sources.{SourceTree, inference_source}
 use Rattle.clausal_form.specs.DerivationClause.{ordinary_literals, Numbering, numbering, term_by, clause_by}
 use Rattle.clausal_form.specs.DerivationItems.{only_one, bindings_in}
 use Rattle.clausal_form.specs.DerivationSteps.{LineKind, kind_of, bindings_count}
-use Rattle.clausal_form.specs.DerivationLine.{LineTree, entry_of, NamedLine, Taken, kernel_lines, names_with}
+use Rattle.clausal_form.specs.DerivationLine.{LineTree, NamedLine, Taken, kernel_lines, names_with}
+use Rattle.tptp_tree.specs.Shape.{entry_of}
 
 -- a problem with its clausal form
 pub record Setting : Type 0 where

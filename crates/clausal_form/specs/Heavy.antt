@@ -1,6 +1,6 @@
--- Literals of over MOST_SYMBOLS symbols in the clauses of a matrix, and of a normal form as it is written. A product with a member that has no
--- clauses has none itself, and so no such literal.
-use Rattle.std.specs.Prelude.{◌+◌, nat_lt, Bool, true, false, ◌&&◌, ◌||◌}
+-- Literals of over MOST_SYMBOLS symbols in the clauses of a matrix, and of a normal form as it is written; and the symbols of a normal form's
+-- literals together. A product with a member that has no clauses has none itself, and so no such literal.
+use Rattle.std.specs.Prelude.{ℕ, ◌+◌, nat_lt, min, Bool, true, false, ◌&&◌, ◌||◌, if◌then◌else◌}
 use Rattle.tptp_tree.specs.Term.{term_size, terms_size}
 use Rattle.tptp_tree.specs.Formula.{FormulaTree, truth, falsity, predicate, equation, negation, conjunction, disjunction, connected, quantified, FormulaTrees, no_formulas, formula_then}
 use Rattle.fol_base.specs.Clause.{literal_size}
@@ -58,3 +58,20 @@ abbrev mutual
   pub some_heavy_form : FormulaTrees → Bool
   some_heavy_form no_formulas = false
   some_heavy_form (formula_then f fs) = heavy_form f || some_heavy_form fs
+
+-- The symbols of the literals in a normal form's clauses, where those of one are counted no further than one over the limit.
+abbrev mutual
+  pub written_total : FormulaTree → ℕ
+  written_total truth = 0
+  written_total falsity = 0
+  written_total (predicate p ts) = min (2 + terms_size ts) (MOST_SYMBOLS + 1)
+  written_total (equation positive s t) = min (term_size s + term_size t) (MOST_SYMBOLS + 1)
+  written_total (negation f) = if is_predicate f then written_total f else 0
+  written_total (conjunction fs) = written_totals fs
+  written_total (disjunction fs) = if all_forms_have_clauses fs then written_totals fs else 0
+  written_total (connected c f g) = 0
+  written_total (quantified q xs f) = written_total f
+
+  pub written_totals : FormulaTrees → ℕ
+  written_totals no_formulas = 0
+  written_totals (formula_then f fs) = written_total f + written_totals fs

@@ -97,8 +97,9 @@ fn add_clauses<'a>(
         → IsRefusal n annotated.now m form.old.counted fault) }
 {
     let made = formula_matrix(alloc, annotated, names, &form.signature)?;
-    let Some(Skolemized { matrix, arities }) = made else {
-        return Err(refused(alloc, FormCause::TooHeavy, annotated));
+    let Skolemized { matrix, arities } = match made {
+        Ok(made) => made,
+        Err(cause) => return Err(refused(alloc, cause, annotated)),
     };
     let skolem = sum_of(form.next, arities.as_slice().len())?;
     let so_far = mem::replace(&mut form.naming.arities, Vec::new(alloc));

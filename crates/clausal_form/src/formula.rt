@@ -1,49 +1,73 @@
 // One formula of a problem: its matrix, and the writing of its clauses.
 
-ghost use Rattle.std.specs.Prelude.{◌≡◌, ◌++◌, map, IfOk};
+ghost use Rattle.std.specs.Prelude.{◌≡◌, ◌<◌, ◌++◌, map, IfOk};
 ghost use Rattle.tptp_tree.specs.Shape.{formula_of};
 ghost use Rattle.fol_base.specs.Literal.{clause_of};
 ghost use Rattle.signature.specs.Occurrences.{formula_symbols};
 ghost use Rattle.signature.specs.Clausal.{canonical_literals};
 ghost use Rattle.signature.specs.Environment.{closed, under_for_all};
 ghost use Rattle.skolem.specs.Shape.{matrix_tree};
-ghost use Rattle.skolem.specs.Skolemized.{AreKnown};
+ghost use Rattle.formula_nnf.specs.Shape.{nnf_tree};
+ghost use Rattle.skolem.specs.Skolemized.{AreKnown, skolemized_form};
+ghost use Rattle.fol_base.specs.declared.limits.TheConstants.{MOST_FORM_SYMBOLS};
 ghost use Rattle.clausal_form.specs.Agenda.{placed};
-ghost use Rattle.clausal_form.specs.Formula.{IsMatrixOrHeavy, definitions_clauses};
+ghost use Rattle.clausal_form.specs.Formula.{IsMatrixOrCause, Passes, definitions_clauses};
+ghost use Rattle.clausal_form.specs.Heavy.{written_total};
 ghost use Rattle.clausal_form.specs.Naming.{definition_clauses};
 ghost use Rattle.clausal_form.specs.Written.{written};
 
 use crate::closing::closed_form;
-use crate::heavy::{is_heavy_form, is_heavy_matrix};
+use crate::fault::FormCause;
+use crate::heavy::{form_weight, is_heavy_matrix};
 use crate::naming::Definition;
 use crate::writing::{Agenda, Output, write_matrix};
+use fol_base::{MOST_FORM_SYMBOLS, MOST_SYMBOLS};
+use formula_nnf::Nnf;
 use plain_types::{Mem, Texts};
 use signature::Signature;
-use skolem::{Matrix, Skolemized, skolemize};
+use skolem::{Matrix, Skolemized, largest_clause, skolemize};
 use std::alloc::Global;
 use tptp_tree::Annotated;
 
-/// The matrix of a formula under its closing names, and its Skolem symbols by their numbers of arguments. None where a literal in its clauses
-/// has over `MOST_SYMBOLS` symbols: where it has them as it is written, nothing is made of the normal form.
+/// The matrix of a formula under its closing names, and its Skolem symbols by their numbers of arguments; or why there can be no form, where a
+/// literal in its clauses has over `MOST_SYMBOLS` symbols, or all together have over `MOST_FORM_SYMBOLS`. Where they have them as they are
+/// written, no literal is kept.
 pub(crate) fn formula_matrix<'a>(
     alloc: Global,
     annotated: &'a Annotated,
     names: &'a Texts,
     signature: &'a Signature,
-) -> Mem<Option<Skolemized<'a>>>
+) -> Mem<Result<Skolemized<'a>, FormCause>>
     requires closing { under_for_all names.now (formula_of annotated.now.formula) ≡ closed annotated.now }
     requires known { AreKnown signature.now (formula_symbols (formula_of annotated.now.formula)) }
-    ensures { IfOk result (λ made. IsMatrixOrHeavy signature.now annotated.now made) }
+    ensures { IfOk result (λ made. IsMatrixOrCause signature.now annotated.now made) }
 {
     let form = closed_form(alloc, annotated, names)?;
-    if is_heavy_form(&form) {
-        return Ok(None);
+    let weight = form_weight(&form);
+    if weight.is_heavy {
+        return Ok(Err(FormCause::TooHeavy));
+    }
+    if weight.symbols > MOST_FORM_SYMBOLS {
+        return Ok(Err(cause_over_total(alloc, &form, signature)?));
     }
     let made = skolemize(alloc, &form, signature)?;
     if is_heavy_matrix(&made.matrix) {
-        return Ok(None);
+        return Ok(Err(FormCause::TooHeavy));
     }
-    Ok(Some(made))
+    Ok(Ok(made))
+}
+
+/// Why there can be no form, where the literals have over `MOST_FORM_SYMBOLS` symbols together: which limit is passed first depends on how
+/// many arguments names have.
+fn cause_over_total<'a>(alloc: Global, form: &Nnf<'a>, signature: &'a Signature) -> Mem<FormCause>
+    requires known { AreKnown signature.now (formula_symbols (nnf_tree form.now)) }
+    requires over { MOST_FORM_SYMBOLS < written_total (nnf_tree form.now) }
+    ensures { IfOk result (λ cause. Passes cause (skolemized_form signature.now (nnf_tree form.now)).matrix) }
+{
+    if largest_clause(alloc, form, signature)? > MOST_SYMBOLS {
+        return Ok(FormCause::TooHeavy);
+    }
+    Ok(FormCause::TotalLimit)
 }
 
 /// A matrix without large products, and the definitions of its names.

@@ -1,8 +1,10 @@
-// Literals that are too heavy, found before anything is made of them. A literal of over `MOST_SYMBOLS` symbols makes each clause that it
-// stands in too heavy, so a formula is refused where one stands in a part that has clauses. It is asked twice: of the normal form, where a
-// variable counts as one symbol and no term is read further than the limit, and of the matrix, where the sizes of the Skolem terms are known.
+// Literals that are too heavy, alone or together, found before anything is made of them. A literal of over `MOST_SYMBOLS` symbols makes each
+// clause that it stands in too heavy, so a formula is refused where one stands in a part that has clauses. It is asked twice: of the normal
+// form, where a variable counts as one symbol and no term is read further than the limit, and of the matrix, where the sizes of the Skolem
+// terms are known. And each literal of such a part stands in a clause, so a formula is refused too where they are over `MOST_FORM_SYMBOLS`
+// together, as they are written.
 
-ghost use Rattle.std.specs.Prelude.{◌≡◌, ◌≤◌, ◌+◌, true, false, not, ◌&&◌, ◌||◌, min, map, nat_lt};
+ghost use Rattle.std.specs.Prelude.{◌≡◌, ◌≤◌, ◌+◌, true, false, not, ◌&&◌, ◌||◌, min, map, nat_lt, if◌then◌else◌};
 ghost use Rattle.tptp_tree.specs.Term.{term_size, terms_size, terms_of};
 ghost use Rattle.tptp_tree.specs.Shape.{term_of};
 ghost use Rattle.tptp_tree.specs.Formula.{formulas_of};
@@ -11,7 +13,8 @@ ghost use Rattle.formula_nnf.specs.Shape.{nnf_tree};
 ghost use Rattle.skolem.specs.Matrix.{matrices_of};
 ghost use Rattle.skolem.specs.Shape.{matrix_tree};
 ghost use Rattle.clausal_form.specs.Occurring.{has_clauses, some_have_clauses, all_have_clauses};
-ghost use Rattle.clausal_form.specs.Heavy.{heavy_matrix, some_heavy, form_has_clauses, some_form_has_clauses, all_forms_have_clauses, heavy_form, some_heavy_form};
+ghost use Rattle.clausal_form.specs.Heavy.{heavy_matrix, some_heavy, form_has_clauses, some_form_has_clauses, all_forms_have_clauses, heavy_form, some_heavy_form, written_total, written_totals};
+ghost use Rattle.formula_nnf.specs.CappedCount.{capped};
 
 use fol_base::MOST_SYMBOLS;
 use formula_nnf::Nnf;
@@ -21,26 +24,22 @@ use tptp_tree::TreeTerm;
 /// The symbols of a predicate's literal beside its arguments: the predicate and `$true`.
 const ATOM_SYMBOLS: u64 = 2;
 
-/// What is asked of a form or a matrix: whether it has clauses, and whether a literal that is too heavy stands in one of them.
+/// What is asked of a form or a matrix: whether it has clauses, whether a literal that is too heavy stands in one of them, and the symbols of
+/// the literals in them, stopping at u64's last value.
 #[derive(Clone, Copy)]
-struct Weight {
-    has_clauses: bool,
-    is_heavy: bool,
+pub(crate) struct Weight {
+    pub has_clauses: bool,
+    pub is_heavy: bool,
+    pub symbols: u64,
 }
 
-/// The same of several: whether some have clauses, whether all have, and whether one is heavy.
+/// The same of several: whether some have clauses, whether all have, whether one is heavy, and their symbols together.
 #[derive(Clone, Copy)]
 struct Weights {
     some: bool,
     all: bool,
     heavy: bool,
-}
-
-/// Whether a literal that is too heavy, as it is written, stands in the clauses of a normal form.
-pub(crate) fn is_heavy_form(form: &Nnf<'_>) -> bool
-    ensures { result ≡ heavy_form (nnf_tree form.now) }
-{
-    form_weight(form).is_heavy
+    symbols: u64,
 }
 
 /// Whether a literal that is too heavy stands in the clauses of a matrix.
@@ -50,10 +49,12 @@ pub(crate) fn is_heavy_matrix(matrix: &Matrix<'_>) -> bool
     matrix_weight(matrix).is_heavy
 }
 
+/// The weight of a normal form, of its literals as they are written: at most one symbol over the limit is counted of each.
 #[cycle(form_weight)]
-fn form_weight(form: &Nnf<'_>) -> Weight
+pub(crate) fn form_weight(form: &Nnf<'_>) -> Weight
     ensures clauses { result.has_clauses ≡ form_has_clauses (nnf_tree form.now) }
     ensures heavy { result.is_heavy ≡ heavy_form (nnf_tree form.now) }
+    ensures symbols { result.symbols ≡ capped (written_total (nnf_tree form.now)) }
 {
     match form {
         Nnf::True => constant(true),
@@ -75,6 +76,7 @@ fn form_weights(forms: &[Nnf<'_>]) -> Weights
     ensures some { result.some ≡ some_form_has_clauses (formulas_of (map nnf_tree forms.now)) }
     ensures all { result.all ≡ all_forms_have_clauses (formulas_of (map nnf_tree forms.now)) }
     ensures heavy { result.heavy ≡ some_heavy_form (formulas_of (map nnf_tree forms.now)) }
+    ensures symbols { result.symbols ≡ capped (written_totals (formulas_of (map nnf_tree forms.now))) }
 {
     let mut weights = NO_MEMBERS;
     for form in forms {
@@ -114,17 +116,20 @@ const NO_MEMBERS: Weights = Weights {
     some: false,
     all: true,
     heavy: false,
+    symbols: 0,
 };
 
 fn with_member(weights: Weights, member: Weight) -> Weights
     ensures some { result.some ≡ (weights.some || member.has_clauses) }
     ensures all { result.all ≡ (weights.all && member.has_clauses) }
     ensures heavy { result.heavy ≡ (weights.heavy || member.is_heavy) }
+    ensures symbols { result.symbols ≡ capped (weights.symbols + member.symbols) }
 {
     Weights {
         some: weights.some || member.has_clauses,
         all: weights.all && member.has_clauses,
         heavy: weights.heavy || member.is_heavy,
+        symbols: weights.symbols.saturating_add(member.symbols),
     }
 }
 
@@ -132,10 +137,12 @@ fn with_member(weights: Weights, member: Weight) -> Weights
 fn listed(members: Weights) -> Weight
     ensures clauses { result.has_clauses ≡ members.some }
     ensures heavy { result.is_heavy ≡ members.heavy }
+    ensures symbols { result.symbols ≡ members.symbols }
 {
     Weight {
         has_clauses: members.some,
         is_heavy: members.heavy,
+        symbols: members.symbols,
     }
 }
 
@@ -143,10 +150,12 @@ fn listed(members: Weights) -> Weight
 fn multiplied(members: Weights) -> Weight
     ensures clauses { result.has_clauses ≡ members.all }
     ensures heavy { result.is_heavy ≡ (members.all && members.heavy) }
+    ensures symbols { result.symbols ≡ (if members.all then members.symbols else 0) }
 {
     Weight {
         has_clauses: members.all,
         is_heavy: members.all && members.heavy,
+        symbols: if members.all { members.symbols } else { 0 },
     }
 }
 
@@ -154,10 +163,12 @@ fn multiplied(members: Weights) -> Weight
 fn constant(positive: bool) -> Weight
     ensures clauses { result.has_clauses ≡ not positive }
     ensures heavy { result.is_heavy ≡ false }
+    ensures symbols { result.symbols ≡ 0 }
 {
     Weight {
         has_clauses: !positive,
         is_heavy: false,
+        symbols: 0,
     }
 }
 
@@ -165,10 +176,12 @@ fn constant(positive: bool) -> Weight
 fn literal_weight(size: u64) -> Weight
     ensures clauses { result.has_clauses ≡ true }
     ensures heavy { result.is_heavy ≡ nat_lt MOST_SYMBOLS size }
+    ensures symbols { result.symbols ≡ size }
 {
     Weight {
         has_clauses: true,
         is_heavy: size > MOST_SYMBOLS,
+        symbols: size,
     }
 }
 

@@ -24,7 +24,7 @@ use Rattle.kernel_steps.specs.declared.step.TheConstants.{CLAUSE_NUMBERS}
 use Rattle.calculus.specs.Lifting.{among, IsMember}
 use Rattle.pool_core.specs.Batches.{is_told_beside, told_clauses, IsReducedBeside, IsRightGone}
 use Rattle.pool_core.specs.Inputs.{IsRightBatch}
-use Rattle.pool_core.specs.Lines.{line_of, written}
+use Rattle.kernel_steps.specs.FromTrees.{line_of, clause_from}
 use Rattle.pool_core.specs.Record.{GivenJob, clauses_of}
 use Rattle.pool_core.specs.Reduction.{Lookup, HaveSymbolsOf, clauses_used, handed_back, same_numbers}
 use Rattle.pool_core.specs.Replay.{Origin, replay}
@@ -116,13 +116,13 @@ module _ (p : ℕ → Bool) (options : Options) (clauses : Lookup) (j : GivenJob
       → IsNumbered the_line
       → HaveSymbolsOf (told_clauses p options clauses j) (the_line ∷ [])
       → IsTrue (same_numbers [] (clauses_used j.number (the_line ∷ [])))
-      → clause_of (written (clause rest)) ≡ clause rest
+      → clause_of (clause_from (clause rest)) ≡ clause rest
       → clause rest ≡ canonical_clause (clause rest)
       → IsTrue (list_all has_small_terms (the_line ∷ []))
       → clause rest ∷ [] ≡ handed_back options.split (clause rest)
       → IsReducedBeside p options clauses j j.number (clause rest)
       → IsRightGone p options clauses j
-      (record { victim = j.number; justifiers = []; fate = Kept (the_line ∷ []) (written (clause rest) ∷ []) })
+      (record { victim = j.number; justifiers = []; fate = Kept (the_line ∷ []) (clause_from (clause rest) ∷ []) })
   resolved-goes there gives concluded numbered symbols justified same canonical small given irreducible = record {
     victim = refl;
     right =

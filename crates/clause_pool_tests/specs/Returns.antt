@@ -5,7 +5,7 @@ use Rattle.fol_base.specs.Examples.{a, b, r, clause}
 use Rattle.fol_base.specs.Rules.{disequation}
 use Rattle.kernel_steps.specs.declared.step.Step.TheVariants.{Refl}
 use Rattle.literal_selection.specs.declared.choice.Selection.TheVariants.{Negative}
-use Rattle.pool_core.specs.Lines.{written, line_of}
+use Rattle.kernel_steps.specs.FromTrees.{clause_from, line_of}
 use Rattle.pool_core.specs.Replay.{Origin}
 use Rattle.pool_core.specs.declared.batch.Batch.{Batch}
 use Rattle.pool_core.specs.declared.batch.Fate.TheVariants.{Kept}
@@ -30,7 +30,7 @@ resolved job victim literal rest =
     (Gone (record {
       victim = victim;
       justifiers = [];
-      fate = Kept (line_of (Refl victim literal []) (clause rest) ∷ []) (written (clause rest) ∷ []);
+      fate = Kept (line_of (Refl victim literal []) (clause rest) ∷ []) (clause_from (clause rest) ∷ []);
     }))
 
 -- a != a

@@ -5,7 +5,7 @@ ghost use Rattle.fol_base.specs.Examples.{r};
 ghost use Rattle.fol_base.specs.Rules.{disequation};
 ghost use Rattle.fol_base.specs.Tree.{application, no_trees};
 ghost use Rattle.kernel_steps.specs.declared.step.Step.TheVariants.{Refl};
-ghost use Rattle.pool_core.specs.Lines.{written_literal};
+ghost use Rattle.kernel_steps.specs.FromTrees.{literal_from};
 ghost use Rattle.pool_core.specs.declared.batch.Fate.TheVariants.{Kept};
 ghost use Rattle.pool_core.specs.declared.batch.Work.TheVariants.{Gone};
 
@@ -24,7 +24,7 @@ const R: u32 = 8;
 
 /// The atom `r`.
 pub(crate) fn atom(alloc: Global) -> Literal
-    ensures { result ≡ written_literal r }
+    ensures { result ≡ literal_from r }
 {
     Literal {
         positive: true,
@@ -35,7 +35,7 @@ pub(crate) fn atom(alloc: Global) -> Literal
 
 /// A constant is different from itself.
 pub(crate) fn unequal_to_itself(alloc: Global, constant: u32) -> Literal
-    ensures { result ≡ written_literal (disequation (application constant no_trees) (application constant no_trees)) }
+    ensures { result ≡ literal_from (disequation (application constant no_trees) (application constant no_trees)) }
 {
     Literal {
         positive: false,

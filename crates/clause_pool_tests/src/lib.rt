@@ -1,5 +1,5 @@
-// The tests of the pool of clauses. They stand apart, since a crate with tests is proved twice, with them and without. That a batch is void or
-// stale, and that a return removes clauses, is tested with batches that were worked out, in `work_tests`.
+// The tests of the pool of clauses. They stand apart, since a crate with tests is proved twice, with them and without. That a batch is
+// void or stale, and that a return removes clauses, is tested with batches that were worked out, in `work_tests`.
 #![tactic(auto)]
 
 #[cfg(test)]

@@ -15,7 +15,7 @@ use Rattle.kernel_steps.specs.declared.step.Line.{Line}
 use Rattle.unifier.specs.Laws.{AreFunctionPairs}
 use Rattle.unifier.specs.Matching.{are_below, by_pairs, HasPairs}
 use Rattle.subsume.specs.Kinds.{TurnsInto, are_alike}
-use Rattle.cutting.specs.Removing.{own_terms}
+use Rattle.kernel_steps.specs.Lines.{own_terms}
 use Rattle.cutting.specs.Superposing.{IsSuperposed}
 use Rattle.cutting.specs.declared.cutting.Cut.{Cut}
 use Rattle.cutting.specs.declared.matching.Fitting.{Fitting}

@@ -1,22 +1,19 @@
 -- Lines by which one literal of a clause goes.
 use Rattle.std.specs.Prelude.{◌≡◌, ℕ, ◌<◌, Bool, true, not, ◌&&◌, List, [], map, flat_map, false, length, remove, slice_get, Option, None, Some, is_some}
-use Rattle.fol_base.specs.Tree.{Tree, variable, tree_eq, trees_of, trees_variables}
+use Rattle.fol_base.specs.Tree.{Tree, tree_eq, trees_of, trees_variables}
 use Rattle.fol_base.specs.Instance.{instance, substitution}
-use Rattle.fol_base.specs.Clause.{TreeLiteral, TreeClause, clause_variables, literal_variables}
+use Rattle.fol_base.specs.Clause.{TreeLiteral, TreeClause, literal_variables}
 use Rattle.fol_base.specs.Ground.{literals_instance}
-use Rattle.fol_base.specs.Canonical.{bound_of, renaming, terms_from}
+use Rattle.fol_base.specs.Canonical.{renaming}
 use Rattle.fol_base.specs.Literal.{clause_of}
 use Rattle.fol_base.specs.Numbering.{with_variables}
 use Rattle.fol_base.specs.Order.{equivalent_literals}
 use Rattle.fol_base.specs.Rules.{resolved, merged}
+use Rattle.kernel_steps.specs.Lines.{own_terms}
 use Rattle.kernel_steps.specs.declared.step.Line.{Line}
 use Rattle.kernel_steps.specs.declared.step.Step.{Step}
 use Rattle.eq_rules.specs.Concluding.{GivesNumbered}
 use Rattle.cutting.specs.declared.dropping.EqualPlaces.{EqualPlaces}
-
--- the variables of a clause as terms, by their numbers
-abbrev pub own_terms : TreeClause → List Tree
-own_terms c = terms_from 0 (bound_of (clause_variables c)) variable
 
 -- The variables of a clause by new numbers: as they are met first in some of its literals, and then in the whole.
 pub record AreRenumbered (c : TreeClause) (plain : List TreeLiteral) (bind : List Tree) : Type 0 where

@@ -9,7 +9,7 @@ ghost use Rattle.kernel_steps.specs.Names.{sorted_names};
 ghost use Rattle.bank_clause.specs.Clause.{clause_at, IsMemberOf};
 ghost use Rattle.cutting.specs.Cutting.{fitting_side, open_side, opposite_side};
 ghost use Rattle.cutting.specs.CutSteps.{AreLinesOfCut, IsCutOf, IsFirstLineOf, before_last_variables};
-ghost use Rattle.cutting.specs.Removing.{own_terms};
+ghost use Rattle.kernel_steps.specs.Lines.{own_terms};
 
 use crate::cutting::Cut;
 use crate::removing::{own_terms, trivial_line};

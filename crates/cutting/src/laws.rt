@@ -6,14 +6,13 @@ ghost use Rattle.fol_base.specs.Examples.{x, a, b, c, p, clause, equation};
 ghost use Rattle.fol_base.specs.Rules.{disequation};
 ghost use Rattle.fol_base.specs.declared.clause.Side.TheVariants.{Left, Right};
 ghost use Rattle.cutting.specs.Cutting.{before_last, fitting_side, last_index, may_fit, open_side, turned, unsolvable};
-ghost use Rattle.cutting.specs.Removing.{is_trivial, own_terms, plain_without};
+ghost use Rattle.cutting.specs.Removing.{is_trivial, plain_without};
 
 /// Literals that come into question for a cut, and not `$true = $true`; what stands before a literal goes, where the unit's literal is
 /// positive and where it isn't.
 pub fn cutting_examples()
     ensures no_solution { IsTrue (is_trivial (disequation a a)) }
     ensures solution { IsFalse (is_trivial (disequation a b)) }
-    ensures own { own_terms (clause (equation (x 0) (x 1) ∷ [])) ≡ x 0 ∷ x 1 ∷ [] }
     ensures left { plain_without (clause (disequation a a ∷ p (x 0) ∷ [])) 0 ≡ p (x 0) ∷ [] }
     ensures may_fit { IsTrue (may_fit (p (x 0)) (p a)) }
     ensures no_truths { IsFalse (may_fit (equation true_tree true_tree) (equation true_tree true_tree)) }

@@ -6,7 +6,8 @@ ghost use Rattle.fol_base.specs.Literal.{clause_of};
 ghost use Rattle.fol_base.specs.Rules.{resolved, merged};
 ghost use Rattle.kernel_steps.specs.Names.{sorted_names};
 ghost use Rattle.kernel_steps.specs.declared.step.Step.TheVariants.{Refl, Merge};
-ghost use Rattle.cutting.specs.Removing.{AreEqualAt, AreRenumbered, IsOwnStep, IsTrivialAt, own_terms, plain_without};
+ghost use Rattle.cutting.specs.Removing.{AreEqualAt, AreRenumbered, IsOwnStep, IsTrivialAt, plain_without};
+ghost use Rattle.kernel_steps.specs.Lines.{own_terms};
 
 use eq_rules::{Renumbering, number_literals, renamed_terms};
 use fol_base::{Clause, LendsLiterals, Literals, Terms};

@@ -1,11 +1,12 @@
 -- One rewriting step, as a line.
 use Rattle.std.specs.Prelude.{◌≡◌, ℕ, List, [], ◌++◌, map, flat_map, Option, Some}
-use Rattle.fol_base.specs.Tree.{Tree, variable, trees_of, trees_variables}
+use Rattle.fol_base.specs.Tree.{Tree, trees_of, trees_variables}
 use Rattle.fol_base.specs.Instance.{instance}
 use Rattle.fol_base.specs.Clause.{TreeClause, literal_variables, clause_variables}
 use Rattle.fol_base.specs.Canonical.{bound_of, terms_from, renaming, canonical_clause}
 use Rattle.fol_base.specs.Numbering.{with_variables}
 use Rattle.fol_base.specs.Literal.{clause_of}
+use Rattle.kernel_steps.specs.Lines.{own_terms}
 use Rattle.kernel_steps.specs.declared.step.Step.TheVariants.{Para}
 use Rattle.kernel_steps.specs.declared.step.Line.{Line}
 use Rattle.unifier.specs.Matching.{by_pairs}
@@ -19,10 +20,6 @@ always c n = Some c
 -- what the matcher puts for the variables of the unit
 abbrev pub matched_terms : TreeClause → Found → List Tree
 matched_terms unit f = terms_from 0 (bound_of (clause_variables unit)) (by_pairs f.rewrite.terms)
-
--- the variables of a clause, as terms
-abbrev pub own_terms : TreeClause → List Tree
-own_terms c = terms_from 0 (bound_of (clause_variables c)) variable
 
 -- The line of a rewrite that was found: its clause is what the unit makes of the clause, in canonical form; and it binds the terms of the
 -- matcher and the clause's own variables, with the variables numbered by first occurrence in the result and then in these terms.

@@ -7,7 +7,8 @@ ghost use Rattle.fol_base.specs.Literal.{clause_of};
 ghost use Rattle.bank_clause.specs.Clause.{IsClauseOf, clause_at};
 ghost use Rattle.rewriting.specs.Laws.{Becomes};
 ghost use Rattle.rewriting.specs.Searching.{IsFoundOf};
-ghost use Rattle.demodulate.specs.Steps.{IsLineOf, always, own_terms};
+ghost use Rattle.demodulate.specs.Steps.{IsLineOf, always};
+ghost use Rattle.kernel_steps.specs.Lines.{own_terms};
 
 use bank_clause::BankClause;
 use eq_rules::{Renumbering, number_literals, renamed_terms};

@@ -2,8 +2,7 @@
 -- and equivalences are written out.
 use Rattle.std.specs.Prelude.{Bool, true, false, not}
 use mathlib.Core.Bool.{beq}
-use Rattle.tptp_tree.specs.Formula.{implies, implied, equivalent, different, nor, nand, Quantifier, for_all, exists_some, FormulaTree, truth, falsity, predicate, equation, negation, conjunction, disjunction, connected, quantified, FormulaTrees, no_formulas, formula_then}
-use Rattle.formula_nnf.specs.Shape.{signed}
+use Rattle.tptp_tree.specs.Formula.{implies, implied, equivalent, different, nor, nand, Quantifier, for_all, exists_some, FormulaTree, truth, falsity, predicate, equation, negation, conjunction, disjunction, connected, quantified, FormulaTrees, no_formulas, formula_then, with_sign}
 
 abbrev pub constant_form : Bool → FormulaTree
 constant_form true = truth
@@ -26,7 +25,7 @@ abbrev mutual
   pub normal_form : FormulaTree → Bool → FormulaTree
   normal_form truth sign = constant_form sign
   normal_form falsity sign = constant_form (not sign)
-  normal_form (predicate p ts) sign = signed sign (predicate p ts)
+  normal_form (predicate p ts) sign = with_sign sign (predicate p ts)
   normal_form (equation positive s t) sign = equation (beq positive sign) s t
   normal_form (negation f) sign = normal_form f (not sign)
   normal_form (conjunction fs) sign = list_form sign (normal_forms fs sign)

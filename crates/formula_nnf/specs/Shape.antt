@@ -1,20 +1,14 @@
 -- What the program's normal forms are: formulas in which negation stands before predicates alone.
-use Rattle.std.specs.Prelude.{Bool, true, false}
 use Rattle.tptp_tree.specs.Term.{terms_of}
 use Rattle.tptp_tree.specs.Shape.{term_of}
-use Rattle.tptp_tree.specs.Formula.{for_all, exists_some, FormulaTree, truth, falsity, predicate, equation, negation, conjunction, disjunction, quantified, formulas_of}
+use Rattle.tptp_tree.specs.Formula.{for_all, exists_some, FormulaTree, truth, falsity, predicate, equation, with_sign, conjunction, disjunction, quantified, formulas_of}
 use Rattle.formula_nnf.specs.declared.form.Nnf.{Nnf}
 use Rattle.formula_nnf.specs.declared.form.Nnf.TheVariants.{True, False, Pred, Equal, And, Or, All, Ex}
-
--- the formula or its negation
-abbrev pub signed : Bool → FormulaTree → FormulaTree
-signed true f = f
-signed false f = negation f
 
 abbrev pub nnf_tree : Nnf → FormulaTree
 nnf_tree True = truth
 nnf_tree False = falsity
-nnf_tree (Pred positive p ts) = signed positive (predicate p.now (terms_of ts.now))
+nnf_tree (Pred positive p ts) = with_sign positive (predicate p.now (terms_of ts.now))
 nnf_tree (Equal positive s t) = equation positive (term_of s.now) (term_of t.now)
 nnf_tree (And fs) = conjunction (formulas_of fs)
 nnf_tree (Or fs) = disjunction (formulas_of fs)

@@ -1,16 +1,14 @@
 -- The worked examples: derivations and clauses over the symbols of the base's examples.
-use Rattle.std.specs.Prelude.{ℕ, zero, suc, ◌+◌, true, false, List, [], ◌∷◌, map, option_map, slice_get}
+use Rattle.std.specs.Prelude.{ℕ, zero, suc, ◌+◌, true, false, List, [], ◌∷◌, option_map, slice_get}
 use Rattle.plain_types.specs.declared.sequence.NameLit.{NameLit}
-use Rattle.fol_base.specs.Tree.{Tree, variable, application, no_trees, true_tree, list_of}
+use Rattle.fol_base.specs.Tree.{Tree, application, no_trees, true_tree}
 use Rattle.fol_base.specs.Clause.{TreeLiteral, TreeClause}
 use Rattle.fol_base.specs.Examples.{x, a, b, c, f, p, q, equation, clause}
 use Rattle.fol_base.specs.Rules.{disequation}
-use Rattle.fol_base.specs.declared.term.Term.{Term}
-use Rattle.fol_base.specs.declared.term.Term.TheVariants.{Var, App}
-use Rattle.fol_base.specs.declared.clause.Literal.{Literal}
 use Rattle.fol_base.specs.declared.clause.Side.TheVariants.{Left, Right}
 use Rattle.kernel_steps.specs.Parents.{Parent, Parents}
 use Rattle.kernel_steps.specs.Derivation.{complement, positive_of, negative_of}
+use Rattle.kernel_steps.specs.FromTrees.{line_of}
 use Rattle.kernel_steps.specs.declared.step.TheConstants.{CLAUSE_NUMBERS}
 use Rattle.kernel_steps.specs.declared.step.Step.{Step}
 use Rattle.kernel_steps.specs.declared.step.Step.TheVariants.{Input, Negate, Clausify, Para, Refl, Component, Opposite, Split, Chain}
@@ -60,15 +58,8 @@ listed cs n = option_map conclusion (slice_get cs n)
 
 -- ---- lines
 
-abbrev pub term_from : Tree → Term
-term_from (variable v) = Var v
-term_from (application s ts) = App s (list_of ts)
-
-abbrev pub literal_from : TreeLiteral → Literal
-literal_from l = record { positive = l.positive; left = term_from l.left; right = term_from l.right }
-
 abbrev pub named_line : Step → List TreeLiteral → List NameLit → Line
-named_line step ls names = record { step = step; clause = record { literals = map literal_from ls; names = names } }
+named_line step ls names = line_of step (with ls names)
 
 abbrev pub line : Step → List TreeLiteral → Line
 line step ls = named_line step ls []

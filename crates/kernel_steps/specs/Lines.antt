@@ -1,9 +1,9 @@
 -- What steps and lines are made of, beside their conclusions: parents, names of inferences, sizes, and the numbers of variables.
 use Rattle.std.specs.Prelude.{◌≡◌, ℕ, Bool, true, false, ◌&&◌, nat_lt, nat_le, List, [], ◌∷◌, ◌++◌, filter, flat_map, length, Option, None, Some, option_map, All, IsTrue}
 use Rattle.std.specs.List.{list_all}
-use Rattle.fol_base.specs.Tree.{Tree, tree_size, trees_of, trees_variables}
+use Rattle.fol_base.specs.Tree.{Tree, variable, tree_size, trees_of, trees_variables}
 use Rattle.fol_base.specs.Clause.{TreeLiteral, TreeClause, clause_variables}
-use Rattle.fol_base.specs.Canonical.{distinct, numbers_from, IsCanonical}
+use Rattle.fol_base.specs.Canonical.{bound_of, distinct, numbers_from, terms_from, IsCanonical}
 use Rattle.fol_base.specs.Literal.{clause_of}
 use Rattle.fol_base.specs.declared.limits.TheConstants.{MOST_SYMBOLS}
 use Rattle.kernel_steps.specs.Parents.{Parent, Parents}
@@ -73,6 +73,10 @@ abbrev pub has_small_terms : Line → Bool
 has_small_terms l = list_all has_small_sides (clause_of l.clause).literals && binds_each is_small_term l.step
 
 -- ---- variables
+
+-- the variables of a clause as terms, by their numbers
+abbrev pub own_terms : TreeClause → List Tree
+own_terms c = terms_from 0 (bound_of (clause_variables c)) variable
 
 -- the variables of a line's clause, and then those of what its step binds
 abbrev pub line_variables : Line → List ℕ

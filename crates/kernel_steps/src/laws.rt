@@ -10,7 +10,7 @@ mod symbols;
 
 pub use examples::{
     binding_examples, changed_derivation_examples, definition_examples, derivation_examples,
-    key_examples, name_examples, number_examples, split_examples, step_examples,
+    key_examples, line_examples, name_examples, number_examples, split_examples, step_examples,
 };
 pub use grounded::lines_are_grounded;
 pub use inference::{

@@ -17,7 +17,7 @@ use Rattle.kernel_steps.specs.declared.key.Key.TheVariants as key
 use Rattle.literal_selection.specs.declared.choice.Selection.TheVariants.{Nothing, Negative}
 use Rattle.sat_core.specs.Examples.{yes, link, chain}
 use Rattle.sat_core.specs.declared.answer.Chain as log
-use Rattle.pool_core.specs.Lines.{written, line_of}
+use Rattle.kernel_steps.specs.FromTrees.{clause_from, line_of}
 use Rattle.pool_core.specs.Replay.{Origin}
 use Rattle.pool_core.specs.declared.batch.Entry.{Entry}
 use Rattle.pool_core.specs.declared.batch.Fate.{Fate}
@@ -43,7 +43,7 @@ abbrev pub batch_line : ℕ → ℕ
 batch_line i = CLAUSE_NUMBERS + i
 
 abbrev pub kept : List Line → TreeClause → Fate
-kept lines result = Kept lines (written result ∷ [])
+kept lines result = Kept lines (clause_from result ∷ [])
 
 abbrev pub entry : Key → Fate → Entry
 entry name fate = record { key = name; fate = fate }

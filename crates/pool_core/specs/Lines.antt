@@ -1,14 +1,9 @@
 -- The lines of the pool's derivation, and the lines of batches as they are put among them.
-use Rattle.std.specs.Prelude.{ℕ, ◌+◌, ◌-◌, Bool, false, not, ◌&&◌, ◌==◌, nat_lt, if◌then◌else◌, List, ◌++◌, map, length, Option, None, slice_get, option_map, unwrap_or}
+use Rattle.std.specs.Prelude.{ℕ, ◌+◌, ◌-◌, Bool, false, not, ◌&&◌, ◌==◌, nat_lt, if◌then◌else◌, List, ◌++◌, length, Option, None, slice_get, option_map, unwrap_or}
 use Rattle.std.specs.List.{position_or_len, last_or}
 use Rattle.plain_types.specs.declared.sequence.NameLit.{NameLit}
-use Rattle.fol_base.specs.Tree.{Tree, variable, application, list_of}
-use Rattle.fol_base.specs.Clause.{TreeLiteral, TreeClause}
+use Rattle.fol_base.specs.Clause.{TreeClause}
 use Rattle.fol_base.specs.Literal.{clause_of}
-use Rattle.fol_base.specs.declared.term.Term.{Term}
-use Rattle.fol_base.specs.declared.term.Term.TheVariants.{Var, App}
-use Rattle.fol_base.specs.declared.clause.Literal.{Literal}
-use Rattle.fol_base.specs.declared.clause.Clause.{Clause}
 use Rattle.kernel_steps.specs.declared.step.TheConstants.{CLAUSE_NUMBERS}
 use Rattle.kernel_steps.specs.declared.step.Step.{Step}
 use Rattle.kernel_steps.specs.declared.step.Step.TheVariants.{Para, Refl, Factor, Merge, Component, Opposite}
@@ -16,20 +11,7 @@ use Rattle.kernel_steps.specs.declared.step.Line.{Line}
 use Rattle.pool_core.specs.Tags.{line_names}
 use Rattle.pool_core.specs.Record.{PoolRecord, Registered}
 
--- ---- a step with its clause as a line
-
-abbrev pub term_of : Tree → Term
-term_of (variable v) = Var v
-term_of (application f ts) = App f (list_of ts)
-
-abbrev pub written_literal : TreeLiteral → Literal
-written_literal l = record { positive = l.positive; left = term_of l.left; right = term_of l.right }
-
-abbrev pub written : TreeClause → Clause
-written c = record { literals = map written_literal c.literals; names = c.names }
-
-abbrev pub line_of : Step → TreeClause → Line
-line_of step c = record { step = step; clause = written c }
+-- ---- lines of the derivation
 
 abbrev pub with_lines : PoolRecord → List Line → PoolRecord
 with_lines r lines = record r { lines = r.lines ++ lines }

@@ -12,7 +12,8 @@ use Rattle.pool_core.specs.Components.{components_of, parts_of, is_to_split}
 use Rattle.split_parts.specs.SignedNames.{affirmed, named, signed_name}
 use Rattle.pool_core.specs.Tags.{line_names}
 use Rattle.pool_core.specs.Record.{PoolRecord, has_living}
-use Rattle.pool_core.specs.Lines.{line_of, with_lines, last_number, definition_of}
+use Rattle.pool_core.specs.Lines.{with_lines, last_number, definition_of}
+use Rattle.kernel_steps.specs.FromTrees.{line_of}
 use Rattle.pool_core.specs.declared.outcome.Outcome.TheVariants.{Refuted}
 
 abbrev pub over : List TreeLiteral → List NameLit → TreeClause

@@ -11,7 +11,7 @@ use Rattle.sat_core.specs.declared.answer.Link.{Link}
 use Rattle.sat_core.specs.declared.answer.Chain as log
 use Rattle.pool_core.specs.Tags.{name_count}
 use Rattle.pool_core.specs.Record.{PoolRecord, SolverJob, PropositionalClause, propositional_clauses}
-use Rattle.pool_core.specs.Lines.{line_of}
+use Rattle.kernel_steps.specs.FromTrees.{line_of}
 use Rattle.pool_core.specs.declared.outcome.Outcome.TheVariants.{Refuted}
 
 -- there are propositional clauses that the model isn't of, and no solver job is out

@@ -8,7 +8,7 @@ use Rattle.term_bank.specs.declared.bank.Bank.{Bank}
 use Rattle.term_bank.specs.declared.table.Table.{Table}
 use Rattle.bank_clause.specs.Clause.{clause_at, IsKnown}
 use Rattle.pool_core.specs.Record.{PoolRecord, Registered, nothing_registered}
-use Rattle.pool_core.specs.Lines.{line_of}
+use Rattle.kernel_steps.specs.FromTrees.{line_of}
 use Rattle.pool_core.specs.Registering.{comes, unless_ended, has_none}
 use Rattle.pool_core.specs.declared.register.Registration.{Registration}
 use Rattle.pool_core.specs.declared.start.Start.{Start}

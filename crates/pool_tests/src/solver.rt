@@ -364,3 +364,16 @@ fn follows_a_long_chain(rt: HostRuntime) {
     push_clause(alloc, &mut clauses, &[no(99_999)]).expect(&rt, "memory");
     assert!(rt; is_refuted(&rt, alloc, &clauses, 100_000));
 }
+
+// Each clause has its implied literal twice. A solver that goes on to watch both of them doesn't see that it is implied: that costs a
+// conflict for each clause, and a walk over the whole chain.
+#[test]
+fn follows_a_long_chain_of_clauses_with_a_literal_twice(rt: HostRuntime) {
+    let alloc = rt.alloc();
+    let mut clauses = PropClauses::new(alloc);
+    push_clause(alloc, &mut clauses, &[yes(0)]).expect(&rt, "memory");
+    for i in 1..100_000u32 {
+        push_clause(alloc, &mut clauses, &[yes(i), no(i - 1), yes(i)]).expect(&rt, "memory");
+    }
+    assert!(rt; !is_refuted(&rt, alloc, &clauses, 100_000));
+}

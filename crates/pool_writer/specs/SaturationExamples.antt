@@ -3,18 +3,14 @@ use Rattle.std.specs.Prelude.{ℕ, Bool, true, false, List, [], ◌∷◌, codes
 use Rattle.plain_types.specs.declared.sequence.NameLit.{NameLit}
 use Rattle.fol_base.specs.Tree.{Tree, variable, application, true_tree, trees_of}
 use Rattle.fol_base.specs.Clause.{TreeLiteral, TreeClause}
+use Rattle.signature.specs.Symbol.{true_symbol, predicate_symbol, function_symbol}
 use Rattle.signature.specs.declared.symbol.Symbol.{Symbol}
-use Rattle.signature.specs.declared.symbol.SymbolKind.{SymbolKind}
-use Rattle.signature.specs.declared.symbol.SymbolKind.TheVariants.{Predicate, Function}
-
-abbrev symbol : SymbolKind → List ℕ → ℕ → Symbol
-symbol kind name arity = record { kind = kind; name = name; arity = arity }
 
 -- `$true`, a predicate, a function and three constants, by their numbers
 abbrev pub symbols : List Symbol
 symbols =
-    symbol Predicate [] 0 ∷ symbol Predicate (codes "p") 1 ∷ symbol Function (codes "f") 1 ∷ symbol Function (codes "a") 0
-    ∷ symbol Function (codes "b") 0 ∷ symbol Function (codes "c") 0 ∷ []
+    true_symbol ∷ predicate_symbol (codes "p") 1 ∷ function_symbol (codes "f") 1 ∷ function_symbol (codes "a") 0
+    ∷ function_symbol (codes "b") 0 ∷ function_symbol (codes "c") 0 ∷ []
 
 abbrev constant : ℕ → Tree
 constant n = application n (trees_of [])

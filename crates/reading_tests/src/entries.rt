@@ -173,20 +173,21 @@ fn limits_levels(rt: HostRuntime) {
     expect_answers(&rt, rt.alloc(), LEVELS, 2);
 }
 
-/// Brackets, negations, quantifiers and terms round `p`, 5,000 levels deep: what opens and closes a level, the limit within which
-/// they are read, the length of the printed formula, and where the reading ends within 500 levels. A quantifier's bracket is a
-/// level more, so the last one needs 5,001.
+/// Brackets, negations, quantifiers, terms, and connectives in turn round `p`, 5,000 levels deep: what opens and closes a level or
+/// two, how often, the limit within which they are read, the length of the printed formula, and where the reading ends within 500
+/// levels. A quantifier's bracket is a level more, so the last one needs 5,001.
 #[test]
 fn reads_deep_formulas(rt: HostRuntime) {
     let alloc = rt.alloc();
-    for (open, close, limit, length, refused) in [
-        ("(", ")", 5_000, 1, b"Nesting@512".as_slice()),
-        ("~", "", 5_000, 5_001, b"Nesting@512"),
-        ("![X]:", "", 5_001, 40_001, b"Nesting@2508"),
-        ("f(", ")", 5_000, 15_001, b"Nesting@1013"),
+    for (open, close, times, limit, length, refused) in [
+        ("(", ")", 5_000, 5_000, 1, b"Nesting@512".as_slice()),
+        ("~", "", 5_000, 5_000, 5_001, b"Nesting@512"),
+        ("![X]:", "", 5_000, 5_001, 40_001, b"Nesting@2508"),
+        ("f(", ")", 5_000, 5_000, 15_001, b"Nesting@1013"),
+        ("p&(p|(", "))", 2_500, 5_000, 29_999, b"Nesting@1514"),
     ] {
-        let open = open.repeat(alloc, 5_000).expect(&rt, "memory");
-        let close = close.repeat(alloc, 5_000).expect(&rt, "memory");
+        let open = open.repeat(alloc, times).expect(&rt, "memory");
+        let close = close.repeat(alloc, times).expect(&rt, "memory");
         let text = format!(in alloc; "fof(a,axiom,{open}p{close}).").expect(&rt, "memory");
         let found = shown(&rt, alloc, &answer(&rt, alloc, text.as_bytes(), 0, limit));
         assert!(rt; found.len() == length);

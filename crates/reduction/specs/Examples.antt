@@ -4,7 +4,8 @@ use Rattle.fol_base.specs.Clause.{TreeLiteral, TreeClause}
 use Rattle.fol_base.specs.Examples.{a, b, c, f, equation, clause}
 use Rattle.fol_base.specs.Rules.{disequation}
 use Rattle.fol_base.specs.declared.clause.Side.TheVariants.{Left, Right}
-use Rattle.kernel_steps.specs.Examples.{line, literal_from}
+use Rattle.kernel_steps.specs.Examples.{line}
+use Rattle.kernel_steps.specs.FromTrees.{literal_from}
 use Rattle.kernel_steps.specs.Moves.{Move}
 use Rattle.kernel_steps.specs.declared.step.TheConstants.{CLAUSE_NUMBERS}
 use Rattle.kernel_steps.specs.declared.step.Step.TheVariants.{Para}

@@ -7,7 +7,7 @@ use Rattle.kernel_steps.specs.Lines.{step_parents}
 use Rattle.kernel_steps.specs.Split.{has_number, rises_from}
 use Rattle.kernel_steps.specs.declared.step.Step.{Step}
 use Rattle.retracing.specs.Needed.{HaveEarlierParents, IsNeeded, is_rising, AreNeeded}
-use Rattle.retracing.specs.Marks.{is_marked, marked_numbers}
+use Rattle.kernel_steps.specs.Marks.{is_marked, marked_numbers}
 
 -- the marks after the visit of a step
 abbrev pub IsVisited : ℕ → Step → List Bool → List Bool → Type 0

@@ -1,5 +1,4 @@
 pub mod Needed
-pub mod Marks
 pub mod Renumbered
 pub mod Retraced
 pub mod Laws

@@ -5,7 +5,7 @@ ghost use Rattle.std.specs.List.{list_all};
 ghost use Rattle.kernel_steps.specs.Lines.{step_parents, is_plain_step};
 ghost use Rattle.kernel_steps.specs.Split.{has_number};
 ghost use Rattle.retracing.specs.Needed.{HaveEarlierParents, AreNeeded};
-ghost use Rattle.retracing.specs.Marks.{is_marked, marked_numbers};
+ghost use Rattle.kernel_steps.specs.Marks.{is_marked, marked_numbers};
 
 use kernel_steps::Step;
 use plain_types::{Mem, Numbers};

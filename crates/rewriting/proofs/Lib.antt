@@ -1,13 +1,7 @@
--- The index of sides: IndexLemmas (entries), NumberedLemmas (clauses by their numbers, in a map and as contracts see them), UnitLemmas (the
--- map of units).
--- One term: PairLemmas (the pairs of a matcher), TryLemmas (one side of one unit), SearchLemmas (all units, and all places).
--- Redexes and rewriting steps: KindLemmas (kinds of terms), LawLemmas (the laws), RewritableLemmas (the members that a unit rewrites).
-pub mod IndexLemmas
-pub mod NumberedLemmas
-mod UnitLemmas
-mod PairLemmas
-pub mod TryLemmas
-pub mod SearchLemmas
-pub mod KindLemmas
-pub mod LawLemmas
-pub mod RewritableLemmas
+-- A map of the proofs, by topic; what is proved of one function stands in the folder of its module.
+-- AboutIndexes: units by their numbers, and the sides by which they are found.
+pub mod AboutIndexes
+-- AboutSearches: the search, with the pairs of a matcher, one side of one unit, and all units at all places.
+pub mod AboutSearches
+-- AboutRedexes: redexes as rewriting steps, with the kinds of terms, the laws, and the members that a unit rewrites.
+pub mod AboutRedexes

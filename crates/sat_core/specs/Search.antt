@@ -4,8 +4,6 @@ use Rattle.sat_core.specs.declared.trail.Assigned.{Assigned}
 use Rattle.sat_core.specs.declared.trail.Slot.{Slot}
 use Rattle.plain_types.specs.declared.sequence.NameLit.{NameLit}
 use Rattle.plain_types.specs.Names.{same_name, has_name}
-use Rattle.sat_core.specs.declared.watches.Visit.{Visit}
-use Rattle.sat_core.specs.declared.watches.Visit.TheVariants.{Kept, Moved, Implied, False}
 use Rattle.sat_core.specs.Clause.{PropClause}
 use Rattle.sat_core.specs.Trail.{has_place, place_of, is_true, is_false}
 use Rattle.sat_core.specs.State.{IsSound, AreFalse, clause_at}
@@ -53,13 +51,6 @@ pub record IsUnit (slots : List Slot) (c : PropClause) (l : NameLit) : Type 0 wh
   pub member : IsTrue (has_name l c)
   pub free : place_of slots l ≡ 0
   pub others : OthersFalse slots c l
-
--- what the visit of a clause has found
-abbrev pub IsFound : List Slot → PropClause → Visit → Type 0
-IsFound slots c Kept = Unit {0}
-IsFound slots c (Moved index literal) = (index < length c) × IsTrue (has_name literal c)
-IsFound slots c (Implied literal) = IsUnit slots c literal
-IsFound slots c False = AreFalse slots c
 
 -- none of the clause's literals is true
 abbrev pub HasNoTrue : List Slot → PropClause → Type 0

@@ -78,19 +78,22 @@ impl Copies {
         if values.is_true(other) {
             return Look::True(other);
         }
-        let Some(place) = self.open_place(values, second + 1, self.items[start + 1]) else {
+        let end = self.items[start + 1];
+        let Some(place) = self.open_place(values, other, second + 1, end) else {
             return Look::Closed(other);
         };
         self.items.swap(second, place);
         Look::Moved(other, self.items[second])
     }
 
-    /// The first index from one on, before another, of a code whose literal isn't false.
-    fn open_place(&self, values: &Values, from: usize, end: usize) -> Option<usize>
+    /// The first index from one on, before another, of a code whose literal isn't false. The other watched literal is left
+    /// out, which a clause may have twice.
+    fn open_place(&self, values: &Values, other: usize, from: usize, end: usize) -> Option<usize>
         ensures { IfSome result (λ i. i < length self.now.items.items) }
     {
         for place in from..end.min(self.items.len()) {
-            if !values.is_false(self.items[place]) {
+            let code = self.items[place];
+            if code != other && !values.is_false(code) {
                 return Some(place);
             }
         }

@@ -33,3 +33,10 @@ pub fn code(literal: NameLit) -> usize
 {
     2 * literal.name as usize + usize::from(literal.positive)
 }
+
+/// The literal with a number.
+pub fn literal_of(code: usize) -> Option<NameLit> {
+    let name = u32::try_from(code / 2).ok()?;
+    let positive = code % 2 == 1;
+    Some(NameLit { positive, name })
+}

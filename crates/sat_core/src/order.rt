@@ -8,8 +8,9 @@ use crate::trail::{Assigned, Trail};
 use plain_types::{Mem, NameLit};
 use std::alloc::Global;
 
-/// Activities above this are made smaller, all by one factor.
-const HIGHEST: u64 = 1 << 60;
+/// Once a conflict adds more than this, all activities are made smaller by one factor. A name of every conflict comes to `DECAY` + 1 times
+/// that, which is below 2^64.
+const HIGHEST: u64 = 1 << 59;
 
 /// A conflict adds more than the one before by this part of it, so that older activities count less: about as by MiniSat's factor of 0.95.
 const DECAY: u64 = 20;

@@ -22,7 +22,7 @@ pub struct Values {
 impl Values {
     /// No literal has a value.
     pub fn new(alloc: Global, names: usize) -> Mem<Values> {
-        let mut by_code = Vec::with_capacity(alloc, names)?;
+        let mut by_code = Vec::new(alloc);
         for _ in 0..names {
             by_code.push(Value::Open)?;
             by_code.push(Value::Open)?;

@@ -3,35 +3,21 @@
 // MiniSat, Eén and Sörensson 2003) isn't true. The lists, the values and the copies of clauses are hints: what is implied
 // is read from the clause itself, whose other literals are all looked at before.
 
-ghost use Rattle.std.specs.Prelude.{◌≡◌, ℕ, ◌+◌, ◌*◌, ◌<◌, ◌≤◌, not, ◌&&◌, length, IfOk, IfSome, IfNone, IsTrue};
-ghost use Rattle.plain_types.specs.Names.{same_name};
-ghost use Rattle.sat_core.specs.Trail.{IsTrail, is_false};
+ghost use Rattle.std.specs.Prelude.{◌≡◌, ℕ, ◌+◌, ◌*◌, ◌<◌, ◌≤◌, length, IfOk, IfSome, IsTrue};
+ghost use Rattle.plain_types.specs.Names.{has_name};
 ghost use Rattle.sat_core.specs.State.{IsSound, clause_at};
 ghost use Rattle.sat_core.specs.Known.{known};
 ghost use Rattle.sat_core.specs.Conflict.{AreWithin};
-ghost use Rattle.sat_core.specs.Search.{OthersFalse, HaveLists, IsFound, IsConflict, Propagates};
+ghost use Rattle.sat_core.specs.Search.{OthersFalse, HaveLists, IsConflict, Propagates};
 
 use crate::clauses::Clauses;
 use crate::copies::{Copies, Look};
 use crate::forgetting::is_kept;
-use crate::literals::{code, opposite};
+use crate::literals::{code, literal_of, opposite};
 use crate::trail::{Assigned, Trail};
 use crate::values::Values;
 use plain_types::{Mem, NameLit};
 use std::alloc::Global;
-
-/// What the look at a clause has found.
-#[derive(Clone, Copy)]
-pub enum Visit {
-    /// Nothing to do.
-    Kept,
-    /// Another literal that isn't false, by its index.
-    Moved(usize, NameLit),
-    /// All literals but this one are false, and this one has no value.
-    Implied(NameLit),
-    /// All literals are false.
-    False,
-}
 
 /// The indices of two literals of a clause.
 #[derive(Clone, Copy)]
@@ -47,8 +33,17 @@ pub enum Visited {
     Kept,
     /// It stands in the list of another literal now.
     Moved,
-    /// Of the clause with a number all literals may be false but for one that isn't true, told by its code.
-    Closed(usize, usize),
+    /// All literals of a clause but one may be false, and the clause is to be read.
+    Closed(Closed),
+}
+
+/// A clause of which a hint says that all literals but one are false, and that this one isn't true.
+#[derive(Clone, Copy)]
+pub struct Closed {
+    /// The clause's number.
+    pub number: usize,
+    /// The literal's code.
+    pub other: usize,
 }
 
 /// An entry of the list of a literal that watches a clause.
@@ -61,48 +56,20 @@ pub struct Watch {
     pub start: usize,
 }
 
-/// Whether a literal isn't false, and isn't another one.
-fn is_open(trail: &Trail, other: NameLit, literal: NameLit) -> bool
-    requires { literal.name < length trail.now.slots.items }
-    ensures { result ≡ (not (same_name other literal) && not (is_false trail.now.slots.items literal)) }
-{
-    other != literal && !trail.is_false(literal)
-}
-
-/// The index of a literal that isn't false, another one left out.
-fn open_literal(trail: &Trail, literals: &[NameLit], other: NameLit) -> Option<usize>
+/// Whether a literal is among those of a clause, and all others are false.
+fn is_alone(trail: &Trail, literals: &[NameLit], alone: NameLit) -> bool
     requires { AreWithin (length trail.now.slots.items) literals.now }
-    ensures some { IfSome result (λ i. i < length literals.now) }
-    ensures none { IfNone result (OthersFalse trail.now.slots.items literals.now other) }
+    ensures { IsTrue result → IsTrue (has_name alone literals.now) × OthersFalse trail.now.slots.items literals.now alone }
 {
-    for (index, literal) in literals.iter().enumerate() {
-        if is_open(trail, other, *literal) {
-            return Some(index);
+    let mut is_met = false;
+    for literal in literals {
+        if alone == *literal {
+            is_met = true;
+        } else if !trail.is_false(*literal) {
+            return false;
         }
     }
-    None
-}
-
-/// Looks at a clause, of which the literal at an index is watched besides one that is false.
-fn examine(trail: &Trail, literals: &[NameLit], watched: usize) -> Visit
-    requires within { AreWithin (length trail.now.slots.items) literals.now }
-    requires watched { watched < length literals.now }
-    ensures { IsFound trail.now.slots.items literals.now result }
-{
-    let other = literals[watched];
-    if trail.is_true(other) {
-        return Visit::Kept;
-    }
-    match open_literal(trail, literals, other) {
-        Some(index) => Visit::Moved(index, literals[index]),
-        None => {
-            if trail.is_false(other) {
-                Visit::False
-            } else {
-                Visit::Implied(other)
-            }
-        }
-    }
+    is_met
 }
 
 /// For each literal the clauses that watch it, and copies of the clauses.
@@ -111,7 +78,7 @@ pub struct Watches {
     pub lists: Vec<Vec<Watch>>,
     pub copies: Copies,
     /// Clauses without two different literals that haven't been looked at.
-    pub units: Vec<usize>,
+    pub units: Vec<Closed>,
     /// How many entries of the trail have been looked at.
     pub seen: usize,
 }
@@ -197,7 +164,10 @@ impl Watches {
                 self.move_watch(list, index, literal, Watch { other, start })?;
                 Ok(Visited::Moved)
             }
-            Look::Closed(other) => Ok(Visited::Closed(self.copies.number(start), other)),
+            Look::Closed(other) => {
+                let number = self.copies.number(start);
+                Ok(Visited::Closed(Closed { number, other }))
+            }
         }
     }
 
@@ -228,8 +198,8 @@ impl Watches {
             match self.visit(&trail.values, list, index, watch)? {
                 Visited::Kept => index += 1,
                 Visited::Moved => {}
-                Visited::Closed(number, other) => {
-                    if let Some(conflict) = settle(clauses, trail, number, other)? {
+                Visited::Closed(closed) => {
+                    if let Some(conflict) = settle(clauses, trail, closed)? {
                         return Ok(Some(conflict));
                     }
                     index += 1;
@@ -247,8 +217,8 @@ impl Watches {
         ensures conflict { IfOk result (λ found. IfSome found (IsConflict (known clauses.now) trail.new.slots.items)) }
         ensures lists { IfOk result (λ _. length self.new.lists.items ≡ length self.old.lists.items) }
     {
-        while let Some(number) = self.units.pop() {
-            if let Some(conflict) = settle(clauses, trail, number, 0)? {
+        while let Some(unit) = self.units.pop() {
+            if let Some(conflict) = settle(clauses, trail, unit)? {
                 return Ok(Some(conflict));
             }
         }
@@ -285,7 +255,8 @@ impl Watches {
         match different_literal(literals) {
             Some(second) => self.watch(number, literals, Pair { first: 0, second }),
             None => {
-                self.units.push(number)?;
+                let other = literals.first().map_or(0, |literal| code(*literal));
+                self.units.push(Closed { number, other })?;
                 Ok(())
             }
         }
@@ -331,19 +302,14 @@ impl Watches {
     }
 }
 
-/// Makes true what a clause implies; gives its number where all its literals are false. A hint is the code of the literal that
-/// it may imply.
-fn settle(
-    clauses: &Clauses<'_>,
-    trail: &mut Trail,
-    number: usize,
-    hint: usize,
-) -> Mem<Option<usize>>
+/// Makes true what a clause implies; gives its number where all its literals are false. The clause itself is read.
+fn settle(clauses: &Clauses<'_>, trail: &mut Trail, closed: Closed) -> Mem<Option<usize>>
     requires sound { IsSound (known clauses.now) trail.old.entries.items trail.old.slots.items }
     ensures propagates { IfOk result (λ _. Propagates (known clauses.now) trail.old.entries.items trail.old.slots.items
         trail.new.entries.items trail.new.slots.items) }
     ensures conflict { IfOk result (λ found. IfSome found (IsConflict (known clauses.now) trail.new.slots.items)) }
 {
+    let Closed { number, other } = closed;
     if number >= clauses.len() {
         return Ok(None);
     }
@@ -351,28 +317,21 @@ fn settle(
     if literals.is_empty() {
         return Ok(Some(number));
     }
-    match examine(trail, literals, index_of(literals, hint)) {
-        Visit::Implied(literal) => {
-            let reason = Some(number);
-            trail.push(Assigned { literal, reason })?;
-            Ok(None)
-        }
-        Visit::False => Ok(Some(number)),
-        _ => Ok(None),
+    let Some(literal) = literal_of(other) else {
+        return Ok(None);
+    };
+    if !is_alone(trail, literals, literal) {
+        return Ok(None);
     }
-}
-
-/// The index of the literal with a code, or the first one.
-fn index_of(literals: &[NameLit], hint: usize) -> usize
-    requires { 0 < length literals.now }
-    ensures { result < length literals.now }
-{
-    for (index, literal) in literals.iter().enumerate() {
-        if code(*literal) == hint {
-            return index;
-        }
+    if trail.place(literal) == 0 {
+        let reason = Some(number);
+        trail.push(Assigned { literal, reason })?;
+        return Ok(None);
     }
-    0
+    if trail.is_false(literal) {
+        return Ok(Some(number));
+    }
+    Ok(None)
 }
 
 /// The index of a literal that differs from the first one.

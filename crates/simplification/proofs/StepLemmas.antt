@@ -17,7 +17,7 @@ use Rattle.bank_clause.specs.declared.clause.BankClause.{BankClause}
 use Rattle.bank_clause.specs.declared.member.Member.{Member}
 use Rattle.rewriting.specs.Laws.{AreWellFormed, NoneRewrites}
 use Rattle.rewriting.specs.Units.{IsUnit, clause_numbered, is_kept}
-use Rattle.rewriting.proofs.NumberedLemmas.{from-map}
+use Rattle.rewriting.proofs.AboutIndexes.NumberedLemmas.{from-map}
 use Rattle.subsume.specs.Target.{AreOfUse}
 use Rattle.demodulate.specs.Normal.{AreSomeOf, kept}
 use Rattle.cutting.specs.Fit.{GoesOnAlone, HasNoEqual, HasNoTrivial, IsFit}

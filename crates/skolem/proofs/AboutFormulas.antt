@@ -5,3 +5,4 @@ pub mod CountLemmas
 pub mod SymbolLemmas
 pub mod ClauseLemmas
 pub mod LiteralLemmas
+pub mod OutlineLemmas

@@ -1,6 +1,7 @@
 -- How the innermost binding of a name is found: the bindings of a name are chained, from the innermost outwards. And how bindings whose terms
--- have the same variables are known.
-use Rattle.std.specs.Prelude.{◌≡◌, ⊤, ℕ, zero, suc, ◌<◌, ◌≤◌, List, [], length, map, get_or, bytes_eq, if◌then◌else◌}
+-- have the same variables are known, or one those of another among its own.
+use Rattle.std.specs.Prelude.{◌≡◌, ⊤, ℕ, zero, suc, ◌<◌, ◌≤◌, ◌==◌, true, List, [], length, map, get_or, bytes_eq, if◌then◌else◌}
+use Rattle.std.specs.List.{list_any}
 use Rattle.std.specs.Option.{unwrap_or}
 use Rattle.std.specs.Map.{lookup}
 use Rattle.fol_base.specs.Tree.{tree_variables}
@@ -14,7 +15,7 @@ abbrev pub no_binding : Binding
 no_binding = record { name = []; term = Closed }
 
 abbrev pub no_entry : Entry
-no_entry = record { binding = no_binding; hidden = 0; alike = 0 }
+no_entry = record { binding = no_binding; hidden = 0; alike = 0; covers = 0 }
 
 abbrev pub name_at : List Entry → ℕ → List ℕ
 name_at es i = (get_or es i no_entry).binding.name
@@ -36,12 +37,22 @@ abbrev pub IsAlike : List Entry → ℕ → ℕ → Type 0
 IsAlike es i zero = ⊤
 IsAlike es i (suc j) = (j ≤ i) × (entry_variables es j ≡ entry_variables es i)
 
+-- the numbers of the first list are all in the second
+abbrev pub AreAmong : List ℕ → List ℕ → Type 0
+AreAmong vs us = (v : ℕ) → list_any (λ w. v == w) vs ≡ true → list_any (λ w. v == w) us ≡ true
+
+-- Nothing is said by 0. Else it is one more than a place before i, and the variables of the term there are among those at i.
+abbrev pub IsCovered : List Entry → ℕ → ℕ → Type 0
+IsCovered es i zero = ⊤
+IsCovered es i (suc j) = (j < i) × AreAmong (entry_variables es j) (entry_variables es i)
+
 -- Each entry leads to the binding of its name that it hides, and the table to the innermost of each name; and an entry may lead to one whose
--- term has the same variables.
+-- term has the same variables, and to one further out whose variables its own term has too.
 pub record IsChained (es : List Entry) (heads : List (VariableName × ℕ)) : Type 0 where
   pub hidden : (i : ℕ) → i < length es → (get_or es i no_entry).hidden ≡ innermost_below (name_at es i) es i
   pub innermost : (x : List ℕ) → place_in heads x ≡ innermost_below x es (length es)
   pub alike : (i : ℕ) → i < length es → IsAlike es i (get_or es i no_entry).alike
+  pub covers : (i : ℕ) → i < length es → IsCovered es i (get_or es i no_entry).covers
 
 abbrev pub bindings_of : List Entry → List Binding
 bindings_of es = map (λ (e : Entry). e.binding) es
@@ -50,3 +61,8 @@ bindings_of es = map (λ (e : Entry). e.binding) es
 abbrev pub HasVariables : List Binding → ℕ → List ℕ → Type 0
 HasVariables bs zero vs = ⊤
 HasVariables bs (suc i) vs = (i < length bs) × (tree_variables (bound_tree (get_or bs i no_binding).term) ≡ vs)
+
+-- Nothing is said by the place 0. Else there is a binding at the place, counted from 1, and its term's variables are among those.
+abbrev pub Covers : List Binding → ℕ → List ℕ → Type 0
+Covers bs zero vs = ⊤
+Covers bs (suc i) vs = (i < length bs) × AreAmong (tree_variables (bound_tree (get_or bs i no_binding).term)) vs

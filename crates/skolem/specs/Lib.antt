@@ -9,6 +9,7 @@ pub mod Name
 pub mod BoundTerm
 pub mod Bindings
 pub mod Progress
+pub mod Outline
 pub mod Examples
 pub mod SkolemizedLaws
 pub mod ProblemLaws

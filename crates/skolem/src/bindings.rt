@@ -1,12 +1,12 @@
 // The variables in force.
 
-ghost use Rattle.std.specs.Prelude.{◌≡◌, ◌<◌, ◌≤◌, ◌-◌, ◌++◌, ◌∷◌, [], length, take, get_or, IfOk};
+ghost use Rattle.std.specs.Prelude.{◌≡◌, ℕ, ◌<◌, ◌≤◌, ◌-◌, ◌++◌, ◌∷◌, List, [], true, length, take, get_or, IfOk};
 ghost use Rattle.std.specs.Option.{option_map, unwrap_or};
 ghost use Rattle.fol_base.specs.Tree.{variable, tree_variables};
 ghost use Rattle.signature.specs.Environment.{term_in_force};
 ghost use Rattle.skolem.specs.declared.bindings.Entry.{Entry};
 ghost use Rattle.skolem.specs.BoundTerm.{bound_tree};
-ghost use Rattle.skolem.specs.Bindings.{place_in, HasVariables};
+ghost use Rattle.skolem.specs.Bindings.{no_entry, place_in, HasVariables, Covers};
 ghost use Rattle.skolem.specs.Progress.{environment_of, place_variables};
 
 use crate::bound_term::BoundTerm;
@@ -26,13 +26,14 @@ pub(crate) struct Binding {
     pub term: BoundTerm,
 }
 
-/// A binding, with one more than the place of the binding of its name that it hides, or 0; and with one more than the place of a binding whose
-/// term has the same variables, or 0 where none is noted.
+/// A binding, with one more than the places of others, or 0 where there is none or none is noted: of the binding of its name that it hides; of
+/// one whose term has the same variables; and of one further out, all of whose term's variables are in this one's too.
 #[derive(Drop)]
 pub(crate) struct Entry {
     pub binding: Binding,
     pub hidden: usize,
     pub alike: usize,
+    pub covers: usize,
 }
 
 /// The variables in force, which contracts see as the list of their bindings, the innermost last. A name is found by a table.
@@ -119,6 +120,31 @@ impl Bindings {
         entry_at(entries, index).binding.term.push_variables(found)
     }
 
+    /// Whether the term at a place is a Skolem term. The place is counted from 1.
+    pub(crate) fn is_skolem(&self, place: usize) -> bool
+        ensures { result ≡ true → (0 < place) × (place ≤ length self.now) }
+    {
+        let entries = self.entries.as_slice();
+        if place == 0 || place > entries.len() {
+            return false;
+        }
+        matches!(
+            entry_at(entries, place - 1).binding.term,
+            BoundTerm::Skolem { .. }
+        )
+    }
+
+    /// The first place up to a limit among a place, the one that it covers, the one which that covers, and so on; or 0.
+    pub(crate) fn covered_within(&self, place: usize, limit: usize) -> usize
+        ensures { (vs : List ℕ) → Covers self.now place vs → Covers self.now result vs }
+    {
+        let mut covered = place;
+        while covered > limit {
+            covered = covers_at(self.entries.as_slice(), covered);
+        }
+        covered
+    }
+
     /// The term of the innermost variable of that name, or else of one that isn't in force.
     pub(crate) fn term_in_force(&self, name: &Text) -> Mem<BoundTerm>
         ensures { IfOk result (λ term. bound_tree term ≡ term_in_force (environment_of self.now) name.now) }
@@ -133,18 +159,21 @@ impl Bindings {
     pub(crate) fn push(&mut self, alloc: Global, name: &Text, term: BoundTerm) -> Mem<()>
         ensures { IfOk result (λ _. self.new ≡ self.old ++ record { name = name.now; term = term } ∷ []) }
     {
-        self.push_alike(alloc, name, term, 0)
+        self.push_noted(alloc, name, term, 0, 0)
     }
 
-    /// Adds a binding, the innermost. Its term has the variables of that at a place, which is counted from 1; 0 says nothing.
-    pub(crate) fn push_alike(
+    /// Adds a binding, the innermost. Its term has the variables of that at the place `alike`, and those of that at `covers` among its own. Places
+    /// are counted from 1; 0 says nothing.
+    pub(crate) fn push_noted(
         &mut self,
         alloc: Global,
         name: &Text,
         term: BoundTerm,
         alike: usize,
+        covers: usize,
     ) -> Mem<()>
         requires alike { HasVariables self.old alike (tree_variables (bound_tree term)) }
+        requires covers { Covers self.old covers (tree_variables (bound_tree term)) }
         ensures { IfOk result (λ _. self.new ≡ self.old ++ record { name = name.now; term = term } ∷ []) }
     {
         let key = VariableName {
@@ -161,6 +190,7 @@ impl Bindings {
             binding,
             hidden,
             alike,
+            covers,
         });
         let place = self.entries.as_slice().len();
         self.innermost.insert(key, place).unwrap();
@@ -185,6 +215,7 @@ impl Bindings {
             binding,
             hidden,
             alike: _,
+            covers: _,
         } = self.entries.pop().unwrap();
         let key = VariableName { text: binding.name };
         self.innermost.insert(key, hidden).unwrap();
@@ -197,6 +228,18 @@ fn entry_at(entries: &[Entry], place: usize) -> &Entry
     ensures { (d : Entry) → result.now ≡ get_or entries.now place d }
 {
     &entries[place]
+}
+
+/// What the entry at a place covers, or 0. Places are counted from 1.
+fn covers_at(entries: &[Entry], place: usize) -> usize
+    requires { 0 < place }
+    ensures { result ≡ (get_or entries.now (place - 1) no_entry).covers }
+{
+    let index = place - 1;
+    if index >= entries.len() {
+        return 0;
+    }
+    entry_at(entries, index).covers
 }
 
 /// One more than the place of a name, or 0.

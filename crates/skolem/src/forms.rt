@@ -3,21 +3,21 @@
 ghost use Rattle.std.specs.Prelude.{◌≡◌, ◌+◌, ◌++◌, map, length, take, IfOk};
 ghost use Rattle.tptp_tree.specs.Term.{terms_of};
 ghost use Rattle.tptp_tree.specs.Shape.{term_of};
-ghost use Rattle.tptp_tree.specs.Formula.{formulas_of, predicate, equation};
+ghost use Rattle.tptp_tree.specs.Formula.{formulas_of, predicate, equation, with_sign};
 ghost use Rattle.signature.specs.Occurrences.{formula_symbols, formulas_symbols, term_symbols};
 ghost use Rattle.signature.specs.Environment.{free_names};
 ghost use Rattle.signature.specs.Clausal.{with_variables, with_skolem_terms};
-ghost use Rattle.formula_nnf.specs.Shape.{nnf_tree, signed};
-ghost use Rattle.skolem.specs.Matrix.{matrices_of};
+ghost use Rattle.formula_nnf.specs.Shape.{nnf_tree};
+ghost use Rattle.skolem.specs.Matrix.{literal, matrices_of};
 ghost use Rattle.skolem.specs.Shape.{matrix_tree};
 ghost use Rattle.skolem.specs.Skolemized.{skolemized, skolemized_list, numbers_after, skolemized_form, AreKnown};
-ghost use Rattle.skolem.specs.Bindings.{HasVariables};
+ghost use Rattle.skolem.specs.Bindings.{HasVariables, Covers};
 ghost use Rattle.skolem.specs.Progress.{environment_of, made_of, scope_of_progress, skolem_step, skolem_steps};
 
 use crate::bound_term::BoundTerm;
 use crate::literal::{Atom, MatrixLiteral};
 use crate::matrix::{Matrices, Matrix};
-use crate::progress::Progress;
+use crate::progress::{Arguments, Progress};
 use formula_nnf::{Nnf, NnfBox};
 use plain_types::{Mem, NoMemory, Text};
 use signature::Signature;
@@ -66,10 +66,12 @@ fn matrix_of<'a>(
         Nnf::True => Ok(Matrix::True),
         Nnf::False => Ok(Matrix::False),
         Nnf::Pred(positive, name, arguments) => {
-            atom(alloc, signature, progress, *positive, name, arguments)
+            let literal = atom(alloc, signature, progress, *positive, name, arguments)?;
+            Ok(Matrix::Lit(literal))
         }
         Nnf::Equal(positive, left, right) => {
-            equation(alloc, signature, progress, *positive, left, right)
+            let literal = equation(alloc, signature, progress, *positive, left, right)?;
+            Ok(Matrix::Lit(literal))
         }
         Nnf::And(forms) => Ok(Matrix::And(matrices_of(
             alloc,
@@ -121,45 +123,43 @@ fn matrices_of<'a>(
 }
 
 /// A predicate's literal.
-fn atom<'a>(
+pub(crate) fn atom<'a>(
     alloc: Global,
     signature: &'a Signature,
     progress: &Progress,
     positive: bool,
     name: &'a Text,
     arguments: &'a TreeTerms,
-) -> Mem<Matrix<'a>>
+) -> Mem<MatrixLiteral<'a>>
     requires known { AreKnown signature.now (formula_symbols (predicate name.now (terms_of arguments.now))) }
-    ensures { IfOk result (λ matrix. matrix_tree matrix
-        ≡ (skolemized (numbers_after signature.now) (signed positive (predicate name.now (terms_of arguments.now)))
+    ensures { IfOk result (λ made. literal made
+        ≡ (skolemized (numbers_after signature.now) (with_sign positive (predicate name.now (terms_of arguments.now)))
         (environment_of progress.now.bindings) (made_of progress.now)).matrix) }
 {
     let atom = Atom::Pred(name, arguments);
-    let literal = MatrixLiteral::of_atom(alloc, signature, &progress.bindings, positive, atom)?;
-    Ok(Matrix::Lit(literal))
+    MatrixLiteral::of_atom(alloc, signature, &progress.bindings, positive, atom)
 }
 
 /// An equation's literal.
-fn equation<'a>(
+pub(crate) fn equation<'a>(
     alloc: Global,
     signature: &'a Signature,
     progress: &Progress,
     positive: bool,
     left: &'a TreeTerm,
     right: &'a TreeTerm,
-) -> Mem<Matrix<'a>>
+) -> Mem<MatrixLiteral<'a>>
     requires known { AreKnown signature.now (term_symbols (term_of left.now) ++ term_symbols (term_of right.now)) }
-    ensures { IfOk result (λ matrix. matrix_tree matrix
+    ensures { IfOk result (λ made. literal made
         ≡ (skolemized (numbers_after signature.now) (equation positive (term_of left.now) (term_of right.now))
         (environment_of progress.now.bindings) (made_of progress.now)).matrix) }
 {
     let atom = Atom::Equal(left, right);
-    let literal = MatrixLiteral::of_atom(alloc, signature, &progress.bindings, positive, atom)?;
-    Ok(Matrix::Lit(literal))
+    MatrixLiteral::of_atom(alloc, signature, &progress.bindings, positive, atom)
 }
 
 /// Each name is bound to a new variable.
-fn bind_variables(alloc: Global, names: &[Text], progress: &mut Progress) -> Mem<()>
+pub(crate) fn bind_variables(alloc: Global, names: &[Text], progress: &mut Progress) -> Mem<()>
     ensures scope { IfOk result (λ _. scope_of_progress progress.new
         ≡ with_variables names.now (environment_of progress.old.bindings) (made_of progress.old)) }
     ensures bindings { IfOk result (λ _.
@@ -173,7 +173,7 @@ fn bind_variables(alloc: Global, names: &[Text], progress: &mut Progress) -> Mem
 
 /// Each name is bound to a Skolem term, whose arguments are the variables in the terms of the form's other free variables. They are the
 /// same for all names, since the terms of the earlier ones have no other variables.
-fn bind_skolem_terms(
+pub(crate) fn bind_skolem_terms(
     alloc: Global,
     signature: &Signature,
     names: &[Text],
@@ -185,19 +185,22 @@ fn bind_skolem_terms(
     ensures bindings { IfOk result (λ _.
         take (length progress.old.bindings) progress.new.bindings ≡ progress.old.bindings) }
 {
-    let found = progress.arguments(alloc, names, body)?;
-    let arguments = Rc::new(alloc, found)?;
-    bind_applied(alloc, signature, names, &arguments, progress)
+    let Arguments { variables, covers } = progress.arguments(alloc, names, body)?;
+    let arguments = Rc::new(alloc, variables)?;
+    bind_applied(alloc, signature, names, &arguments, covers, progress)
 }
 
-/// Each name is bound to the next Skolem symbol, applied to those variables.
+/// Each name is bound to the next Skolem symbol, applied to those variables. Those of the binding at the place `covers` are among them; it is
+/// counted from 1, and 0 says nothing.
 fn bind_applied(
     alloc: Global,
     signature: &Signature,
     names: &[Text],
     arguments: &Rc<Vec<u32>>,
+    covers: usize,
     progress: &mut Progress,
 ) -> Mem<()>
+    requires covers { Covers progress.old.bindings covers arguments.now.value.items }
     ensures scope { IfOk result (λ _. scope_of_progress progress.new
         ≡ skolem_steps (numbers_after signature.now) arguments.now.value.items names.now (scope_of_progress progress.old)) }
     ensures bindings { IfOk result (λ _.
@@ -205,7 +208,7 @@ fn bind_applied(
 {
     let mut first = 0;
     for name in names {
-        bind_skolem_term(alloc, signature, arguments, name, first, progress)?;
+        bind_skolem_term(alloc, signature, arguments, name, first, covers, progress)?;
         if first == 0 {
             first = progress.bindings.len();
         }
@@ -213,17 +216,19 @@ fn bind_applied(
     Ok(())
 }
 
-/// Binds a name to the next Skolem symbol, applied to those variables. They are those of the binding at a place, which is counted from 1; 0 says
-/// nothing.
+/// Binds a name to the next Skolem symbol, applied to those variables. They are those of the binding at the place `alike`, and those of that at
+/// `covers` are among them. Places are counted from 1; 0 says nothing.
 fn bind_skolem_term(
     alloc: Global,
     signature: &Signature,
     arguments: &Rc<Vec<u32>>,
     name: &Text,
     alike: usize,
+    covers: usize,
     progress: &mut Progress,
 ) -> Mem<()>
     requires alike { HasVariables progress.old.bindings alike arguments.now.value.items }
+    requires covers { Covers progress.old.bindings covers arguments.now.value.items }
     ensures scope { IfOk result (λ _.
         scope_of_progress progress.new ≡ skolem_step (numbers_after signature.now) arguments.now.value.items name.now (scope_of_progress progress.old)) }
     ensures bindings { IfOk result (λ _.
@@ -237,7 +242,7 @@ fn bind_skolem_term(
         symbol,
         arguments: arguments.clone()?,
     };
-    progress.bind_term(alloc, name, term, arity, alike)?;
+    progress.bind_term(alloc, name, term, arity, alike, covers)?;
     Ok(())
 }
 

@@ -1,18 +1,19 @@
 // The work on a form: the variables in force with their terms, and what was made.
 
-ghost use Rattle.std.specs.Prelude.{◌≡◌, ℕ, ◌+◌, ◌==◌, ◌∷◌, [], ◌++◌, length, IfOk};
-ghost use Rattle.std.specs.List.{list_any};
+ghost use Rattle.std.specs.Prelude.{◌≡◌, ◌+◌, ◌∷◌, [], ◌++◌, nat_lt, IfOk};
+ghost use Rattle.std.specs.List.{list_all};
 ghost use Rattle.std.specs.List.Sorted.{IsNonDecreasingBy};
 ghost use Rattle.signature.specs.Environment.{free_names, without_names};
 ghost use Rattle.signature.specs.Clausal.{skolem_arguments, made_in_order};
 ghost use Rattle.signature.specs.Form.{nothing_made};
 ghost use Rattle.fol_base.specs.Tree.{tree_variables};
 ghost use Rattle.skolem.specs.BoundTerm.{bound_tree};
-ghost use Rattle.skolem.specs.Bindings.{HasVariables};
-ghost use Rattle.skolem.specs.Progress.{environment_of, variable_term, made_of, variables_at};
+ghost use Rattle.skolem.specs.Bindings.{HasVariables, Covers};
+ghost use Rattle.skolem.specs.Progress.{environment_of, variable_term, made_of};
 
 use crate::bindings::Bindings;
 use crate::bound_term::BoundTerm;
+use crate::gathering::variables_at;
 use crate::occurring::push_occurring_under;
 use formula_nnf::NnfBox;
 use plain_types::{Mem, NoMemory, Text};
@@ -24,6 +25,13 @@ pub(crate) struct Progress {
     pub bindings: Bindings,
     pub variables: u32,
     pub arities: Vec<u32>,
+}
+
+/// The arguments of a quantifier's Skolem terms; and the place of a binding whose term's variables are among them, counted from 1, or 0.
+#[derive(Drop)]
+pub(crate) struct Arguments {
+    pub variables: Vec<u32>,
+    pub covers: usize,
 }
 
 impl Progress {
@@ -53,8 +61,8 @@ impl Progress {
         Ok(())
     }
 
-    /// A new Skolem term stands for the name. Its symbol has that number of arguments. They are the variables of the binding at a place, which is
-    /// counted from 1; 0 says nothing.
+    /// A new Skolem term stands for the name. Its symbol has that number of arguments. They are the variables of the binding at the place `alike`,
+    /// and those of that at `covers` are among them. Places are counted from 1; 0 says nothing.
     pub(crate) fn bind_term(
         &mut self,
         alloc: Global,
@@ -62,15 +70,17 @@ impl Progress {
         term: BoundTerm,
         arity: u32,
         alike: usize,
+        covers: usize,
     ) -> Mem<()>
         requires alike { HasVariables self.old.bindings alike (tree_variables (bound_tree term)) }
+        requires covers { Covers self.old.bindings covers (tree_variables (bound_tree term)) }
         ensures bindings { IfOk result (λ _. self.new.bindings
             ≡ self.old.bindings ++ record { name = name.now; term = term } ∷ []) }
         ensures variables { self.new.variables ≡ self.old.variables }
         ensures arities { IfOk result (λ _. self.new.arities.items ≡ self.old.arities.items ++ arity ∷ []) }
     {
         self.arities.push(arity)?;
-        self.bindings.push_alike(alloc, name, term, alike)
+        self.bindings.push_noted(alloc, name, term, alike, covers)
     }
 
     /// The variables in the terms of a quantified form's free variables, in the order in which they were made, each once. The form
@@ -80,9 +90,10 @@ impl Progress {
         alloc: Global,
         names: &[Text],
         body: &NnfBox<'_>,
-    ) -> Mem<Vec<u32>>
-        ensures found { IfOk result (λ found. found.items
+    ) -> Mem<Arguments>
+        ensures found { IfOk result (λ found. found.variables.items
             ≡ skolem_arguments (without_names names.now (free_names body.now)) (environment_of self.old.bindings) (made_of self.old)) }
+        ensures covers { IfOk result (λ found. Covers self.old.bindings found.covers found.variables.items) }
         ensures bindings { IfOk result (λ _. self.new.bindings ≡ self.old.bindings) }
         ensures variables { self.new.variables ≡ self.old.variables }
         ensures arities { self.new.arities.items ≡ self.old.arities.items }
@@ -91,29 +102,20 @@ impl Progress {
         let mut places = Vec::new(alloc);
         push_occurring_under(alloc, names, body, outer, &mut self.bindings, &mut places)?;
         let mut occurring = variables_at(alloc, &self.bindings, &mut places)?;
-        made_in_order(alloc, self.variables, &mut occurring)
+        let are_made = are_below(self.variables, occurring.variables.as_slice());
+        let variables = made_in_order(alloc, self.variables, &mut occurring.variables)?;
+        Ok(Arguments {
+            variables,
+            covers: if are_made { occurring.covers } else { 0 },
+        })
     }
 }
 
-/// The variables in the terms at those places, where each place counts once. The list of places is sorted for it.
-fn variables_at(alloc: Global, bindings: &Bindings, places: &mut Vec<u32>) -> Mem<Vec<u32>>
-    ensures { IfOk result (λ found. (v : ℕ)
-        → list_any (λ w. v == w) found.items ≡ list_any (λ w. v == w) (variables_at bindings.now places.old.items)) }
+/// Whether all variables are below that number.
+fn are_below(number: u32, variables: &[u32]) -> bool
+    ensures { result ≡ list_all (λ v. nat_lt v number) variables.now }
 {
-    let different = made_in_order(alloc, place_count(bindings)?, places)?;
-    let mut found = Vec::new(alloc);
-    for place in different.as_slice() {
-        bindings.push_variables_at(*place, &mut found)?;
-    }
-    Ok(found)
-}
-
-/// How many places there are, that of no binding included.
-fn place_count(bindings: &Bindings) -> Mem<u32>
-    ensures { IfOk result (λ count. count ≡ length bindings.now + 1) }
-{
-    let last = u32::try_from(bindings.len()).map_err(|_| NoMemory)?;
-    last.checked_add(1).ok_or(NoMemory)
+    variables.iter().all(|variable| *variable < number)
 }
 
 /// Of the variables below that number those that occur, in their order, each once. The list is sorted for it.

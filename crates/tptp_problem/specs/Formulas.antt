@@ -8,7 +8,7 @@ use Rattle.tptp_token.specs.declared.token.Kind.TheVariants.{Lower}
 use Rattle.tptp_tree.specs.declared.problem.Annotated.{Annotated}
 use Rattle.tptp_tree.specs.declared.role.Role.TheVariants.{Conjecture}
 use Rattle.tptp_tree.specs.Entries.{AnnotatedTree, language_word, role_word}
-use Rattle.tptp_reader.specs.Shape.{tree_of}
+use Rattle.tptp_tree.specs.Shape.{entry_of}
 
 -- a formula, the name of its file and its place in it
 pub record Placed : Type 0 where
@@ -17,7 +17,7 @@ pub record Placed : Type 0 where
   pub place : ℕ
 
 abbrev pub placed_in : List ℕ → Annotated → Placed
-placed_in file a = record { tree = tree_of a; file = file; place = a.place }
+placed_in file a = record { tree = entry_of a; file = file; place = a.place }
 
 abbrev pub placed : Annotated → Placed
 placed a = placed_in a.file a

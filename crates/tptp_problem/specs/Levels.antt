@@ -1,5 +1,5 @@
 -- How deep the formulas of a problem are nested.
-use Rattle.std.specs.Prelude.{ℕ, zero, suc}
+use Rattle.std.specs.Prelude.{ℕ, zero, suc, List}
 use Rattle.tptp_tree.specs.declared.limits.TheConstants.{MOST_NESTING, MOST_PRINTED_NESTING}
 use Rattle.tptp_tree.specs.Formula.{FormulaTree, truth, negation}
 use Rattle.tptp_tree.specs.Levels.{IsWrittenWithin, SpellsFormulaWithin}
@@ -20,3 +20,11 @@ negated_times (suc n) = negation (negated_times n)
 -- one level over the limit
 abbrev pub TooManyLevels : Type 0
 TooManyLevels = HasFewLevels (negated_times (suc MOST_NESTING)) → ⊥
+
+-- `~` 1,001 times is over the limit of what is printed
+abbrev pub TooManyPrinted : Type 0
+TooManyPrinted = (text : List ℕ) → SpellsFormulaWithin MOST_PRINTED_NESTING text (negated_times 1001) → ⊥
+
+-- What is printed of a formula of few levels spells it within 1,000.
+abbrev pub PrintedWithin : Type 0
+PrintedWithin = (f : FormulaTree) → HasFewLevels f → SpellsFormulaWithin 1000 (formula_text f) f

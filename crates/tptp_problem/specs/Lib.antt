@@ -9,4 +9,5 @@ pub mod IncludeReads
 pub mod Closed
 pub mod Spelled
 pub mod SpelledExamples
+pub mod FaultExamples
 pub mod Levels

@@ -40,6 +40,19 @@ WholeFile =
     (record { tree = clause_named (codes "b") (codes "q"); file = codes "r/f" }
     ∷ record { tree = clause_named (codes "c") (codes "r"); file = codes "r/f" } ∷ [])
 
+-- the same with a third file
+abbrev pub nested : Holdings
+nested file =
+    if bytes_eq (codes "d/g") file then Some two_clauses
+    else holding (codes "d/a") (codes "include('e/f').") (codes "d/e/f") (codes "include(g,[b]).cnf(a,plain,p).") file
+
+-- The file of an include within an included file lies beside the first one too, and not beside the one that names it.
+abbrev pub NestedInclude : Type 0
+NestedInclude =
+    SpellsProblem (Some nested) (codes "d/a") None
+    (record { tree = clause_named (codes "b") (codes "q"); file = codes "d/g" }
+    ∷ record { tree = clause_named (codes "a") (codes "p"); file = codes "d/e/f" } ∷ [])
+
 -- such a clause in its file
 abbrev pub placed_clause : List ℕ → List ℕ → List ℕ → ℕ → Placed
 placed_clause name symbol file place = record { tree = clause_named name symbol; file = file; place = place }

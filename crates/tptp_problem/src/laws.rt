@@ -13,8 +13,9 @@ ghost use Rattle.tptp_problem.specs.Formulas.{Placed, placed};
 ghost use Rattle.tptp_problem.specs.Closed.{closed_within};
 ghost use Rattle.tptp_problem.specs.Problem.{IsProblem, IsProblemFault};
 ghost use Rattle.tptp_problem.specs.Spelled.{FromFile, from_file, SpellsProblem};
-ghost use Rattle.tptp_problem.specs.SpelledExamples.{SelectedFormula, WholeFile, OneClause, SelectedProblem, MissingName};
-ghost use Rattle.tptp_problem.specs.Levels.{HasFewLevels, TooManyLevels};
+ghost use Rattle.tptp_problem.specs.SpelledExamples.{SelectedFormula, WholeFile, NestedInclude, OneClause, SelectedProblem, MissingName};
+ghost use Rattle.tptp_problem.specs.FaultExamples.{TwoConjectures, IncludesItself, TooManyBytes, IncludeCutOff, QuoteLeftOpen};
+ghost use Rattle.tptp_problem.specs.Levels.{HasFewLevels, TooManyLevels, TooManyPrinted, PrintedWithin};
 
 /// Where a library tells what it holds, a file has one problem or one first fault, but that a load may fail: there is at most
 /// one problem, no other fault beside it, and at most one other fault.
@@ -67,18 +68,31 @@ pub fn formulas_are_spelled()
         → SpellsProblem (Some holds) file root f → SpellsProblem (Some holds) file root g → f ≡ g }
 {}
 
-/// Each formula of a problem is said by one of at most 500 levels, and its printed text spells it within 1,000; 501 negations aren't.
+/// Each formula of a problem is said by one of at most 500 levels, and its printed text spells it within 1,000; 501 negations aren't, nor
+/// does any text spell 1,001 of them within the levels of what is printed.
 pub fn few_levels()
     ensures problem { (told : Option Holdings) (file : List ℕ) (root : Option (List ℕ)) (formulas : List Placed)
         → IsProblem told file root formulas → AllByRecursion (λ (f : Placed). HasFewLevels f.tree.formula) formulas }
     ensures not_more { TooManyLevels }
+    ensures printed { PrintedWithin }
+    ensures not_printed { TooManyPrinted }
 {}
 
 /// The definitions of a problem, on small files.
 pub fn problem_examples()
     ensures selected_formula { SelectedFormula }
     ensures whole_file { WholeFile }
+    ensures nested_include { NestedInclude }
     ensures one_clause { OneClause }
     ensures selected_problem { SelectedProblem }
     ensures missing_name { MissingName }
+{}
+
+/// The faults of a problem, on small files.
+pub fn fault_examples()
+    ensures two_conjectures { TwoConjectures }
+    ensures includes_itself { IncludesItself }
+    ensures too_many_bytes { TooManyBytes }
+    ensures include_cut_off { IncludeCutOff }
+    ensures quote_left_open { QuoteLeftOpen }
 {}

@@ -8,7 +8,8 @@ use Rattle.tptp_tree.specs.Entries.{AnnotatedPhrase, IsAnnotatedOf}
 use Rattle.tptp_tree.specs.Causes.{Refusal, syntax, free_variable, role_not_taken, too_deep, left_out}
 use Rattle.tptp_reader.specs.Placed.{IsReadFrom, IsRefusedFrom, RunsOutFrom}
 use Rattle.tptp_reader.specs.Faults.{IsFaultWhere}
-use Rattle.tptp_reader.specs.Shape.{form_of, tree_of}
+use Rattle.tptp_reader.specs.Shape.{form_of}
+use Rattle.tptp_tree.specs.Shape.{entry_of}
 use Rattle.tptp_reader.specs.declared.cause.ReadCause.{ReadCause}
 use Rattle.tptp_reader.specs.declared.cause.ReadCause.TheVariants.{BadByte, Unclosed, Syntax, FreeVariable, Role, SecondConjecture, SelectionMissing, IncludeDepth, TooLong, Nesting, Inappropriate, Load}
 use Rattle.tptp_reader.specs.declared.cause.ReadFault.{ReadFault}
@@ -19,7 +20,7 @@ use Rattle.tptp_reader.specs.declared.entry.Read.{Read}
 pub record IsReading (limit : ℕ) (bytes : List ℕ) (tokens : List Token) (first : ℕ) (read : Read) : Type 0 where
   pub phrase : AnnotatedPhrase
   pub spelled : IsReadFrom limit (lexemes_of bytes tokens) first phrase read.next
-  pub meant : IsAnnotatedOf phrase (tree_of read.annotated)
+  pub meant : IsAnnotatedOf phrase (entry_of read.annotated)
   pub within : read.next ≤ length tokens
   pub notes : drop read.notes_start (lexemes_of bytes tokens) ≡ phrase.notes ++ drop read.notes_end (lexemes_of bytes tokens)
   pub close : read.notes_end + 2 ≡ read.next
@@ -28,7 +29,7 @@ pub record IsReading (limit : ℕ) (bytes : List ℕ) (tokens : List Token) (fir
 
 -- two answers of what is read say the same
 pub record IsSameReading (read other : Read) : Type 0 where
-  pub tree : tree_of read.annotated ≡ tree_of other.annotated
+  pub tree : entry_of read.annotated ≡ entry_of other.annotated
   pub place : read.annotated.place ≡ other.annotated.place
   pub file : read.annotated.file ≡ other.annotated.file
   pub start : read.notes_start ≡ other.notes_start

@@ -1,7 +1,7 @@
 -- What the functions that read an annotated formula say of the tokens before and after, told by the stack machine.
-use Rattle.std.specs.Prelude.{◌≡◌, ◌<◌, ◌≤◌, ◌+◌, ⊤, ℕ, Bool, true, false, List, [], ◌∷◌, ◌++◌, map, drop, length, codes, bytes_eq, Option, None, Some, not, if◌then◌else◌}
+use Rattle.std.specs.Prelude.{◌≡◌, ◌≤◌, ◌+◌, ⊤, ℕ, Bool, true, false, List, [], ◌∷◌, ◌++◌, map, drop, codes, bytes_eq, Option, None, Some, not, if◌then◌else◌}
 use Rattle.std.specs.List.{list_any}
-use Rattle.tptp_token.specs.Lexemes.{Lexeme, lexemes_of, lexeme}
+use Rattle.tptp_token.specs.Lexemes.{Lexeme, lexemes_of, lexeme, IsTokenAt}
 use Rattle.tptp_token.specs.declared.token.Kind.{Kind}
 use Rattle.tptp_token.specs.declared.token.Kind.TheVariants.{Lower, Variable, Quoted, Distinct, Dollar, Number, Connective, Mark, Other}
 use Rattle.tptp_tree.specs.Term.{TermTree, TermTrees}
@@ -28,9 +28,8 @@ abbrev pub lexemes : Reader → List Lexeme
 lexemes r = lexemes_of r.bytes.now r.tokens.now
 
 -- the token at an index
-pub record IsNext (r : Reader) (at : ℕ) (token : Lexeme) : Type 0 where
-  pub here : drop at (lexemes r) ≡ token ∷ drop (at + 1) (lexemes r)
-  pub within : at < length r.tokens.now
+abbrev pub IsNext : Reader → ℕ → Lexeme → Type 0
+IsNext r at token = IsTokenAt r.bytes.now r.tokens.now at token
 
 -- ---- refusals
 

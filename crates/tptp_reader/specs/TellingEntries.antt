@@ -8,7 +8,7 @@ use Rattle.tptp_tree.specs.Entries.{NamePhrase, name_lexeme, name_meant, is_righ
 use Rattle.tptp_tree.specs.Causes.{outermost}
 use Rattle.tptp_tree.specs.declared.role.Role.{Role}
 use Rattle.tptp_reader.specs.Faults.{IsEndFault}
-use Rattle.tptp_reader.specs.Shape.{tree_of}
+use Rattle.tptp_tree.specs.Shape.{entry_of}
 use Rattle.tptp_reader.specs.Machine.{Symbol, a_name, a_role, a_clause, an_annotated, end_of_body, before_body, formula_symbols, read_up_to}
 use Rattle.tptp_reader.specs.Telling.{lexemes, IsNext, Leads, told}
 use Rattle.tptp_reader.specs.declared.source.Reader.{Reader}
@@ -68,7 +68,7 @@ pub record ReadsEntry (r : Reader) (first : ℕ) (read : Read) : Type 0 where
   pub phrase : AnnotatedPhrase
   pub right : is_right_annotated phrase ≡ true
   pub spelled : drop first (lexemes r) ≡ annotated_lexemes phrase (drop read.next (lexemes r))
-  pub meant : IsAnnotatedOf phrase (tree_of read.annotated)
+  pub meant : IsAnnotatedOf phrase (entry_of read.annotated)
   pub told_so : told r (an_annotated r.limit ∷ []) first ≡ read_up_to read.next
   pub range : drop read.notes_start (lexemes r) ≡ phrase.notes ++ drop read.notes_end (lexemes r)
 

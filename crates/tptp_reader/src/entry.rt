@@ -216,8 +216,9 @@ impl<'a> Reader<'a> {
             let (plain, last) = reader.clause(alloc, &bound, at, 0)?;
             return Ok((plain, last));
         }
-        let (formula, next) = reader.formula(alloc, &mut bound, at, 0)?;
-        Ok((formula, next))
+        let mut read = Formula::True;
+        let next = reader.formula(alloc, &mut bound, &mut read, at, 0)?;
+        Ok((read, next))
     }
 
     /// Reads notes behind a comma, or none, and the bracket and the full stop that close the entry.

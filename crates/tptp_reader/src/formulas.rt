@@ -1,12 +1,16 @@
 // Formulas of `fof` entries, read from tokens.
+//
+// What is read is put into a place that the caller lends, in place of the formula that stands there. So no function that waits for
+// what stands in brackets keeps a formula of its own, and a level of nesting takes little stack. What holds or moves formulas is in
+// functions that aren't inlined and from which nothing is read.
 
-ghost use Rattle.std.specs.Prelude.{◌≡◌, IfOk, IfErr, codes};
+ghost use Rattle.std.specs.Prelude.{◌≡◌, ◌++◌, [], ◌∷◌, IfOk, IfErr, codes, true};
 ghost use Rattle.tptp_token.specs.declared.token.Kind.TheVariants.{Connective, Mark};
 ghost use Rattle.tptp_token.specs.Lexemes.{lexeme};
-ghost use Rattle.tptp_tree.specs.Formula.{connected as connected_tree, quantified as quantified_tree};
+ghost use Rattle.tptp_tree.specs.Formula.{negation, conjunction, disjunction, formulas_of, connected as connected_tree, quantified as quantified_tree};
 ghost use Rattle.tptp_tree.specs.Shape.{formula_of};
-ghost use Rattle.tptp_reader.specs.Machine.{a_unit, formula_symbols, variables_bracket};
-ghost use Rattle.tptp_reader.specs.Telling.{one, IsNext, Halts, ReadsFormula, ReadsUnit, ReadsUnits, further_units, ReadsBound, ReadsVariables, ReadsVariable, HaltsVariable, Binds, BindsOne, quantifier_of, binary_of};
+ghost use Rattle.tptp_reader.specs.Machine.{an_atom, a_unit, formula_symbols, variables_bracket};
+ghost use Rattle.tptp_reader.specs.Telling.{one, IsNext, Halts, ReadsAtom, ReadsFormula, ReadsUnit, ReadsUnits, further_units, ReadsBound, ReadsVariables, ReadsVariable, HaltsVariable, Binds, BindsOne, quantifier_of, binary_of};
 
 use crate::bound::Bound;
 use crate::cause::{Halt, Refusal};
@@ -14,6 +18,7 @@ use crate::lists::fitted_formulas;
 use crate::source::{Binary, Name, Reader, binary_connective, is_quantifier};
 use plain_types::{Mem, Text, Texts};
 use std::alloc::Global;
+use std::mem;
 use tptp_tree::{Formula, FormulaBox, Formulas};
 
 impl<'a> Reader<'a> {
@@ -23,81 +28,84 @@ impl<'a> Reader<'a> {
         &self,
         alloc: Global,
         bound: &mut Bound<'a>,
+        read: &mut Formula,
         at: usize,
         level: u32,
-    ) -> Result<(Formula, usize), Halt>
-        ensures read { IfOk result (λ read. ReadsFormula self.now bound.old level at read.1 (formula_of read.0)) }
+    ) -> Result<usize, Halt>
+        ensures read { IfOk result (λ next. ReadsFormula self.now bound.old level at next (formula_of read.new)) }
         ensures kept { IfOk result (λ _. bound.new ≡ bound.old) }
         ensures halted { IfErr result (λ halt. Halts self.now formula_symbols bound.old level at halt) }
     {
-        let (first, after) = self.unit(alloc, bound, at, level)?;
-        self.after_unit(alloc, bound, at, first, after, level)
+        let after = self.unit(alloc, bound, read, at, level)?;
+        self.after_unit(alloc, bound, read, at, after, level)
     }
 
-    /// Reads what follows a formula's first unit, which begins at an index and ends before another one. It stands apart, and
-    /// out of the way of the recursion, so that a level of brackets takes little stack.
+    /// Reads what follows a formula's first unit, which begins at an index and ends before another one.
     #[cycle(formulas)]
     #[inline(never)]
     fn after_unit(
         &self,
         alloc: Global,
         bound: &mut Bound<'a>,
+        read: &mut Formula,
         at: usize,
-        first: Formula,
         after: usize,
         level: u32,
-    ) -> Result<(Formula, usize), Halt>
-        requires { ReadsUnit self.now bound.old level at after (formula_of first) }
-        ensures read { IfOk result (λ read. ReadsFormula self.now bound.old level at read.1 (formula_of read.0)) }
+    ) -> Result<usize, Halt>
+        requires { ReadsUnit self.now bound.old level at after (formula_of read.old) }
+        ensures read { IfOk result (λ next. ReadsFormula self.now bound.old level at next (formula_of read.new)) }
         ensures kept { IfOk result (λ _. bound.new ≡ bound.old) }
         ensures halted { IfErr result (λ halt. Halts self.now formula_symbols bound.old level at halt) }
     {
         let sign = self.look(after)?;
         if sign.is_connective(b"&") {
-            let (all, next) = self.operands(alloc, bound, first, b"&", after + 1, level)?;
-            return Ok((Formula::And(all), next));
+            let (all, next) = self.operands(alloc, bound, read, b"&", after + 1, level)?;
+            conjoin(all, read);
+            return Ok(next);
         }
         if sign.is_connective(b"|") {
-            let (some, next) = self.operands(alloc, bound, first, b"|", after + 1, level)?;
-            return Ok((Formula::Or(some), next));
+            let (some, next) = self.operands(alloc, bound, read, b"|", after + 1, level)?;
+            disjoin(some, read);
+            return Ok(next);
         }
         match binary_connective(&sign) {
-            None => Ok((first, after)),
+            None => Ok(after),
             Some(connective) => {
-                let (second, end) = self.unit(alloc, bound, after + 1, level)?;
-                let both = connected(alloc, connective, first, second)?;
-                Ok((both, end))
+                let left = boxed(alloc, read)?;
+                let end = self.unit(alloc, bound, read, after + 1, level)?;
+                connect(alloc, connective, left, read)?;
+                Ok(end)
             }
         }
     }
 
-    /// Reads the units behind the first one and a connective, with the same connective between them.
+    /// Reads the units behind the first one, which is read, and a connective, with the same connective between them.
     #[cycle(formulas)]
     #[inline(never)]
     fn operands(
         &self,
         alloc: Global,
         bound: &mut Bound<'a>,
-        first: Formula,
+        read: &mut Formula,
         sign: &[u8],
         at: usize,
         level: u32,
     ) -> Result<(Formulas, usize), Halt>
-        ensures read { IfOk result (λ read. ReadsUnits sign.now (formula_of first) self.now bound.old level at read.1 read.0) }
+        ensures read { IfOk result (λ units. ReadsUnits sign.now (formula_of read.old) self.now bound.old level at units.1 units.0) }
         ensures kept { IfOk result (λ _. bound.new ≡ bound.old) }
         ensures halted { IfErr result (λ halt. Halts self.now (further_units sign.now) bound.old level at halt) }
     {
         let mut operands = Formulas::new(alloc);
-        operands.push(first)?;
-        let (second, mut next) = self.unit(alloc, bound, at, level)?;
-        operands.push(second)?;
+        push_read(&mut operands, read)?;
+        let mut next = self.unit(alloc, bound, read, at, level)?;
+        push_read(&mut operands, read)?;
         loop {
             let token = self.look(next)?;
             if !token.is_connective(sign) {
                 return Ok((fitted_formulas(operands), next));
             }
-            let (operand, after) = self.unit(alloc, bound, next + 1, level)?;
-            operands.push(operand)?;
+            let after = self.unit(alloc, bound, read, next + 1, level)?;
+            push_read(&mut operands, read)?;
             next = after;
         }
     }
@@ -108,28 +116,47 @@ impl<'a> Reader<'a> {
         &self,
         alloc: Global,
         bound: &mut Bound<'a>,
+        read: &mut Formula,
         at: usize,
         level: u32,
-    ) -> Result<(Formula, usize), Halt>
-        ensures read { IfOk result (λ read. ReadsUnit self.now bound.old level at read.1 (formula_of read.0)) }
+    ) -> Result<usize, Halt>
+        ensures read { IfOk result (λ next. ReadsUnit self.now bound.old level at next (formula_of read.new)) }
         ensures kept { IfOk result (λ _. bound.new ≡ bound.old) }
         ensures halted { IfErr result (λ halt. Halts self.now (one a_unit) bound.old level at halt) }
     {
         let token = self.look(at)?;
         if token.is_connective(b"~") {
-            return self.negated(alloc, bound, at, level);
+            return self.negated(alloc, bound, read, at, level);
         }
         if is_quantifier(&token) {
             let scope = self.deeper(at, level)?;
             let for_all = token.is_connective(b"!");
-            let (quantified, end) = self.quantified(alloc, bound, for_all, at + 1, scope)?;
-            return Ok((quantified, end));
+            let end = self.quantified(alloc, bound, read, for_all, at + 1, scope)?;
+            return Ok(end);
         }
         if token.is_mark(b"(") {
-            return self.in_brackets(alloc, bound, at, level);
+            return self.in_brackets(alloc, bound, read, at, level);
         }
-        let (plain, last) = self.atom(alloc, &*bound, at, level, true)?;
-        Ok((plain, last))
+        let last = self.plain(alloc, &*bound, read, at, level)?;
+        Ok(last)
+    }
+
+    /// Reads an atom. It stands apart, so that its own frame is gone where a unit within brackets is read.
+    #[inline(never)]
+    fn plain(
+        &self,
+        alloc: Global,
+        bound: &Bound<'a>,
+        read: &mut Formula,
+        at: usize,
+        level: u32,
+    ) -> Result<usize, Halt>
+        ensures read { IfOk result (λ next. ReadsAtom true self.now bound.now level at next (formula_of read.new)) }
+        ensures halted { IfErr result (λ halt. Halts self.now (one (an_atom true)) bound.now level at halt) }
+    {
+        let (atom, next) = self.atom(alloc, bound, at, level, true)?;
+        *read = atom;
+        Ok(next)
     }
 
     /// Reads a negation, from its `~` on.
@@ -139,18 +166,19 @@ impl<'a> Reader<'a> {
         &self,
         alloc: Global,
         bound: &mut Bound<'a>,
+        read: &mut Formula,
         at: usize,
         level: u32,
-    ) -> Result<(Formula, usize), Halt>
+    ) -> Result<usize, Halt>
         requires { IsNext self.now at (lexeme Connective (codes "~")) }
-        ensures read { IfOk result (λ read. ReadsUnit self.now bound.old level at read.1 (formula_of read.0)) }
+        ensures read { IfOk result (λ next. ReadsUnit self.now bound.old level at next (formula_of read.new)) }
         ensures kept { IfOk result (λ _. bound.new ≡ bound.old) }
         ensures halted { IfErr result (λ halt. Halts self.now (one a_unit) bound.old level at halt) }
     {
         let under = self.deeper(at, level)?;
-        let (negated, next) = self.unit(alloc, bound, at + 1, under)?;
-        let boxed = FormulaBox::new(alloc, negated)?;
-        Ok((Formula::Not(boxed), next))
+        let next = self.unit(alloc, bound, read, at + 1, under)?;
+        negate(alloc, read)?;
+        Ok(next)
     }
 
     /// Reads a formula in brackets, from the first of them on.
@@ -160,18 +188,19 @@ impl<'a> Reader<'a> {
         &self,
         alloc: Global,
         bound: &mut Bound<'a>,
+        read: &mut Formula,
         at: usize,
         level: u32,
-    ) -> Result<(Formula, usize), Halt>
+    ) -> Result<usize, Halt>
         requires { IsNext self.now at (lexeme Mark (codes "(")) }
-        ensures read { IfOk result (λ read. ReadsUnit self.now bound.old level at read.1 (formula_of read.0)) }
+        ensures read { IfOk result (λ next. ReadsUnit self.now bound.old level at next (formula_of read.new)) }
         ensures kept { IfOk result (λ _. bound.new ≡ bound.old) }
         ensures halted { IfErr result (λ halt. Halts self.now (one a_unit) bound.old level at halt) }
     {
         let inside = self.deeper(at, level)?;
-        let (grouped, close) = self.formula(alloc, bound, at + 1, inside)?;
+        let close = self.formula(alloc, bound, read, at + 1, inside)?;
         let behind = self.after(close, b")")?;
-        Ok((grouped, behind))
+        Ok(behind)
     }
 
     /// Reads the variables of a quantifier and its unit, in which they are bound.
@@ -181,21 +210,22 @@ impl<'a> Reader<'a> {
         &self,
         alloc: Global,
         bound: &mut Bound<'a>,
+        read: &mut Formula,
         for_all: bool,
         at: usize,
         level: u32,
-    ) -> Result<(Formula, usize), Halt>
-        ensures read { IfOk result (λ read. ReadsBound for_all self.now bound.old level at read.1 (formula_of read.0)) }
+    ) -> Result<usize, Halt>
+        ensures read { IfOk result (λ next. ReadsBound for_all self.now bound.old level at next (formula_of read.new)) }
         ensures kept { IfOk result (λ _. bound.new ≡ bound.old) }
         ensures halted { IfErr result (λ halt. Halts self.now (one variables_bracket) bound.old level at halt) }
     {
         let outer = bound.len();
         let (variables, next) = self.variables(alloc, bound, at, level)?;
         let colon = self.after(next, b":")?;
-        let (inner, end) = self.unit(alloc, bound, colon, level)?;
+        let end = self.unit(alloc, bound, read, colon, level)?;
         bound.truncate(outer);
-        let body = FormulaBox::new(alloc, inner)?;
-        Ok((quantified_by(for_all, variables, body), end))
+        quantify(alloc, for_all, variables, read)?;
+        Ok(end)
     }
 
     /// Reads variables in square brackets, and binds them.
@@ -252,31 +282,75 @@ impl<'a> Reader<'a> {
     }
 }
 
-/// A formula with a quantifier: `!` or `?`.
+/// Takes a read formula out of its place, in which `$true` is left, and adds it to a list.
 #[inline(never)]
-fn quantified_by(for_all: bool, variables: Texts, body: FormulaBox) -> Formula
-    ensures { formula_of result ≡ quantified_tree (quantifier_of for_all) variables body }
+fn push_read(formulas: &mut Formulas, read: &mut Formula) -> Mem<()>
+    ensures { IfOk result (λ _. formulas.new ≡ formulas.old ++ formula_of read.old ∷ []) }
 {
-    if for_all {
+    formulas.push(mem::replace(read, Formula::True))
+}
+
+/// Takes a read formula out of its place, in which `$true` is left, into a box.
+#[inline(never)]
+fn boxed(alloc: Global, read: &mut Formula) -> Mem<FormulaBox>
+    ensures { IfOk result (λ taken. taken ≡ formula_of read.old) }
+{
+    FormulaBox::new(alloc, mem::replace(read, Formula::True))
+}
+
+/// Puts a conjunction in the place of what was read.
+#[inline(never)]
+fn conjoin(operands: Formulas, read: &mut Formula)
+    ensures { formula_of read.new ≡ conjunction (formulas_of operands) }
+{
+    *read = Formula::And(operands);
+}
+
+/// Puts a disjunction in the place of what was read.
+#[inline(never)]
+fn disjoin(operands: Formulas, read: &mut Formula)
+    ensures { formula_of read.new ≡ disjunction (formulas_of operands) }
+{
+    *read = Formula::Or(operands);
+}
+
+/// Puts the negation of a read formula in its place.
+#[inline(never)]
+fn negate(alloc: Global, read: &mut Formula) -> Mem<()>
+    ensures { IfOk result (λ _. formula_of read.new ≡ negation (formula_of read.old)) }
+{
+    let inner = boxed(alloc, read)?;
+    *read = Formula::Not(inner);
+    Ok(())
+}
+
+/// Puts a quantifier, `!` or `?`, before a read formula.
+#[inline(never)]
+fn quantify(alloc: Global, for_all: bool, variables: Texts, read: &mut Formula) -> Mem<()>
+    ensures { IfOk result (λ _. formula_of read.new ≡ quantified_tree (quantifier_of for_all) variables (formula_of read.old)) }
+{
+    let body = boxed(alloc, read)?;
+    *read = if for_all {
         Formula::All(variables, body)
     } else {
         Formula::Ex(variables, body)
-    }
+    };
+    Ok(())
 }
 
-/// Two formulas with a connective of two operands.
+/// Puts a connective of two operands between a formula and the one that was read behind it.
 #[inline(never)]
-fn connected(alloc: Global, connective: Binary, left: Formula, right: Formula) -> Mem<Formula>
-    ensures { IfOk result (λ both. formula_of both ≡ connected_tree (binary_of connective) (formula_of left) (formula_of right)) }
+fn connect(alloc: Global, connective: Binary, left: FormulaBox, read: &mut Formula) -> Mem<()>
+    ensures { IfOk result (λ _. formula_of read.new ≡ connected_tree (binary_of connective) left (formula_of read.old)) }
 {
-    let left = FormulaBox::new(alloc, left)?;
-    let right = FormulaBox::new(alloc, right)?;
-    Ok(match connective {
+    let right = boxed(alloc, read)?;
+    *read = match connective {
         Binary::Implies => Formula::Implies(left, right),
         Binary::Implied => Formula::Implied(left, right),
         Binary::Iff => Formula::Iff(left, right),
         Binary::Xor => Formula::Xor(left, right),
         Binary::Nor => Formula::Nor(left, right),
         Binary::Nand => Formula::Nand(left, right),
-    })
+    };
+    Ok(())
 }

@@ -15,7 +15,7 @@ ghost use Rattle.tptp_token.specs.declared.token.Lexed.{Lexed};
 ghost use Rattle.tptp_reader.specs.Annotating.{IsReading, IsFaultAt, IsSameReading};
 ghost use Rattle.tptp_reader.specs.Answers.{AreFaultless};
 ghost use Rattle.tptp_reader.specs.declared.cause.ReadCause.{ReadCause};
-ghost use Rattle.tptp_reader.specs.Shape.{tree_of};
+ghost use Rattle.tptp_tree.specs.Shape.{entry_of};
 ghost use Rattle.tptp_reader.specs.Printed.{IsPrintedAgain};
 ghost use Rattle.tptp_reader.specs.Rising.{TokensRise, TwoTokens, EmptyToken, CrossingTokens, TokenTooFar};
 ghost use Rattle.tptp_reader.specs.declared.entry.Read.{Read};
@@ -64,11 +64,11 @@ pub fn printed_again()
     ensures spelled { (text : List ℕ) (a : AnnotatedTree) → SpellsAnnotated text a → IsPrintedAgain a.is_clause a.formula }
     ensures read { (limit : ℕ) (bytes : List ℕ) (first : ℕ) (read : Read)
         → IsReading limit bytes (lexed_of bytes).tokens first read
-        → IsPrintedAgain (tree_of read.annotated).is_clause (tree_of read.annotated).formula }
+        → IsPrintedAgain (entry_of read.annotated).is_clause (entry_of read.annotated).formula }
     ensures spelled_name { (text : List ℕ) (a : AnnotatedTree) → SpellsAnnotated text a → SpellsName (name_text a.name) a.name }
     ensures read_name { (limit : ℕ) (bytes : List ℕ) (first : ℕ) (read : Read)
         → IsReading limit bytes (lexed_of bytes).tokens first read
-        → SpellsName (name_text (tree_of read.annotated).name) (tree_of read.annotated).name }
+        → SpellsName (name_text (entry_of read.annotated).name) (entry_of read.annotated).name }
 {}
 
 /// Whole texts: what is read from the first token up to the end of all is what the text spells; and where nothing is wrong
@@ -77,7 +77,7 @@ pub fn whole_texts()
     ensures read_is_spelled { (limit : ℕ) (bytes : List ℕ) (read : Read)
         → IsReading limit bytes (lexed_of bytes).tokens 0 read
         → read.next ≡ length (lexed_of bytes).tokens → (lexed_of bytes).fault ≡ None
-        → SpellsAnnotated bytes (tree_of read.annotated) }
+        → SpellsAnnotated bytes (entry_of read.annotated) }
     ensures spelled_is_read { (limit : ℕ) (bytes : List ℕ) (a : AnnotatedTree) (s : SpellsAnnotated bytes a)
         → AreFaultless (annotated_causes limit s.0)
         → IsReadFrom limit (lexemes_of bytes (lexed_of bytes).tokens) 0 s.0 (length (lexed_of bytes).tokens) }

@@ -1,6 +1,6 @@
 -- What the functions that read a general term say of the tokens before and after, told by the machine.
-use Rattle.std.specs.Prelude.{◌≡◌, ◌<◌, ◌+◌, ⊤, ℕ, List, [], ◌∷◌, ◌++◌, drop, length, codes, Option, None, Some}
-use Rattle.tptp_token.specs.Lexemes.{Lexeme, lexemes_of}
+use Rattle.std.specs.Prelude.{◌≡◌, ⊤, ℕ, List, [], ◌∷◌, ◌++◌, drop, codes, Option, None, Some}
+use Rattle.tptp_token.specs.Lexemes.{Lexeme, lexemes_of, IsTokenAt}
 use Rattle.tptp_source.specs.General.{GeneralTree}
 use Rattle.tptp_source.specs.Machine.{Opener, bracketed, closing, Level, level, State, wants, may_open, has, ends, run}
 use Rattle.tptp_source.specs.declared.reader.Reader.{Reader}
@@ -12,9 +12,8 @@ abbrev pub lexemes : Reader → List Lexeme
 lexemes r = lexemes_of r.bytes.now r.tokens.now
 
 -- the token at an index
-pub record IsNext (r : Reader) (at : ℕ) (token : Lexeme) : Type 0 where
-  pub here : drop at (lexemes r) ≡ token ∷ drop (at + 1) (lexemes r)
-  pub within : at < length r.tokens.now
+abbrev pub IsNext : Reader → ℕ → Lexeme → Type 0
+IsNext r at token = IsTokenAt r.bytes.now r.tokens.now at token
 
 -- the term that the tokens from an index on lead to, from a state on
 unfoldable pub told : Reader → State → ℕ → Option GeneralTree

@@ -1,6 +1,7 @@
 -- The definitions on small texts.
 use Rattle.std.specs.Prelude.{◌≡◌, ℕ, None, Some, [], ◌∷◌, codes}
 use Rattle.tptp_token.specs.Lexing.{lexed_of}
+use Rattle.tptp_token.specs.Lexemes.{lexeme, IsTokenAt}
 use Rattle.tptp_token.specs.declared.token.Kind.{Kind}
 use Rattle.tptp_token.specs.declared.token.Kind.TheVariants.{Lower, Variable, Number, Connective, Mark}
 use Rattle.tptp_token.specs.declared.token.LexFault.TheVariants.{BadByte, Unclosed}
@@ -38,3 +39,6 @@ EndlessComment = lexed_of (codes "/*/") ≡ record { tokens = []; fault = Some (
 
 abbrev pub Comments : Type 0
 Comments = lexed_of (codes "a/**/b%c") ≡ record { tokens = token Lower 0 1 ∷ token Lower 5 6 ∷ []; fault = None }
+
+abbrev pub SecondToken : Type 0
+SecondToken = IsTokenAt (codes "p(X)") (lexed_of (codes "p(X)")).tokens 1 (lexeme Mark (codes "("))

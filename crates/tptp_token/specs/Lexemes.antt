@@ -1,5 +1,5 @@
 -- The tokens of a text by their kinds and bytes.
-use Rattle.std.specs.Prelude.{◌≡◌, ℕ, ◌-◌, ◌==◌, ◌&&◌, Bool, true, None, List, map, take, drop, bytes_eq}
+use Rattle.std.specs.Prelude.{◌≡◌, ℕ, ◌<◌, ◌+◌, ◌-◌, ◌==◌, ◌&&◌, Bool, true, None, List, ◌∷◌, map, take, drop, length, bytes_eq}
 use Rattle.std.specs.List.{AllByRecursion}
 use Rattle.tptp_token.specs.Spelling.{spells}
 use Rattle.tptp_token.specs.Words.{Word, bare, quoted}
@@ -26,6 +26,11 @@ lexeme_at bytes token = record { kind = token.kind; bytes = take (token.end - to
 -- tokens of a text
 abbrev pub lexemes_of : List ℕ → List Token → List Lexeme
 lexemes_of bytes tokens = map (lexeme_at bytes) tokens
+
+-- the token at an index of these
+pub record IsTokenAt (bytes : List ℕ) (tokens : List Token) (at : ℕ) (token : Lexeme) : Type 0 where
+  pub here : drop at (lexemes_of bytes tokens) ≡ token ∷ drop (at + 1) (lexemes_of bytes tokens)
+  pub within : at < length tokens
 
 -- ---- tests
 

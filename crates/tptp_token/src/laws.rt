@@ -4,7 +4,7 @@ ghost use Rattle.std.specs.Prelude.{◌≡◌, IsTrue, IsFalse, codes};
 ghost use Rattle.tptp_token.specs.Spelling.{spells};
 ghost use Rattle.tptp_token.specs.Words.{is_name, token_name, name_text};
 ghost use Rattle.tptp_token.specs.declared.token.Kind.TheVariants.{Lower, Variable, Quoted, Distinct, Dollar, Number, Connective, Mark, Other};
-ghost use Rattle.tptp_token.specs.Examples.{FourTokens, BadUnderscore, OpenQuote, LongestSigns, EmptyQuote, EarlyNumber, EndlessComment, Comments};
+ghost use Rattle.tptp_token.specs.Examples.{FourTokens, BadUnderscore, OpenQuote, LongestSigns, EmptyQuote, EarlyNumber, EndlessComment, Comments, SecondToken};
 ghost use Rattle.tptp_token.specs.Lexemes.{TokensAreSpelled};
 
 /// Worked examples of the spelling of tokens.
@@ -48,6 +48,7 @@ pub fn lexing_examples()
     ensures early_number { EarlyNumber }
     ensures endless_comment { EndlessComment }
     ensures comments { Comments }
+    ensures second_token { SecondToken }
 {}
 
 /// The bytes of each token of a text spell its kind.

@@ -1,14 +1,16 @@
 -- The definitions of entries and of the causes of their tokens, on small ones.
 use Rattle.std.specs.Prelude.{◌≡◌, true, false, List, [], ◌∷◌, codes, None, Some}
 use Rattle.tptp_token.specs.declared.token.Kind.TheVariants.{Lower, Variable, Quoted, Number, Connective, Mark, Other}
-use Rattle.tptp_tree.specs.declared.role.Role.TheVariants.{Plain, Conjecture}
+use Rattle.tptp_tree.specs.declared.role.Role.TheVariants.{Axiom, Plain, Conjecture}
+use Rattle.tptp_tree.specs.declared.formula.Formula.TheVariants.{True}
 use Rattle.tptp_tree.specs.Term.{variable, application, no_terms, term_then}
-use Rattle.tptp_tree.specs.Formula.{for_all, predicate, equation, negation, disjunction, no_formulas, formula_then}
+use Rattle.tptp_tree.specs.Formula.{for_all, with_sign, truth, predicate, equation, negation, disjunction, no_formulas, formula_then}
 use Rattle.tptp_token.specs.Words.{bare, quoted}
 use Rattle.tptp_token.specs.Lexemes.{lexeme}
 use Rattle.tptp_tree.specs.Spelling.{variable_word, word_with, no_phrases, phrase_then, predicate_atom, equation_atom, bound, atomic, alone}
 use Rattle.tptp_tree.specs.Brackets.{are_balanced}
 use Rattle.tptp_tree.specs.Entries.{plain_predicate, positive_literal, negated_literal, negated_in_brackets, ClausePhrase, literals, clause_in_brackets, clause_lexemes, clause_meant, word_name, digits_name, name_meant, role_of, formula_body, AnnotatedPhrase, annotated_lexemes, EntryTree, annotated_tree, include_tree, SpellsEntries}
+use Rattle.tptp_tree.specs.Shape.{entry_of}
 use Rattle.tptp_tree.specs.Causes.{free_variable, too_deep, role_not_taken, left_out, role_form, role_cause, outermost, clause_causes, annotated_causes}
 
 -- the clause `( ~ p(X) | X != 'A b' )`
@@ -99,6 +101,15 @@ Balanced =
 
 abbrev pub Crossed : Type 0
 Crossed = are_balanced (lexeme Mark (codes "(") ∷ lexeme Mark (codes "[") ∷ lexeme Mark (codes ")") ∷ lexeme Mark (codes "]") ∷ []) ≡ false
+
+-- what the axiom `$true` says, wherever it stands
+abbrev pub EntryOfTruth : Type 0
+EntryOfTruth =
+    entry_of (record { name = codes "a"; role = Axiom; clause = false; formula = True; file = codes "f.p"; place = 7 })
+    ≡ record { name = codes "a"; role = Axiom; is_clause = false; formula = truth }
+
+abbrev pub NegativeSign : Type 0
+NegativeSign = with_sign false truth ≡ negation truth
 
 -- ---- includes, from texts
 

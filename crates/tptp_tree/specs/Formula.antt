@@ -1,5 +1,5 @@
 -- First-order formulas over names, as trees.
-use Rattle.std.specs.Prelude.{ℕ, ◌+◌, Bool, List, [], ◌∷◌}
+use Rattle.std.specs.Prelude.{ℕ, ◌+◌, Bool, true, false, List, [], ◌∷◌}
 use Rattle.tptp_tree.specs.Term.{TermTree, TermTrees}
 
 -- `=>`, `<=`, `<=>`, `<~>`, `~|` and `~&`
@@ -32,6 +32,11 @@ mutual
   pub data FormulaTrees : Type 0 where
     no_formulas : FormulaTrees
     formula_then : FormulaTree → FormulaTrees → FormulaTrees
+
+-- the formula, or its negation
+abbrev pub with_sign : Bool → FormulaTree → FormulaTree
+with_sign true f = f
+with_sign false f = negation f
 
 -- the trees of a list
 abbrev pub formulas_of : List FormulaTree → FormulaTrees

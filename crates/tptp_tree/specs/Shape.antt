@@ -1,11 +1,13 @@
--- What the program's terms and formulas are: trees over names.
+-- What the program's terms, formulas and annotated formulas are: trees over names.
 use Rattle.std.specs.Prelude.{true, false}
 use Rattle.tptp_tree.specs.Term.{TermTree, variable, application, terms_of}
 use Rattle.tptp_tree.specs.Formula.{implies, implied, equivalent, different, nor, nand, for_all, exists_some, FormulaTree, truth, falsity, predicate, equation, negation, conjunction, disjunction, connected, quantified, formulas_of}
+use Rattle.tptp_tree.specs.Entries.{AnnotatedTree}
 use Rattle.tptp_tree.specs.declared.term.TreeTerm.{TreeTerm}
 use Rattle.tptp_tree.specs.declared.term.TreeTerm.TheVariants.{Var, App}
 use Rattle.tptp_tree.specs.declared.formula.Formula.{Formula}
 use Rattle.tptp_tree.specs.declared.formula.Formula.TheVariants.{True, False, Pred, Equal, NotEqual, Not, And, Or, Implies, Implied, Iff, Xor, Nor, Nand, All, Ex}
+use Rattle.tptp_tree.specs.declared.problem.Annotated.{Annotated}
 
 abbrev pub term_of : TreeTerm → TermTree
 term_of (Var x) = variable x
@@ -28,3 +30,7 @@ formula_of (Nor f g) = connected nor f g
 formula_of (Nand f g) = connected nand f g
 formula_of (All xs f) = quantified for_all xs f
 formula_of (Ex xs f) = quantified exists_some xs f
+
+-- what an annotated formula says, but for where it stands
+abbrev pub entry_of : Annotated → AnnotatedTree
+entry_of a = record { name = a.name; role = a.role; is_clause = a.clause; formula = formula_of a.formula }

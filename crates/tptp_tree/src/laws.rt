@@ -1,7 +1,7 @@
 // The laws of the definitions: each is the contract of a function without arguments and with an empty body.
 
 ghost use Rattle.tptp_tree.specs.Examples.{BoundImplication, NegatedConjunction, NegatedEquation, BareOperands, OccurrencesInImplication, OccurrencesInTruth, SizeOfTwoFormulas, TwoFormulasFit, TooManyFormulas};
-ghost use Rattle.tptp_tree.specs.EntryExamples.{ClauseTokens, ClauseMeaning, OneLiteral, ClauseLevels, OpenTokens, OpenCauses, OneName, Roles, FormulaRoles, UnknownRole, LeftOutRole, Balanced, Crossed, WholeInclude, SelectedInclude, TwoEntries, NoEntries, EmptySelection};
+ghost use Rattle.tptp_tree.specs.EntryExamples.{ClauseTokens, ClauseMeaning, OneLiteral, ClauseLevels, OpenTokens, OpenCauses, OneName, Roles, FormulaRoles, UnknownRole, LeftOutRole, Balanced, Crossed, EntryOfTruth, NegativeSign, WholeInclude, SelectedInclude, TwoEntries, NoEntries, EmptySelection};
 ghost use Rattle.std.specs.Prelude.{◌≡◌, ℕ, true, List};
 ghost use Rattle.tptp_token.specs.Lexemes.{Lexeme};
 ghost use Rattle.tptp_tree.specs.Formula.{FormulaTree};
@@ -84,6 +84,8 @@ pub fn entry_examples()
     ensures left_out_role { LeftOutRole }
     ensures balanced { Balanced }
     ensures crossed { Crossed }
+    ensures entry_of_truth { EntryOfTruth }
+    ensures negative_sign { NegativeSign }
 {}
 
 /// Worked examples of what texts spell, with includes.

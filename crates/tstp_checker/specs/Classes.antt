@@ -1,7 +1,8 @@
 -- Formulas that say the same.
 use Rattle.std.specs.Prelude.{◌≡◌, ◌==◌, ℕ, Bool, false, List, map, Option, None, Some, option_map, option_and_then, unwrap_or, slice_get, position}
 use Rattle.tptp_tree.specs.declared.problem.Annotated.{Annotated}
-use Rattle.clausal_form.specs.DerivationLine.{same_entry, entry_of}
+use Rattle.clausal_form.specs.DerivationLine.{same_entry}
+use Rattle.tptp_tree.specs.Shape.{entry_of}
 use Rattle.tstp_checker.specs.declared.classes.Classes.{Classes}
 
 -- the first formula that says the same

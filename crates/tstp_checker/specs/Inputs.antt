@@ -2,7 +2,8 @@
 use Rattle.std.specs.Prelude.{◌≡◌, ℕ, ◌+◌, Bool, List, [], ◌∷◌, Option, None, Some, if◌then◌else◌}
 use Rattle.indexmap.specs.IndexMap.{get}
 use Rattle.tptp_tree.specs.declared.problem.Annotated.{Annotated}
-use Rattle.clausal_form.specs.DerivationLine.{same_entry, entry_of}
+use Rattle.clausal_form.specs.DerivationLine.{same_entry}
+use Rattle.tptp_tree.specs.Shape.{entry_of}
 use Rattle.tstp_checker.specs.Entries.{entry_meant, same_meant}
 use Rattle.tstp_checker.specs.declared.entries.Entry.{Entry}
 use Rattle.tstp_checker.specs.declared.inputs.Inputs.{Inputs}

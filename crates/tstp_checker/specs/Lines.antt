@@ -1,6 +1,6 @@
 -- The lines that were taken, and what judging a line more answers.
 use Rattle.std.specs.Prelude.{◌≡◌, [], length, Option, None, Some}
-use Rattle.tptp_reader.specs.Shape.{tree_of as entry_read}
+use Rattle.tptp_tree.specs.Shape.{entry_of}
 use Rattle.tptp_tree.specs.declared.problem.Annotated.{Annotated}
 use Rattle.tptp_source.specs.SourceShape.{source_of}
 use Rattle.tptp_source.specs.declared.source.Source.{Source}
@@ -18,7 +18,7 @@ use Rattle.tstp_checker.specs.declared.lines.Lines.{Lines}
 
 -- a line as it was read
 abbrev pub line_meant : Annotated → Source → LineTree
-line_meant a s = record { entry = entry_read a; source = source_of s }
+line_meant a s = record { entry = entry_of a; source = source_of s }
 
 abbrev pub setting_in : Lines → Setting
 setting_in x = record { problem = x.inputs.formulas.now; form = form_of x.form.now }

@@ -15,7 +15,8 @@ ghost use Rattle.kernel_steps.specs.Derivation.{negative_of, complement, is_comp
 ghost use Rattle.kernel_steps.specs.declared.step.Step.TheVariants.{Component};
 ghost use Rattle.clausal_form.specs.DerivationClause.{is_written_clause};
 ghost use Rattle.clausal_form.specs.DerivationSteps.{component_kind, kind_of};
-ghost use Rattle.clausal_form.specs.DerivationLine.{LineTree, Taken, kernel_line, names_with};
+ghost use Rattle.clausal_form.specs.DerivationLine.{LineTree, Taken, names_with};
+ghost use Rattle.kernel_steps.specs.FromTrees.{line_of};
 ghost use Rattle.clausal_form.specs.DerivationParts.{line_kind};
 ghost use Rattle.clausal_form.specs.DerivationCauses.{new_symbol, fits, is_line_of, is_conjecture_at, given_by_clausify, given_by_opposite, given_by, is_formula_kind, refused, taken, compared, line_verdict};
 ghost use Rattle.tstp_checker.specs.Steps.{kind_meant};
@@ -329,7 +330,7 @@ impl<'a> Lines<'a> {
 
 /// The line of a clause, unless it has a symbol or a name that it may not have.
 pub(crate) fn line_by(step: Step, clause: Clause, has_new_symbol: bool) -> Result<Line, Refusal>
-    ensures verdict { IsVerdict (if has_new_symbol then refused new_symbol else taken (kernel_line step (clause_of clause))) result }
+    ensures verdict { IsVerdict (if has_new_symbol then refused new_symbol else taken (line_of step (clause_of clause))) result }
     ensures line { IfOk result (λ line. (line.step ≡ step) × (has_new_symbol ≡ false)) }
 {
     if has_new_symbol {

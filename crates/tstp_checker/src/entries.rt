@@ -2,7 +2,7 @@
 
 ghost use Rattle.std.specs.Prelude.{◌≡◌};
 ghost use Rattle.std.specs.Cmp.{on_equiv, partial_equiv_from_equiv};
-ghost use Rattle.clausal_form.specs.DerivationLine.{entry_of};
+ghost use Rattle.tptp_tree.specs.Shape.{entry_of};
 ghost use Rattle.tstp_checker.specs.Entries.{entry_meant, same_meant};
 ghost use Rattle.tstp_checker.specs.EntryLaws.{same_entry_equivalence, same_entry_feeds_alike};
 ghost use Rattle.tstp_checker.specs.Hashing.{entry_writes};

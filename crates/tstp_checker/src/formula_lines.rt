@@ -9,7 +9,8 @@ ghost use Rattle.kernel_steps.specs.Conclusion.{empty_clause};
 ghost use Rattle.kernel_steps.specs.Derivation.{is_component};
 ghost use Rattle.clausal_form.specs.DerivationItems.{row_arguments};
 ghost use Rattle.clausal_form.specs.DerivationSteps.{kind_of};
-ghost use Rattle.clausal_form.specs.DerivationLine.{same_formula, kernel_line};
+ghost use Rattle.clausal_form.specs.DerivationLine.{same_formula};
+ghost use Rattle.kernel_steps.specs.FromTrees.{line_of};
 ghost use Rattle.clausal_form.specs.DerivationParts.{parents_of};
 ghost use Rattle.clausal_form.specs.DerivationCauses.{is_formula_kind, given_by_file, given_by_negate, compared, line_verdict};
 ghost use Rattle.tstp_checker.specs.Steps.{kind_meant};
@@ -137,7 +138,7 @@ struct Conjecture<'a> {
 
 /// A line of a formula.
 fn formula_line(alloc: Global, step: Step) -> Line
-    ensures { result ≡ kernel_line step empty_clause }
+    ensures { result ≡ line_of step empty_clause }
 {
     Line {
         step,

@@ -1,7 +1,8 @@
 // The formulas of a problem, found by what they say.
 
 ghost use Rattle.std.specs.Prelude.{◌≡◌, IfOk, position};
-ghost use Rattle.clausal_form.specs.DerivationLine.{same_entry, entry_of};
+ghost use Rattle.clausal_form.specs.DerivationLine.{same_entry};
+ghost use Rattle.tptp_tree.specs.Shape.{entry_of};
 ghost use Rattle.tstp_checker.specs.Entries.{entry_meant};
 ghost use Rattle.tstp_checker.specs.Inputs.{KnowsAll};
 

@@ -12,7 +12,8 @@ ghost use Rattle.kernel_steps.specs.Parents.{parent_of};
 ghost use Rattle.kernel_steps.specs.Conclusion.{binds, bound_clause, is_rule_step, verdict};
 ghost use Rattle.kernel_steps.specs.Derivation.{is_component};
 ghost use Rattle.clausal_form.specs.DerivationSteps.{bindings_count};
-ghost use Rattle.clausal_form.specs.DerivationLine.{LineTree, kernel_line};
+ghost use Rattle.clausal_form.specs.DerivationLine.{LineTree};
+ghost use Rattle.kernel_steps.specs.FromTrees.{line_of};
 ghost use Rattle.clausal_form.specs.DerivationParts.{line_kind, parent_lines};
 ghost use Rattle.clausal_form.specs.DerivationCauses.{conclusion, new_symbol, refused, taken, is_bound, compared, given_by_rule};
 ghost use Rattle.tstp_checker.specs.Steps.{kind_meant};
@@ -113,7 +114,7 @@ fn line_if_same(
     has_new_symbol: bool,
 ) -> Result<Line, Refusal>
     ensures verdict { IsVerdict (if not (clause_eq (clause_of concluded.now) (clause_of clause)) then refused conclusion
-        else if has_new_symbol then refused new_symbol else taken (kernel_line step (clause_of concluded.now))) result }
+        else if has_new_symbol then refused new_symbol else taken (line_of step (clause_of concluded.now))) result }
     ensures line { IfOk result (λ line. line.step ≡ step) }
 {
     if !same_clause(concluded, &clause) {

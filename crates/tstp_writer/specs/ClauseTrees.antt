@@ -5,7 +5,7 @@ use Rattle.plain_types.specs.declared.sequence.NameLit.{NameLit}
 use Rattle.fol_base.specs.Tree.{Tree, variable, application, Trees, no_trees, tree_then, tree_eq, true_tree}
 use Rattle.fol_base.specs.Clause.{TreeLiteral, TreeClause}
 use Rattle.tptp_tree.specs.Term.{TermTree, variable as named_variable, application as named_application, TermTrees, no_terms, term_then}
-use Rattle.tptp_tree.specs.Formula.{FormulaTree, truth, falsity, predicate, equation, negation, disjunction, formulas_of}
+use Rattle.tptp_tree.specs.Formula.{FormulaTree, truth, falsity, predicate, equation, with_sign, disjunction, formulas_of}
 use Rattle.signature.specs.declared.symbol.Symbol.{Symbol}
 
 -- ---- terms
@@ -28,10 +28,6 @@ abbrev mutual
   term_trees symbols (tree_then t ts) = term_then (term_tree symbols t) (term_trees symbols ts)
 
 -- ---- literals
-
-abbrev pub with_sign : Bool → FormulaTree → FormulaTree
-with_sign true f = f
-with_sign false f = negation f
 
 -- The atom that a term of a predicate is; symbol 0 is `$true`. No literal has a variable in the place of an atom, and here it is `$true`.
 abbrev pub atom_formula : List Symbol → Tree → FormulaTree

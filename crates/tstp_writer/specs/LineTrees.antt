@@ -26,7 +26,8 @@ use Rattle.kernel_steps.specs.declared.step.Line.{Line}
 use Rattle.tptp_source.specs.declared.sign.NumberSign.TheVariants.{Unsigned}
 use Rattle.tptp_source.specs.General.{GeneralTree, variable, word, number, negated, GeneralTrees, no_trees, tree_then}
 use Rattle.tptp_source.specs.Sources.{SourceTree, file_source, inference_source, component_source, opposite_source, word_of, list_of}
-use Rattle.clausal_form.specs.DerivationLine.{LineTree, entry_of}
+use Rattle.clausal_form.specs.DerivationLine.{LineTree}
+use Rattle.tptp_tree.specs.Shape.{entry_of}
 use Rattle.tstp_writer.specs.ClauseTrees.{term_tree, introduced_name, clause_formula}
 
 -- ---- what lines are written over

@@ -1,15 +1,13 @@
 -- What the pass backwards knows: marked lines, and names whose component lines are needed.
-use Rattle.std.specs.Prelude.{◌≡◌, ℕ, suc, ◌<◌, ◌≤◌, Bool, false, ◌||◌, ◌&&◌, ◌==◌, List, [], ◌∷◌, length, Some, slice_get, option_map, unwrap_or, if◌then◌else◌, IsTrue}
+use Rattle.std.specs.Prelude.{◌≡◌, ℕ, suc, ◌<◌, ◌≤◌, Bool, false, ◌||◌, ◌&&◌, ◌==◌, List, length, Some, slice_get, option_map, unwrap_or, IsTrue}
 use Rattle.std.specs.List.{list_any}
+use Rattle.kernel_steps.specs.Marks.{is_marked}
 use Rattle.kernel_steps.specs.declared.step.Step.{Step}
 use Rattle.kernel_steps.specs.declared.step.Step.TheVariants.{Component}
 use Rattle.kernel_steps.specs.declared.step.Line.{Line}
 use Rattle.tstp_writer.specs.Cone.{needs, IsNeeded}
 use Rattle.tstp_writer.specs.LineTrees.{Script, comes_from}
 use Rattle.tstp_writer.specs.declared.needed.Marks.{Marks}
-
-abbrev pub is_marked : List Bool → ℕ → Bool
-is_marked marks n = unwrap_or (slice_get marks n) false
 
 -- the step is the definition of one of the names
 abbrev pub defines_one : List ℕ → Step → Bool
@@ -44,11 +42,6 @@ pub record IsPassed (lines : List Line) (last from : ℕ) (marks : Marks) : Type
   pub closed :
       (n m : ℕ) (line other : Line) → slice_get lines n ≡ Some line → slice_get lines m ≡ Some other → from ≤ n → n < suc last
       → IsTrue (is_marked marks.lines.items n) → IsTrue (needs line.step m other) → IsTrue (has_line marks m other)
-
--- the numbers of the places that are marked, the first of which has that number
-abbrev pub marked_numbers : ℕ → List Bool → List ℕ
-marked_numbers first [] = []
-marked_numbers first (mark ∷ marks) = if mark then first ∷ marked_numbers (suc first) marks else marked_numbers (suc first) marks
 
 -- the line of that number, if it is there, is a clause of that formula
 abbrev pub comes_at : Script → List Line → ℕ → ℕ → Bool

@@ -10,7 +10,7 @@ use Rattle.tptp_tree.specs.Entries.{AnnotatedTree, is_conjecture}
 use Rattle.tptp_problem.specs.Formulas.{placed}
 use Rattle.tptp_problem.specs.Problem.{IsProblem}
 use Rattle.kernel_steps.specs.declared.step.Line.{Line}
-use Rattle.clausal_form.specs.DerivationLine.{entry_of}
+use Rattle.tptp_tree.specs.Shape.{entry_of}
 use Rattle.tptp_tree.specs.Levels.{formula_levels}
 use Rattle.tstp_writer.specs.LineTrees.{Script, script_of, is_conjecture_at, Layout, layout_of, line_name, cited_name, negated_name, input_tree, negate_tree, input_at, negate_at}
 use Rattle.tstp_writer.specs.Printable.{IsShown, IsFormOf, IsPrintable}

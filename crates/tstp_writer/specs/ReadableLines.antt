@@ -19,7 +19,9 @@ use Rattle.kernel_steps.specs.Symbols.{symbols_pass, literal_symbols_pass}
 use Rattle.kernel_steps.specs.declared.step.Step.{Step}
 use Rattle.kernel_steps.specs.declared.step.Step.TheVariants.{Input, Negate, Para, Refl, Factor, Merge, Component, Opposite, Split, Chain}
 use Rattle.kernel_steps.specs.declared.step.Line.{Line}
-use Rattle.clausal_form.specs.DerivationLine.{NamedLine, kernel_line, same_entry, entry_of}
+use Rattle.clausal_form.specs.DerivationLine.{NamedLine, same_entry}
+use Rattle.tptp_tree.specs.Shape.{entry_of}
+use Rattle.kernel_steps.specs.FromTrees.{line_of}
 use Rattle.clausal_form.specs.FormFunctions.{is_predicate_in}
 use Rattle.tstp_writer.specs.LineTrees.{Layout, line_name, place_in, derived_name}
 
@@ -133,7 +135,7 @@ placed_step layout names σ (Chain parents pivots) = Chain (map (written_place l
 placed_step layout names σ step = step
 
 abbrev pub placed_line : Layout → List ℕ → Step → TreeClause → Line
-placed_line layout names step c = kernel_line (placed_step layout names (read_renaming step c) step) (read_clause names c)
+placed_line layout names step c = line_of (placed_step layout names (read_renaming step c) step) (read_clause names c)
 
 -- the first formula that says the same as the one at a place
 abbrev pub first_place : List Annotated → ℕ → ℕ
@@ -150,12 +152,12 @@ taken_as name line = record { name = name; line = line }
 abbrev pub inputs_taken : List Annotated → ℕ → List ℕ → List NamedLine
 inputs_taken problem k [] = []
 inputs_taken problem k (place ∷ places) =
-    taken_as (line_name k) (kernel_line (Input (first_place problem place)) empty_clause) ∷ inputs_taken problem (k + 1) places
+    taken_as (line_name k) (line_of (Input (first_place problem place)) empty_clause) ∷ inputs_taken problem (k + 1) places
 
 abbrev pub negations_taken : List Annotated → ℕ → List ℕ → List NamedLine
 negations_taken problem k [] = []
 negations_taken problem k (place ∷ places) =
-    taken_as (line_name k) (kernel_line (Negate (first_place problem place)) empty_clause) ∷ negations_taken problem (k + 1) places
+    taken_as (line_name k) (line_of (Negate (first_place problem place)) empty_clause) ∷ negations_taken problem (k + 1) places
 
 -- and a derivation's line
 abbrev pub derived_taken : Layout → List ℕ → List Line → ℕ → Option NamedLine

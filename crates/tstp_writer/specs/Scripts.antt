@@ -1,6 +1,6 @@
 -- What the program's scripts are.
 use Rattle.std.specs.Prelude.{map}
-use Rattle.clausal_form.specs.DerivationLine.{entry_of}
+use Rattle.tptp_tree.specs.Shape.{entry_of}
 use Rattle.tstp_writer.specs.LineTrees.{Script}
 use Rattle.tstp_writer.specs.declared.script.Script.{Script as LentScript}
 

@@ -3,7 +3,8 @@
 ghost use Rattle.std.specs.Prelude.{◌≡◌, ◌<◌, ◌||◌, ℕ, length, filter, IfOk};
 ghost use Rattle.std.specs.List.{list_any};
 ghost use Rattle.tstp_writer.specs.LineTrees.{cited_places, comes_from, is_conjecture_at, lines_at};
-ghost use Rattle.tstp_writer.specs.Marks.{is_marked, comes_at};
+ghost use Rattle.tstp_writer.specs.Marks.{comes_at};
+ghost use Rattle.kernel_steps.specs.Marks.{is_marked};
 ghost use Rattle.tstp_writer.specs.Scripts.{script_in};
 
 use crate::marks::{mark, marked, unmarked};

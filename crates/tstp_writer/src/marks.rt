@@ -1,7 +1,7 @@
 // Marks at the places of a list.
 
 ghost use Rattle.std.specs.Prelude.{◌≡◌, ◌<◌, ◌||◌, ◌==◌, ℕ, false, length, IfOk};
-ghost use Rattle.tstp_writer.specs.Marks.{is_marked, marked_numbers};
+ghost use Rattle.kernel_steps.specs.Marks.{is_marked, marked_numbers};
 
 use plain_types::{Mem, Numbers};
 use std::alloc::Global;

@@ -3,7 +3,8 @@
 ghost use Rattle.std.specs.Prelude.{◌≡◌, ◌<◌, ◌+◌, ◌||◌, ◌==◌, ℕ, [], length, IfOk, IsTrue, if◌then◌else◌};
 ghost use Rattle.kernel_steps.specs.declared.step.Line.{Line};
 ghost use Rattle.tstp_writer.specs.Cone.{has_number, NeedEarlier, IsCone};
-ghost use Rattle.tstp_writer.specs.Marks.{is_marked, defines_one, has_line, IsAdded, IsVisited, marked_numbers};
+ghost use Rattle.tstp_writer.specs.Marks.{defines_one, has_line, IsAdded, IsVisited};
+ghost use Rattle.kernel_steps.specs.Marks.{is_marked, marked_numbers};
 
 use crate::marks::{mark, marked};
 use indexmap::IndexSet;

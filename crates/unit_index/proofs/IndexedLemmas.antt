@@ -11,8 +11,8 @@ use Rattle.bank_clause.specs.Clause.{clause_at}
 use Rattle.bank_clause.specs.declared.clause.BankClause.{BankClause}
 use Rattle.bank_clause.specs.declared.member.Member.{Member}
 use Rattle.disc_tree.specs.Entries.{IsIn, IsWith, numbers_where}
-use Rattle.rewriting.proofs.IndexLemmas.{in-fewer, in-found, in-left, in-more, in-right}
-use Rattle.rewriting.proofs.NumberedLemmas as by_number
+use Rattle.rewriting.proofs.AboutIndexes.IndexLemmas.{in-fewer, in-found, in-left, in-more, in-right}
+use Rattle.rewriting.proofs.AboutIndexes.NumberedLemmas as by_number
 use Rattle.unit_index.specs.Indexed.{HasCandidates, HasOneLiteral, IsIndexedAt, KeepsOthers, member_of}
 
 abbrev pub clause_of_member : Member → BankClause

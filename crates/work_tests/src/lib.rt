@@ -1,5 +1,5 @@
-// The tests of the work on given clauses, with its batches given back to a pool. They stand apart, since a crate with tests is proved twice,
-// with them and without.
+// The tests of the work on given clauses, with its batches given back to a pool. They stand apart, since a crate with tests is proved
+// twice, with them and without.
 #![tactic(auto)]
 
 #[cfg(test)]

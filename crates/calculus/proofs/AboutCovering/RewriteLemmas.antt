@@ -35,13 +35,13 @@ use Rattle.kernel_steps.proofs.AboutCalls.ItemLemmas.{list_any-set}
 use Rattle.calculus.specs.Symbols.{is_allowed, HasSymbolsOf}
 use Rattle.calculus.specs.Coverage.{CoversEach, ReductionsCovered, ReducesThrough, end_of, ReductionsCompose, ReductionsKeepSymbols, ReductionsKeepNames, ReducedAwayCovered}
 use Rattle.calculus.proofs.AboutCovering.ClauseLemmas.{In-either, All-In, smaller-not_greater, smaller_unit-smaller}
-use Rattle.calculus.proofs.AboutCovering.SymbolLemmas.{subterm-passes, variable-passes, function_term-over, instance-passes, renamed-pass}
+use Rattle.calculus.proofs.AboutCovering.SymbolLemmas.{variable-passes, function_term-over, instance-passes, renamed-pass}
 use Rattle.calculus.proofs.AboutLifting.LiteralLemmas.{rewriting-smaller}
 use Rattle.calculus.proofs.AboutCovering.CoverLemmas.{Together, together-listed, canonical_covers, dropped_literals, tautologies, subsumed}
 use Rattle.fol_base.proofs.WorkedExamples.TestLemmas.{list_all-item, list_all-remove}
 use Rattle.kbo_order.proofs.AboutMultisets.PartLemmas.{smaller_sides_make_smaller, smaller_literals_make_smaller}
 use Rattle.kernel_steps.proofs.AboutSoundness.RuleTruth.{superposed_literal-truth}
-use Rattle.kernel_steps.proofs.AboutCalls.SymbolLemmas.{side-passes, superposed-passes}
+use Rattle.kernel_steps.proofs.AboutCalls.SymbolLemmas.{side-passes, superposed-passes, subterm-passes}
 use Rattle.fol_base.specs.Subsumption.{Subsumes}
 
 -- ---- a rewrite taken apart

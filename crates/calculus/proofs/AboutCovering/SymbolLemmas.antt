@@ -3,10 +3,8 @@ use Rattle.std.proofs.Common.{◌≡◌, ℕ, Bool, true, false, ◌||◌, ◌==
 use Rattle.std.specs.Prelude.{slice_get}
 use Rattle.std.specs.List.{list_all}
 use Rattle.std.proofs.lemmas.Bool.{and_parts, and_from}
-use Rattle.std.proofs.lemmas.Option.{same_Some, option_and_then_some}
 use Rattle.fol_base.specs.Tree.{Tree, variable, application, Trees, no_trees, tree_then, trees_count, tree_variables, trees_variables, true_symbol}
 use Rattle.fol_base.specs.Instance.{Substitution, instance, instances}
-use Rattle.fol_base.specs.Place.{argument, subterm}
 use Rattle.fol_base.specs.Clause.{TreeLiteral, TreeClause, literal_instance}
 use Rattle.fol_base.specs.Canonical.{renaming}
 use Rattle.fol_base.specs.Symbols.{FunctionSymbols}
@@ -22,19 +20,10 @@ use Rattle.kbo_order.proofs.AboutMultisets.MemberLemmas.{In, In-left, In-right}
 use Rattle.calculus.specs.Symbols.{is_allowed, HasSymbolsOf}
 use Rattle.calculus.proofs.AboutCovering.ClauseLemmas.{In-either}
 use Rattle.fol_base.proofs.AboutInstances.InstanceLemmas.{trees_count-instances}
-use Rattle.kernel_steps.proofs.AboutCalls.SymbolLemmas.{passes-argument, side-passes}
+use Rattle.kernel_steps.proofs.AboutCalls.SymbolLemmas.{side-passes}
 
 abbrev SymbolTest : Type 0
 SymbolTest = ℕ → ℕ → Bool
-
--- ---- parts
-
-pub subterm-passes :
-    (test : SymbolTest) (place : List ℕ) (t u : Tree) → subterm place t ≡ Some u → symbols_pass test t ≡ true → symbols_pass test u ≡ true
-subterm-passes test [] t u there h = ap (symbols_pass test) (sym (same_Some t u there)) ∙ h
-subterm-passes test (k ∷ place) t u there h =
-    option_and_then_some (subterm place) (argument k t) u there λ a a_is u_is.
-    subterm-passes test place a u u_is (passes-argument test k t a a_is h)
 
 -- ---- what stands in an instance
 

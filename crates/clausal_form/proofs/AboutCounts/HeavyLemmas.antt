@@ -116,7 +116,7 @@ product-keeps n began cs ds m h = by (is_large cs ds) (nat_lt (length cs) (lengt
     by true true = named-keeps n began ds m h
     by true false = named-keeps n began cs m h
 
-product-some :
+pub product-some :
     (n : SymbolNumbers) (began : ℕ) (cs ds : List Literals) (m : Made)
     → is_some cs ≡ true → is_some ds ≡ true → is_some (product n began cs ds m).clauses ≡ true
 product-some n began cs ds m h k = by (is_large cs ds) (nat_lt (length cs) (length ds))
@@ -175,7 +175,7 @@ mutual
 
 -- a matrix has clauses where it is said to
 mutual
-  has-clauses : (n : SymbolNumbers) (x : MatrixTree) (m : Made) → has_clauses x ≡ true → is_some (matrix_clauses n x m).clauses ≡ true
+  pub has-clauses : (n : SymbolNumbers) (x : MatrixTree) (m : Made) → has_clauses x ≡ true → is_some (matrix_clauses n x m).clauses ≡ true
   has-clauses n true_matrix m h = cc
   has-clauses n false_matrix m h = refl
   has-clauses n (literal l) m h = refl
@@ -308,11 +308,11 @@ heavy-largest n x m cs h e = lt-ltb MOST_SYMBOLS (largest cs) (over-limit cs (ap
 -- ---- normal forms
 
 mutual
-  written-size : (known : List Symbol) (env : Environment) (t : TermTree) → term_size t ≤ tree_size (term_under known env t)
+  pub written-size : (known : List Symbol) (env : Environment) (t : TermTree) → term_size t ≤ tree_size (term_under known env t)
   written-size known env (variable x) = tree_size-positive (term_in_force env x)
   written-size known env (application f ts) = omega (arith, written-sizes known env ts)
 
-  written-sizes : (known : List Symbol) (env : Environment) (ts : TermTrees) → terms_size ts ≤ trees_size (terms_under known env ts)
+  pub written-sizes : (known : List Symbol) (env : Environment) (ts : TermTrees) → terms_size ts ≤ trees_size (terms_under known env ts)
   written-sizes known env no_terms = omega arith
   written-sizes known env (term_then t ts) = omega (arith, written-size known env t, written-sizes known env ts)
 
@@ -331,7 +331,7 @@ negated-has n (connected c f g) env m h = cc
 negated-has n (quantified q xs f) env m h = cc
 
 mutual
-  form-has : (n : SymbolNumbers) (f : FormulaTree) (env : Environment) (m : Made) → form_has_clauses f ≡ true → has_clauses (skolemized n f env m).matrix ≡ true
+  pub form-has : (n : SymbolNumbers) (f : FormulaTree) (env : Environment) (m : Made) → form_has_clauses f ≡ true → has_clauses (skolemized n f env m).matrix ≡ true
   form-has n truth env m h = cc
   form-has n falsity env m h = refl
   form-has n (predicate p ts) env m h = refl
@@ -359,7 +359,7 @@ mutual
       by t u (inl k) p q = or-first t u (p k)
       by t u (inr k) p q = or-second t u (q k)
 
-  all-forms-have :
+  pub all-forms-have :
       (n : SymbolNumbers) (fs : FormulaTrees) (env : Environment) (m : Made)
       → all_forms_have_clauses fs ≡ true → all_have_clauses (skolemized_list n fs env m).matrices ≡ true
   all-forms-have n no_formulas env m h = refl

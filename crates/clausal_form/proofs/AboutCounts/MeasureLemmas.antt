@@ -26,7 +26,7 @@ pub length-append : {X : Type 0} (a b : List X) → length (a ++ b) ≡ length a
 length-append [] b = omega arith
 length-append (x ∷ a) b = omega (arith, length-append a b)
 
-largest-append : (a b : List Literals) → largest (a ++ b) ≡ max (largest a) (largest b)
+pub largest-append : (a b : List Literals) → largest (a ++ b) ≡ max (largest a) (largest b)
 largest-append [] b = omega arith
 largest-append (c ∷ a) b = omega (arith, largest-append a b)
 
@@ -57,7 +57,7 @@ before-length : (c : Literals) (b : List Literals) → length (map (λ d. c ++ d
 before-length c [] = refl
 before-length c (d ∷ b) = ap suc (before-length c b)
 
-before-symbols : (c : Literals) (b : List Literals) → symbols_in (map (λ d. c ++ d) b) ≡ literals_size c * length b + symbols_in b
+pub before-symbols : (c : Literals) (b : List Literals) → symbols_in (map (λ d. c ++ d) b) ≡ literals_size c * length b + symbols_in b
 before-symbols c [] = omega arith
 before-symbols c (d ∷ b) =
     omega (
@@ -68,17 +68,17 @@ before-symbols c (d ∷ b) =
       sum_by-cons literals_size d b,
     )
 
-before-largest : (c : Literals) (b : List Literals) → largest (map (λ d. c ++ d) b) ≡ product_largest (length b) (literals_size c + largest b)
+pub before-largest : (c : Literals) (b : List Literals) → largest (map (λ d. c ++ d) b) ≡ product_largest (length b) (literals_size c + largest b)
 before-largest c [] = refl
 before-largest c (d ∷ []) = omega (arith, sum_by-append literal_size c d)
 before-largest c (d ∷ (e ∷ b)) = omega (arith, sum_by-append literal_size c d, before-largest c (e ∷ b))
 
-pairs-length : (a b : List Literals) → length (all_pairs a b) ≡ length a * length b
+pub pairs-length : (a b : List Literals) → length (all_pairs a b) ≡ length a * length b
 pairs-length [] b = omega arith
 pairs-length (c ∷ a) b =
     omega (arith, length-append (map (λ d. c ++ d) b) (all_pairs a b), before-length c b, pairs-length a b)
 
-pairs-symbols : (a b : List Literals) → symbols_in (all_pairs a b) ≡ symbols_in a * length b + symbols_in b * length a
+pub pairs-symbols : (a b : List Literals) → symbols_in (all_pairs a b) ≡ symbols_in a * length b + symbols_in b * length a
 pairs-symbols [] b = omega (arith, times-none (symbols_in b))
 pairs-symbols (c ∷ a) b =
     let both : symbols_in (all_pairs (c ∷ a) b) ≡ symbols_in (map (λ d. c ++ d) b) + symbols_in (all_pairs a b) =
@@ -87,7 +87,7 @@ pairs-symbols (c ∷ a) b =
     omega (arith, both, before-symbols c b, pairs-symbols a b) in
     sums ∙ ap (λ x. x * length b + symbols_in b * suc (length a)) (sym (sum_by-cons literals_size c a))
 
-some-largest : (n x : ℕ) → 1 ≤ n → product_largest n x ≡ x
+pub some-largest : (n x : ℕ) → 1 ≤ n → product_largest n x ≡ x
 some-largest zero x h = absurd (omega (arith, h))
 some-largest (suc n) x h = refl
 
@@ -119,7 +119,7 @@ none-largest : (a : List Literals) → length a ≡ 0 → largest a ≡ 0
 none-largest [] h = refl
 none-largest (c ∷ a) h = absurd (omega (arith, h))
 
-pairs-largest : (a b : List Literals) → largest (all_pairs a b) ≡ product_largest (length a * length b) (largest a + largest b)
+pub pairs-largest : (a b : List Literals) → largest (all_pairs a b) ≡ product_largest (length a * length b) (largest a + largest b)
 pairs-largest [] b = ap (λ n. product_largest n (0 + largest b)) (sym (none-times (length b)))
 pairs-largest (c ∷ a) b =
     largest-append (map (λ d. c ++ d) b) (all_pairs a b)

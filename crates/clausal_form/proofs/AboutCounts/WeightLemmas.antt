@@ -1,5 +1,5 @@
 -- The weights of forms, matrices and terms, as a walk over them works them off.
-use Rattle.std.proofs.Common.{◌≡◌, ℕ, ◌+◌, ◌<◌, ◌≤◌, Bool, true, false, ◌&&◌, ◌||◌, List, length, map, drop, get_or, refl, ap, sym, ◌∙◌, arith}
+use Rattle.std.proofs.Common.{◌≡◌, ℕ, ◌+◌, ◌-◌, ◌^◌, ◌<◌, ◌≤◌, Bool, true, false, ◌&&◌, ◌||◌, List, length, map, drop, get_or, refl, ap, sym, ◌∙◌, arith}
 use Rattle.std.specs.Prelude.{min}
 use Rattle.tptp_tree.specs.Term.{term_size, terms_size, terms_of}
 use Rattle.tptp_tree.specs.Shape.{term_of}
@@ -12,7 +12,8 @@ use Rattle.skolem.specs.declared.matrix.Matrix.{Matrix}
 use Rattle.skolem.specs.Matrix.{matrices_of}
 use Rattle.skolem.specs.Shape.{matrix_tree}
 use Rattle.clausal_form.specs.Occurring.{has_clauses, some_have_clauses, all_have_clauses}
-use Rattle.clausal_form.specs.Heavy.{heavy_matrix, some_heavy, form_has_clauses, some_form_has_clauses, all_forms_have_clauses, heavy_form, some_heavy_form}
+use Rattle.clausal_form.specs.Heavy.{heavy_matrix, some_heavy, form_has_clauses, some_form_has_clauses, all_forms_have_clauses, heavy_form, some_heavy_form, written_total, written_totals}
+use Rattle.formula_nnf.specs.CappedCount.{capped}
 
 -- one member more of a disjunction or a conjunction of tests
 or-then : (made new found rest all : Bool) → new ≡ (made || found) → (made || (found || rest)) ≡ all → (new || rest) ≡ all
@@ -130,6 +131,25 @@ pub heavy-forms-end :
     → length fs ≤ i → (made || some_heavy_form (formulas_of (map nnf_tree (drop i fs)))) ≡ all → made ≡ all
 heavy-forms-end made all fs i h k =
     sym (or-none made) ∙ ap (λ us. made || some_heavy_form (formulas_of (map nnf_tree us))) (sym (drop-end fs i h)) ∙ k
+
+-- ---- the symbols of literals together
+
+pub totals-then :
+    (made new found all : ℕ) (fs : List Nnf) (i : ℕ) (f : Nnf)
+    → i < length fs → f ≡ get_or fs i f → found ≡ capped (written_total (nnf_tree f)) → new ≡ capped (made + found)
+    → capped (made + written_totals (formulas_of (map nnf_tree (drop i fs)))) ≡ all
+    → capped (new + written_totals (formulas_of (map nnf_tree (drop (i + 1) fs)))) ≡ all
+totals-then made new found all fs i f h e g n k =
+    let next : written_totals (formulas_of (map nnf_tree (drop i fs))) ≡ written_total (nnf_tree f) + written_totals (formulas_of (map nnf_tree (drop (i + 1) fs))) =
+    ap (λ gs. written_totals (formulas_of (map nnf_tree gs))) (drop-item fs i f h e) in
+    omega (arith, next, g, n, k)
+
+pub totals-end :
+    (made all : ℕ) (fs : List Nnf) (i : ℕ)
+    → length fs ≤ i → made ≤ 2 ^ 64 - 1 → capped (made + written_totals (formulas_of (map nnf_tree (drop i fs)))) ≡ all → made ≡ all
+totals-end made all fs i h l k =
+    let none : written_totals (formulas_of (map nnf_tree (drop i fs))) ≡ 0 = ap (λ gs. written_totals (formulas_of (map nnf_tree gs))) (drop-end fs i h) in
+    omega (arith, none, l, k)
 
 -- ---- sizes of terms
 

@@ -14,7 +14,7 @@ abbrev pub is_some : List Literals → Bool
 is_some [] = false
 is_some (c ∷ cs) = true
 
-any-append : {X : Type 0} (p : X → Bool) (xs ys : List X) → list_any p (xs ++ ys) ≡ (list_any p xs || list_any p ys)
+pub any-append : {X : Type 0} (p : X → Bool) (xs ys : List X) → list_any p (xs ++ ys) ≡ (list_any p xs || list_any p ys)
 any-append p [] ys = refl
 any-append p (x ∷ xs) ys = by (p x) (any-append p xs ys)
   where
@@ -43,10 +43,10 @@ some-pairs (c ∷ a) b =
     some-append (map (λ d. c ++ d) b) (all_pairs a b) ∙ ap (λ t. t || is_some (all_pairs a b)) (some-before c b)
     ∙ ap (λ t. is_some b || t) (some-pairs a b) ∙ or-idle (is_some b) (is_some a)
 
-abbrev any_in : (ℕ → Bool) → List Literals → Bool
+abbrev pub any_in : (ℕ → Bool) → List Literals → Bool
 any_in p cs = list_any p (clauses_variables cs)
 
-any-lists : (p : ℕ → Bool) (a b : List Literals) → any_in p (a ++ b) ≡ (any_in p a || any_in p b)
+pub any-lists : (p : ℕ → Bool) (a b : List Literals) → any_in p (a ++ b) ≡ (any_in p a || any_in p b)
 any-lists p [] b = refl
 any-lists p (c ∷ a) b =
     any-append p (flat_map literal_variables c) (clauses_variables (a ++ b))
@@ -82,7 +82,7 @@ any-before p c (d ∷ b) =
     by false false [] = refl
     by false false (d ∷ b) = refl
 
-any-pairs :
+pub any-pairs :
     (p : ℕ → Bool) (a b : List Literals)
     → any_in p (all_pairs a b) ≡ ((is_some a && is_some b) && (any_in p a || any_in p b))
 any-pairs p [] b = refl
@@ -128,7 +128,7 @@ mutual
       ap is_some (product-written-first m ms) ∙ some-pairs (written m) (product_written ([] ∷ []) ms)
       ∙ ap (λ t. t && is_some (product_written ([] ∷ []) ms)) (some-written m) ∙ ap (λ t. has_clauses m && t) (some-product ms)
 
-abbrev Same : List ℕ → List ℕ → Type 0
+abbrev pub Same : List ℕ → List ℕ → Type 0
 Same xs ys = (p : ℕ → Bool) → list_any p xs ≡ list_any p ys
 
 any-if : (p : ℕ → Bool) (t : Bool) (xs : List ℕ) → list_any p (if t then xs else []) ≡ (t && list_any p xs)

@@ -19,7 +19,8 @@ use Rattle.kernel_steps.specs.declared.step.Line.{Line}
 use Rattle.kernel_steps.proofs.WorkedExamples.DerivationExamples.{AllCome, derivation-from}
 use Rattle.clausal_form.specs.DerivationSteps.{LineKind, kind_of}
 use Rattle.clausal_form.specs.DerivationSteps as kind
-use Rattle.clausal_form.specs.DerivationLine.{LineTree, same_formula, kernel_term, kernel_literal, kernel_line, NamedLine, Taken, nothing_taken, kernel_lines, names_with, with_line}
+use Rattle.clausal_form.specs.DerivationLine.{LineTree, same_formula, NamedLine, Taken, nothing_taken, kernel_lines, names_with, with_line}
+use Rattle.kernel_steps.specs.FromTrees.{term_from, literal_from, line_of}
 use Rattle.clausal_form.specs.DerivationParts.{Setting, line_kind, parent_places, line_clause}
 use Rattle.clausal_form.specs.DerivationCauses.{Cause, text, order, unknown_parent, conclusion, new_symbol, Given, fault, gives_formula, gives_clause, given_by, is_written, has_new_symbol, is_old_name, LineVerdict, refused, taken, compared, line_verdict}
 use Rattle.clausal_form.specs.DerivationLines.{LinesVerdict, all_taken, refused_at, after_line, then_line, lines_verdict_from, lines_verdict}
@@ -27,18 +28,18 @@ use Rattle.clausal_form.proofs.AboutNaming.GivenLemmas.{NameBelow, Binds, NoneFr
 
 -- ---- the kernel's line has the clause
 
-kernel_term-tree : (t : Tree) → tree_of (kernel_term t) ≡ t
-kernel_term-tree (variable v) = refl
-kernel_term-tree (application f ts) = ap (application f) (trees_of-list_of ts)
+term_from-tree : (t : Tree) → tree_of (term_from t) ≡ t
+term_from-tree (variable v) = refl
+term_from-tree (application f ts) = ap (application f) (trees_of-list_of ts)
 
-kernel_literals : (ls : List TreeLiteral) → map literal_of (map kernel_literal ls) ≡ ls
+kernel_literals : (ls : List TreeLiteral) → map literal_of (map literal_from ls) ≡ ls
 kernel_literals [] = refl
 kernel_literals (l ∷ ls) =
     let make : Tree → Tree → TreeLiteral = λ t u. record { positive = l.positive; left = t; right = u } in
-    ap₂ ◌∷◌ (ap₂ make (kernel_term-tree l.left) (kernel_term-tree l.right)) (kernel_literals ls)
+    ap₂ ◌∷◌ (ap₂ make (term_from-tree l.left) (term_from-tree l.right)) (kernel_literals ls)
 
-pub kernel_line-clause : (st : Step) (c : TreeClause) → clause_of (kernel_line st c).clause ≡ c
-kernel_line-clause st c =
+pub line_of-clause : (st : Step) (c : TreeClause) → clause_of (line_of st c).clause ≡ c
+line_of-clause st c =
     let make : List TreeLiteral → TreeClause = λ ls. record { literals = ls; names = c.names } in ap make (kernel_literals c.literals)
 
 -- ---- one line more
@@ -64,9 +65,9 @@ or-parts false b h = (refl, h)
 
 taken-as :
     (test : Tree → Bool) (s : Setting) (e : Taken) (t : LineTree) (k : LineKind) (st : Step) (c : TreeClause)
-    → k ≡ line_kind t → ComesRight test s e t k st c → binds_each test st ≡ true → IsTakenAs test s e t (kernel_line st c)
+    → k ≡ line_kind t → ComesRight test s e t k st c → binds_each test st ≡ true → IsTakenAs test s e t (line_of st c)
 taken-as test s e t k st c k_is right bound = record {
-  comes = subst (λ d. ComesBy st (s.form).clauses (kernel_lines e) d) (sym (kernel_line-clause st c)) right.comes;
+  comes = subst (λ d. ComesBy st (s.form).clauses (kernel_lines e) d) (sym (line_of-clause st c)) right.comes;
   below = subst (λ l. NameBelow (length (names_with e.introduced l)) st) k_is right.below;
   binds = bound;
 }
@@ -83,16 +84,16 @@ compared-taken :
     → KnownPass test s e t → IsRight test s e t (line_kind t) g → compared s e t g ≡ taken line → IsTakenAs test s e t line
 compared-taken test s e t (fault cause) line known right h = absurd (cc)
 compared-taken test s e t (gives_formula st f) line known right h =
-    subst (IsTakenAs test s e t) (formula-taken (same_formula f (t.entry).formula) (kernel_line st empty_clause) line h)
+    subst (IsTakenAs test s e t) (formula-taken (same_formula f (t.entry).formula) (line_of st empty_clause) line h)
     (taken-as test s e t (line_kind t) st empty_clause refl right.0 right.1)
 compared-taken test s e t (gives_clause st c) line known right h =
     let rest : LineVerdict =
-    if has_new_symbol s e t || is_old_name s e (line_kind t) then refused new_symbol else taken (kernel_line st c) in
+    if has_new_symbol s e t || is_old_name s e (line_kind t) then refused new_symbol else taken (line_of st c) in
     let first = not-refused (not (clause_eq c (line_clause s e t))) conclusion rest line h in
-    let second = not-refused (has_new_symbol s e t || is_old_name s e (line_kind t)) new_symbol (taken (kernel_line st c)) line first.1 in
+    let second = not-refused (has_new_symbol s e t || is_old_name s e (line_kind t)) new_symbol (taken (line_of st c)) line first.1 in
     let tests = or-parts (has_new_symbol s e t) (is_old_name s e (line_kind t)) second.0 in
     let comes = right tests.1 in
-    subst (IsTakenAs test s e t) (same-line (kernel_line st c) line second.1)
+    subst (IsTakenAs test s e t) (same-line (line_of st c) line second.1)
     (taken-as test s e t (line_kind t) st c refl comes (comes.binds (known tests.0)))
 
 line-taken :

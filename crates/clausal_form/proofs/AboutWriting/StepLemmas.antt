@@ -1,5 +1,5 @@
 -- One formula's part of the form.
-use Rattle.std.proofs.Common.{◌≡◌, ℕ, ◌+◌, ◌<◌, ◌≤◌, Bool, true, false, not, List, [], ◌∷◌, ◌++◌, length, refl, ap, sym, ◌∙◌, arith}
+use Rattle.std.proofs.Common.{◌≡◌, ℕ, ◌+◌, ◌<◌, ◌≤◌, Bool, true, false, not, List, [], ◌∷◌, ◌++◌, length, refl, ap, sym, subst, ◌∙◌, arith}
 use Rattle.std.specs.Prelude.{nat_lt, Option, None, Some, flat_map, if◌then◌else◌}
 use Rattle.std.proofs.lemmas.Bool.{ltb-true, ltb-false}
 use Rattle.tptp_tree.specs.Entries.{is_conjecture}
@@ -19,8 +19,7 @@ use Rattle.skolem.specs.Skolemized.{AreKnown}
 use Rattle.skolem.specs.MatrixClauses.{matrix_clauses}
 use Rattle.skolem.specs.ProblemLaws.{AreAllSymbols}
 use Rattle.skolem.proofs.AboutFormulas.ProblemLemmas.{skolem_symbols_are_numbered_on}
-use Rattle.clausal_form.specs.Formula.{form_by_itself}
-use Rattle.clausal_form.specs.Heavy.{heavy_matrix}
+use Rattle.clausal_form.specs.Formula.{form_by_itself, Passes}
 use Rattle.clausal_form.specs.Measure.{symbols_in, largest, ClauseMeasure, measure_of, capped_measure, capped_measured, sum_measure}
 use Rattle.clausal_form.specs.Naming.{IsMeasured, IsWork, defining_clauses, definition_clauses, naming_made, naming_numbers}
 use Rattle.clausal_form.specs.Fault.{limit_fault, counted_in, formula_fault}
@@ -32,7 +31,6 @@ use Rattle.clausal_form.specs.declared.form.FormSoFar.{FormSoFar}
 use Rattle.clausal_form.specs.declared.measure.Measure.{Measure}
 use Rattle.clausal_form.specs.declared.naming.Naming.{Naming}
 use Rattle.clausal_form.proofs.AboutWriting.FrameLemmas.{formula_made, IsAdded, added-by-matrix}
-use Rattle.clausal_form.proofs.AboutCounts.HeavyLemmas.{heavy-largest}
 use Rattle.clausal_form.proofs.AboutCounts.MeasureLemmas.{length-append, measured-sum}
 use Rattle.clausal_form.proofs.AboutNaming.NameLemmas.{closed-known}
 use Rattle.clausal_form.specs.declared.fault.TheConstants.{MOST_EXPANDED}
@@ -92,17 +90,16 @@ named-formula n a prefix m old matrix before after cs b h k e ba bf bd w =
         ∙ ap (λ t. matrix_clauses (naming_numbers n.first_naming) t (naming_made before)) (e ∙ ap (λ known. (form_by_itself known a).matrix) h.signature)
         ∙ ap (matrix_clauses (naming_numbers n.first_naming) (form_by_itself (n.symbols ++ others) a).matrix) begun
 
--- a heavy literal of the formula's matrix is in one of the clauses
-pub heavy-so :
-    (n : SymbolNumbers) (a : Annotated) (prefix : List ℕ) (m : Made) (old : FormSoFar) (counted : ℕ)
+-- the limit that the clauses of the formula's matrix pass is the formula's
+pub cause-so :
+    (n : SymbolNumbers) (a : Annotated) (prefix : List ℕ) (m : Made) (old : FormSoFar) (counted : ℕ) (cause : FormCause)
     → HasMade n prefix m old → AreKnown n.symbols (formula_symbols (formula_of a.formula))
     → nat_lt MOST_EXPANDED (expanded_count (formula_of a.formula)) ≡ false
-    → heavy_matrix (form_by_itself old.signature a).matrix ≡ true → formula_fault n a counted m ≡ Some TooHeavy
-heavy-so n a prefix m old counted h k o e =
+    → Passes cause (form_by_itself old.signature a).matrix → formula_fault n a counted m ≡ Some cause
+cause-so n a prefix m old counted cause h k o e =
     ap (λ t. if t then Some Expansion else limit_fault (largest work.clauses) (counted + counted_in work.clauses + length work.made.skolem_arities)) o
-    ∙ ap (λ t. if t then Some TooHeavy else if nat_lt MOST_FORM_SYMBOLS (counted + counted_in work.clauses + length work.made.skolem_arities) then Some TotalLimit else None)
-    (heavy-largest (naming_numbers n.first_naming) (form_by_itself (n.symbols ++ others) a).matrix (formula_made m) work.clauses
-    (ap (λ known. heavy_matrix (form_by_itself known a).matrix) (sym h.signature) ∙ e) (added-by-matrix n others a m (closed-known n.symbols a k) all).clauses)
+    ∙ subst (λ known. Passes cause (form_by_itself known a).matrix) h.signature e (naming_numbers n.first_naming) (formula_made m)
+    counted (length work.made.skolem_arities) work.clauses refl (added-by-matrix n others a m (closed-known n.symbols a k) all).clauses
   where
     work : Worked
     work = annotated_clauses n a m

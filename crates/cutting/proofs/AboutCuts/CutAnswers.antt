@@ -35,7 +35,8 @@ use Rattle.cutting.specs.Cutting.{IsCut, IsCutOrNone, IsFirstLine, IsFitting, be
 use Rattle.cutting.specs.Superposing.{IsSuperposed, superposed_under}
 use Rattle.cutting.specs.Fit.{IsFit}
 use Rattle.cutting.specs.CutSteps.{AreCutOrNone, AreLinesOfCut, CutsNone, CutsOrNot, IsCutOf, IsCutOfOrNone, MakesCut, before_last_variables}
-use Rattle.cutting.specs.Removing.{IsOwnStep, IsTrivialAt, own_terms}
+use Rattle.cutting.specs.Removing.{IsOwnStep, IsTrivialAt}
+use Rattle.kernel_steps.specs.Lines.{own_terms}
 use Rattle.cutting.specs.declared.cutting.Cut.{Cut}
 use Rattle.cutting.specs.declared.cut_lines.CutLines.{CutLines}
 use Rattle.cutting.proofs.AboutCuts.OwnLemmas.{own-below, own-literals}

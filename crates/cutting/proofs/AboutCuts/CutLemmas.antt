@@ -21,7 +21,7 @@ use Rattle.subsume.specs.Kinds.{are_alike}
 use Rattle.subsume.proofs.AboutSearch.PlacingLemmas.{alike-says}
 use Rattle.eq_rules.proofs.AboutConclusions.PremiseLemmas.{clause-below, literal-below}
 use Rattle.cutting.specs.Cutting.{IsFitting, turned, open_side, fitting_side, unit_terms, unsolvable, before_last}
-use Rattle.cutting.specs.Removing.{own_terms}
+use Rattle.kernel_steps.specs.Lines.{own_terms}
 use Rattle.cutting.specs.Superposing.{superposed_under}
 use Rattle.cutting.specs.declared.matching.Fitting.{Fitting}
 use Rattle.cutting.proofs.AboutCuts.OwnLemmas.{own-literals}

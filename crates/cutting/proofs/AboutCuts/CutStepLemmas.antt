@@ -25,7 +25,7 @@ use Rattle.fol_base.proofs.AboutOrders.OrderLemmas.{equivalent_literals-decided}
 use Rattle.kernel_steps.specs.Conclusion.{concludes, verdict}
 use Rattle.kernel_steps.specs.Derivation.{AreSteps, complement, continued, introduces_name, is_clause_step, line_parent, line_parents}
 use Rattle.kernel_steps.specs.Inference.{CutsBy}
-use Rattle.kernel_steps.specs.Lines.{IsNumbered, clause_parents, clauses_named, has_small_terms, is_on_literals, step_parents}
+use Rattle.kernel_steps.specs.Lines.{IsNumbered, clause_parents, clauses_named, has_small_terms, is_on_literals, step_parents, own_terms}
 use Rattle.kernel_steps.specs.Names.{sorted_names}
 use Rattle.kernel_steps.specs.Parents.{Parent, Parents}
 use Rattle.kernel_steps.specs.Soundness.{binds_each}
@@ -44,7 +44,7 @@ use Rattle.reduction.specs.Extending.{AreLinesOfMove, parents_with}
 use Rattle.cutting.specs.Cutting.{IsFirstLine, IsFitting, before_last, fitting_side, last_index, open_side, turned, unit_terms}
 use Rattle.cutting.specs.CutSteps.{CutsTo}
 use Rattle.cutting.specs.Fit.{IsFit}
-use Rattle.cutting.specs.Removing.{IsOwnStep, own_terms}
+use Rattle.cutting.specs.Removing.{IsOwnStep}
 use Rattle.cutting.specs.declared.cutting.Cut.{Cut}
 use Rattle.cutting.proofs.AboutLeaving.RemovalLemmas.{resolved-removes}
 use Rattle.cutting.proofs.AboutLeaving.MoveLemmas.{IsGood, IsOnOne, good-line, no-symbols, right-step, number-there}

@@ -11,7 +11,7 @@ use Rattle.fol_base.specs.Kind.{is_function_term, PutsFunctionTerms}
 use Rattle.fol_base.proofs.AboutCanonical.CanonicalLemmas.{length-terms_from, terms_from-at}
 use Rattle.eq_rules.proofs.AboutConclusions.PremiseLemmas.{clause-below}
 use Rattle.eq_rules.proofs.AboutConclusions.WideLemmas.{literals-below}
-use Rattle.cutting.specs.Removing.{own_terms}
+use Rattle.kernel_steps.specs.Lines.{own_terms}
 
 -- each variable of a clause stands for itself
 pub own-at : (c : TreeClause) (v : ℕ) → substitution (own_terms c) v ≡ variable v

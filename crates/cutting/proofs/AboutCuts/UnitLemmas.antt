@@ -17,7 +17,7 @@ use Rattle.unifier.proofs.AboutLayouts.KindLemmas.{matchers_put_function_terms}
 use Rattle.unifier.proofs.AboutMatching.MatchLemmas.{Pairs}
 use Rattle.eq_rules.proofs.AboutConclusions.BindingLemmas.{SymbolTest, changed, changed_there, smaller_or_same}
 use Rattle.cutting.specs.Cutting.{IsFitting, turned, unit_terms}
-use Rattle.cutting.specs.Removing.{own_terms}
+use Rattle.kernel_steps.specs.Lines.{own_terms}
 use Rattle.cutting.specs.declared.matching.Fitting.{Fitting}
 use Rattle.cutting.proofs.AboutCuts.CutLemmas.{unit-many, unit-below, unit-at, made-left, made-right}
 use Rattle.cutting.proofs.AboutCuts.OwnLemmas.{own-many, own-below, own-clause, own-functions, own-no_truth, own-small}

@@ -21,7 +21,8 @@ use Rattle.kernel_steps.proofs.AboutNames.NameRanks.{sorted-same}
 use Rattle.eq_rules.proofs.AboutConclusions.WideLemmas.{renamed-literals_size}
 use Rattle.cutting.specs.Cutting.{IsFirstLine, IsFitting, before_last, last_index, open_side, unit_terms}
 use Rattle.cutting.specs.Fit.{IsFit}
-use Rattle.cutting.specs.Removing.{IsOwnStep, own_terms}
+use Rattle.cutting.specs.Removing.{IsOwnStep}
+use Rattle.kernel_steps.specs.Lines.{own_terms}
 use Rattle.cutting.specs.declared.cutting.Cut.{Cut}
 use Rattle.cutting.proofs.AboutLeaving.RemovalLemmas.{resolved-removes}
 use Rattle.cutting.proofs.AboutLeaving.MoveLemmas.{IsOnOne, d-canonical, smaller-removed}

@@ -24,7 +24,7 @@ use Rattle.kernel_steps.specs.Parents.{Parent, Parents}
 use Rattle.kernel_steps.specs.Conclusion.{by_one, concludes, verdict}
 use Rattle.kernel_steps.specs.Derivation.{AreSteps, continued}
 use Rattle.kernel_steps.specs.Inference.{DropsTrivial, MergesEqual}
-use Rattle.kernel_steps.specs.Lines.{IsNumbered, clause_parents, clauses_named, has_small_sides, has_small_terms, is_on_literals, is_small_term, step_parents}
+use Rattle.kernel_steps.specs.Lines.{IsNumbered, clause_parents, clauses_named, has_small_sides, has_small_terms, is_on_literals, is_small_term, step_parents, own_terms}
 use Rattle.kernel_steps.specs.Soundness.{bindings_of, binds_each}
 use Rattle.kernel_steps.specs.Symbols.{symbols_pass}
 use Rattle.kernel_steps.specs.declared.step.TheConstants.{CLAUSE_NUMBERS}
@@ -37,7 +37,6 @@ use Rattle.eq_rules.proofs.AboutConclusions.ConclusionLemmas.{conclusion_numbere
 use Rattle.eq_rules.proofs.AboutConclusions.WideLemmas.{renamed-literals_size}
 use Rattle.reduction.specs.Extending.{AreLinesOfMove, parents_with}
 use Rattle.cutting.specs.Fit.{IsFit}
-use Rattle.cutting.specs.Removing.{own_terms}
 use Rattle.cutting.proofs.AboutCuts.OwnLemmas.{own-many, own-below, own-literals, own-clause, own-functions, own-no_truth, own-small, own-at}
 use Rattle.cutting.proofs.AboutLeaving.RemovalLemmas.{Rule, Removes}
 

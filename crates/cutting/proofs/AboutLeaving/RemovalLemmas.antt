@@ -16,7 +16,8 @@ use Rattle.eq_rules.specs.Concluding.{GivesNumbered}
 use Rattle.eq_rules.proofs.AboutConclusions.RenumberedLemmas.{met_onward, variables_between}
 use Rattle.eq_rules.proofs.AboutConclusions.StepLemmas.{others-variables, some_there}
 use Rattle.eq_rules.proofs.AboutConclusions.WideLemmas.{renamed-literals}
-use Rattle.cutting.specs.Removing.{AreRenumbered, own_terms, plain_without}
+use Rattle.cutting.specs.Removing.{AreRenumbered, plain_without}
+use Rattle.kernel_steps.specs.Lines.{own_terms}
 use Rattle.cutting.proofs.AboutCuts.OwnLemmas.{own-literals, own-below}
 
 abbrev pub Rule : Type 0

@@ -25,12 +25,13 @@ use Rattle.bank_clause.specs.declared.clause.BankClause.{BankClause}
 use Rattle.bank_clause.specs.declared.member.Member.{Member}
 use Rattle.rewriting.specs.Searching.{IsFoundOf}
 use Rattle.rewriting.specs.Units.{clause_numbered, usable}
-use Rattle.rewriting.proofs.SearchLemmas.{usable-from}
+use Rattle.rewriting.proofs.AboutSearches.SearchLemmas.{usable-from}
 use Rattle.demodulate.specs.Normal.{IsNextLine}
 use Rattle.rewriting.specs.Laws.{Becomes}
 use Rattle.rewriting.specs.declared.searching.Found.{Found}
-use Rattle.rewriting.proofs.LawLemmas.{redexes_give}
-use Rattle.demodulate.specs.Steps.{always, matched_terms, own_terms, IsLineOf}
+use Rattle.rewriting.proofs.AboutRedexes.LawLemmas.{redexes_give}
+use Rattle.demodulate.specs.Steps.{always, matched_terms, IsLineOf}
+use Rattle.kernel_steps.specs.Lines.{own_terms}
 use Rattle.demodulate.proofs.AboutSteps.LineLemmas.{appended-variables}
 use Rattle.demodulate.proofs.AboutRanks.TermLemmas.{literals-stay, own-there}
 

@@ -34,14 +34,14 @@ use Rattle.kbo_order.proofs.AboutMultisets.MemberLemmas.{In}
 use Rattle.kbo_order.proofs.AboutLaws.SubtermLemmas.{greater-size}
 use Rattle.kernel_steps.specs.Conclusion.{concludes, verdict, verdict_of, binding_fault, clause_with, binds, bound_literals, by_two}
 use Rattle.kernel_steps.specs.Inference.{RewritesBy}
-use Rattle.kernel_steps.specs.Lines.{IsNumbered, line_variables, is_small_term, has_small_sides, has_small_terms, is_on_literals, step_parents}
+use Rattle.kernel_steps.specs.Lines.{IsNumbered, line_variables, is_small_term, has_small_sides, has_small_terms, is_on_literals, step_parents, own_terms}
 use Rattle.kernel_steps.specs.Names.{sorted_names, are_sorted}
 use Rattle.kernel_steps.specs.Parents.{Parent, Parents}
 use Rattle.kernel_steps.specs.Soundness.{bindings_of, binds_each}
 use Rattle.kernel_steps.specs.Symbols.{symbols_pass, all_symbols_pass, literal_symbols_pass, clause_symbols_pass}
 use Rattle.kernel_steps.specs.declared.step.Step.{Step}
 use Rattle.kernel_steps.specs.declared.step.Line.{Line}
-use Rattle.kernel_steps.proofs.AboutCalls.SymbolLemmas.{side-passes}
+use Rattle.kernel_steps.proofs.AboutCalls.SymbolLemmas.{side-passes, subterm-passes}
 use Rattle.unifier.specs.Matching.{by_pairs}
 use Rattle.bank_clause.specs.Parts.{assertion}
 use Rattle.eq_rules.specs.Renumbered.{AreNumberedInOrder}
@@ -54,11 +54,11 @@ use Rattle.eq_rules.proofs.AboutConclusions.WideLemmas.{literals-below, renamed-
 use Rattle.rewriting.specs.Searching.{IsFoundOf}
 use Rattle.rewriting.specs.Laws.{MayRewrite, AreWellFormed}
 use Rattle.rewriting.specs.declared.searching.Found.{Found}
-use Rattle.rewriting.proofs.LawLemmas.{RewritesFound, found_rewrites}
-use Rattle.rewriting.proofs.TryLemmas.{numbers-asserted}
-use Rattle.demodulate.specs.Steps.{matched_terms, own_terms, IsLineOf}
+use Rattle.rewriting.proofs.AboutRedexes.LawLemmas.{RewritesFound, found_rewrites}
+use Rattle.rewriting.proofs.AboutSearches.TryLemmas.{numbers-asserted}
+use Rattle.demodulate.specs.Steps.{matched_terms, IsLineOf}
 use Rattle.demodulate.proofs.AboutSteps.StepParts.{Rewrites, of_found, tests-all}
-use Rattle.demodulate.proofs.AboutSteps.SymbolLemmas.{subterm-passes, variable-passes}
+use Rattle.demodulate.proofs.AboutSteps.SymbolLemmas.{variable-passes}
 use Rattle.demodulate.proofs.AboutRanks.RankLemmas.{side-smaller, step_size}
 use Rattle.demodulate.proofs.AboutSteps.NameLemmas.{names-stay}
 use Rattle.demodulate.proofs.AboutRanks.TermLemmas.{literals-stay, term-there, term-past, own-there, puts-functions, side-has, variable-small, subterm-size, small-sides}

@@ -30,7 +30,7 @@ use Rattle.reduction.specs.Extending.{AreLinesOfMove, GoesOn, IsExtended, last_n
 use Rattle.rewriting.specs.Units.{clause_numbered, is_kept, usable}
 use Rattle.rewriting.specs.Redex.{AreNormal}
 use Rattle.rewriting.specs.Laws.{AreWellFormed, MayRewrite, NoneRewrites}
-use Rattle.rewriting.proofs.LawLemmas.{normal_clauses_stay}
+use Rattle.rewriting.proofs.AboutRedexes.LawLemmas.{normal_clauses_stay}
 use Rattle.demodulate.specs.Rank.{clause_rank}
 use Rattle.demodulate.specs.Normal.{kept, AreSomeOf, IsLower, RewritesTo, IsRewritten, IsNextLine}
 use Rattle.demodulate.specs.declared.step.NextLine.{NextLine}

@@ -3,11 +3,9 @@ use Rattle.std.proofs.Common.{◌≡◌, ℕ, Bool, true, ◌==◌, List, [], �
 use Rattle.std.specs.Prelude.{Some, IsTrue}
 use Rattle.std.specs.List.{list_any, list_all}
 use Rattle.std.proofs.lemmas.Bool.{and_parts, and_from, eqb-true}
-use Rattle.std.proofs.lemmas.Option.{option_and_then_some, same_Some}
 use Rattle.std.proofs.lemmas.List.Elements.{All-contains}
 use Rattle.fol_base.specs.Tree.{Tree, variable, application, Trees, no_trees, tree_then, tree_variables, trees_variables, trees_count}
 use Rattle.fol_base.specs.Instance.{Substitution, instance, instances}
-use Rattle.fol_base.specs.Place.{argument, subterm}
 use Rattle.fol_base.specs.Clause.{TreeLiteral, TreeClause, literal_instance}
 use Rattle.fol_base.specs.Ground.{literals_instance}
 use Rattle.fol_base.specs.Sides.{side_of, other_side_of}
@@ -19,14 +17,7 @@ use Rattle.fol_base.proofs.WorkedExamples.TestLemmas.{list_all-item}
 use Rattle.kbo_order.proofs.AboutMultisets.MemberLemmas.{In, In-contains, any-In, In-left, In-right}
 use Rattle.demodulate.proofs.AboutSteps.StepParts.{Rewrites}
 use Rattle.kernel_steps.specs.Symbols.{symbols_pass, all_symbols_pass, literal_symbols_pass, clause_symbols_pass}
-use Rattle.kernel_steps.proofs.AboutCalls.SymbolLemmas.{passes-argument, side-passes, superposed-passes}
-
-pub subterm-passes :
-    (test : ℕ → ℕ → Bool) (place : List ℕ) (t u : Tree) → subterm place t ≡ Some u → symbols_pass test t ≡ true → symbols_pass test u ≡ true
-subterm-passes test [] t u there h = ap (symbols_pass test) (sym (same_Some t u there)) ∙ h
-subterm-passes test (k ∷ place) t u there h =
-    option_and_then_some (subterm place) (argument k t) u there λ a a_is u_is.
-    subterm-passes test place a u u_is (passes-argument test k t a a_is h)
+use Rattle.kernel_steps.proofs.AboutCalls.SymbolLemmas.{subterm-passes, side-passes, superposed-passes}
 
 pub in-either : (v : ℕ) (xs ys : List ℕ) → In v (xs ++ ys) → In v xs ⊎ In v ys
 in-either v [] ys h = inr h

@@ -3,11 +3,11 @@ use Rattle.std.proofs.Common.{◌≡◌, ℕ, zero, suc, ◌+◌, ◌-◌, ◌<�
 use Rattle.std.specs.Prelude.{slice_get, slice_set, remove, All, nat_lt}
 use Rattle.std.specs.List.{list_all}
 use Rattle.std.proofs.lemmas.Bool.{and_parts, and_from, cond-true, cond-false, cases_Bool}
-use Rattle.std.proofs.lemmas.Option.{none-some, same_Some}
+use Rattle.std.proofs.lemmas.Option.{none-some, same_Some, option_and_then_some}
 use Rattle.std.proofs.lemmas.List.Elements.{All-contains}
 use Rattle.fol_base.specs.Tree.{Tree, variable, application, Trees, no_trees, tree_then, trees_of, list_of, trees_count}
 use Rattle.fol_base.specs.Instance.{Substitution, substitution, instance, instances}
-use Rattle.fol_base.specs.Place.{argument, with_argument, replaced}
+use Rattle.fol_base.specs.Place.{argument, subterm, with_argument, replaced}
 use Rattle.fol_base.specs.Clause.{TreeLiteral, TreeClause, literal_instance}
 use Rattle.fol_base.specs.Sides.{side_of, other_side_of, with_side}
 use Rattle.fol_base.specs.Rules.{superposed, resolved, factored, merged, disequation}
@@ -61,6 +61,13 @@ passes-argument test k (variable v) a there h = absurd (none-some a there)
 passes-argument test k (application f ts) a there h =
     list_all-item (symbols_pass test) (list_of ts) k a there
     (sym (listed test ts) ∙ (and_parts (test f (trees_count ts)) (all_symbols_pass test ts) h).1)
+
+pub subterm-passes :
+    (test : SymbolTest) (place : List ℕ) (t u : Tree) → subterm place t ≡ Some u → symbols_pass test t ≡ true → symbols_pass test u ≡ true
+subterm-passes test [] t u there h = ap (symbols_pass test) (sym (same_Some t u there)) ∙ h
+subterm-passes test (k ∷ place) t u there h =
+    option_and_then_some (subterm place) (argument k t) u there λ a a_is u_is.
+    subterm-passes test place a u u_is (passes-argument test k t a a_is h)
 
 passes-replaced :
     (test : SymbolTest) (place : List ℕ) (new t made : Tree)

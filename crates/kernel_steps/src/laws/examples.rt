@@ -1,14 +1,18 @@
 // Worked examples of steps and derivations. The symbols are those of the base's examples.
 
-ghost use Rattle.std.specs.Prelude.{◌≡◌, ◌+◌, ◌^◌, [], ◌∷◌, Some, None, take, codes, IsTrue, IsFalse};
+ghost use Rattle.std.specs.Prelude.{◌≡◌, ◌+◌, ◌^◌, true, false, [], ◌∷◌, Some, None, take, codes, IsTrue, IsFalse};
 ghost use Rattle.fol_base.specs.Tree.{true_tree};
 ghost use Rattle.fol_base.specs.Examples.{x, a, b, p, q, clause};
+ghost use Rattle.fol_base.specs.Literal.{clause_of};
 ghost use Rattle.fol_base.specs.declared.clause.Side.TheVariants.{Left, Right};
 ghost use Rattle.kernel_steps.specs.Names.{sorted_names, chained};
 ghost use Rattle.kernel_steps.specs.Split.{is_split};
 ghost use Rattle.kernel_steps.specs.Conclusion.{verdict, binding_fault, rule_fault, concludes, empty_clause};
 ghost use Rattle.kernel_steps.specs.Derivation.{positive_of, negative_of, body, ComesBy, IsRefutation, continued, AreSteps, reduced_parents};
 ghost use Rattle.kernel_steps.specs.Keys.{key_text};
+ghost use Rattle.kernel_steps.specs.Lines.{own_terms};
+ghost use Rattle.kernel_steps.specs.FromTrees.{line_of};
+ghost use Rattle.kernel_steps.specs.Marks.{is_marked, marked_numbers};
 ghost use Rattle.kernel_steps.specs.Examples.{not_p, not_true, tower, with, names_only, conclusion, definition, listed, line, introduced, opposites, opposites_lines, opposites_with, reducing_lines, implication, implication_lines, rewrites, rewrites_lines, components, components_lines, four_clauses, four_clauses_lines};
 ghost use Rattle.kernel_steps.specs.declared.step.Step.TheVariants as step;
 ghost use Rattle.kernel_steps.specs.declared.key.Key.TheVariants as key;
@@ -117,4 +121,13 @@ pub fn changed_derivation_examples()
     ensures other_index { IsRefutation opposites (opposites_with (line (step.Clausify 0) (not_p a ∷ [])) 3) → ⊥ }
     ensures one_literal_fewer { IsRefutation opposites (opposites_with (line (step.Clausify 1) []) 3) → ⊥ }
     ensures last_line_left_out { IsRefutation opposites (take 4 (opposites_lines 3)) → ⊥ }
+{}
+
+/// Lines that trees make, the variables of a clause as terms, and marks of numbers.
+pub fn line_examples()
+    ensures line { clause_of (line_of (step.Refl 0 0 []) (with (p a ∷ []) (positive_of 0 ∷ []))).clause ≡ with (p a ∷ []) (positive_of 0 ∷ []) }
+    ensures own_terms { own_terms (clause (q (x 1) ∷ [])) ≡ x 0 ∷ x 1 ∷ [] }
+    ensures marked { is_marked (false ∷ true ∷ []) 1 ≡ true }
+    ensures past_the_marks { is_marked (true ∷ []) 1 ≡ false }
+    ensures marked_numbers { marked_numbers 3 (true ∷ false ∷ true ∷ []) ≡ 3 ∷ 5 ∷ [] }
 {}

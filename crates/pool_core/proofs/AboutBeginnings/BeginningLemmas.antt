@@ -21,7 +21,7 @@ use Rattle.kernel_steps.specs.Symbols.{clause_symbols_pass}
 use Rattle.kernel_steps.specs.declared.step.Step.TheVariants.{Clausify}
 use Rattle.kernel_steps.specs.declared.step.Line.{Line}
 use Rattle.pool_core.specs.Record.{PoolRecord, Registered, nothing_registered}
-use Rattle.pool_core.specs.Lines.{term_of, written_literal, written, line_of}
+use Rattle.kernel_steps.specs.FromTrees.{term_from, literal_from, clause_from, line_of}
 use Rattle.pool_core.specs.Registering.{comes, unless_ended, with_inputs}
 use Rattle.pool_core.specs.Inputs.{AreInputs, IsUseOf}
 use Rattle.pool_core.specs.Wholeness.{IsWhole, RegisteredAreWhole}
@@ -37,15 +37,15 @@ use Rattle.pool_core.proofs.AboutBeginnings.StartLemmas.{all-at}
 
 -- ---- a clause as it is written
 
-term-written : (t : Tree) → tree_of (term_of t) ≡ t
+term-written : (t : Tree) → tree_of (term_from t) ≡ t
 term-written (variable v) = refl
 term-written (application f ts) = ap (application f) (trees_of-list_of ts)
 
-literals-written : (ls : List TreeLiteral) → map literal_of (map written_literal ls) ≡ ls
+literals-written : (ls : List TreeLiteral) → map literal_of (map literal_from ls) ≡ ls
 literals-written [] = refl
 literals-written (l ∷ ls) = ap₂ (λ k ks. k ∷ ks) (ap₂ (λ t u. let m : TreeLiteral = record { positive = l.positive; left = t; right = u } in m) (term-written l.left) (term-written l.right)) (literals-written ls)
 
-pub clause-written : (c : TreeClause) → clause_of (written c) ≡ c
+pub clause-written : (c : TreeClause) → clause_of (clause_from c) ≡ c
 clause-written c = ap (λ ls. let d : TreeClause = record { literals = ls; names = c.names } in d) (literals-written c.literals)
 
 small-sides : (ls : List TreeLiteral) → sum_by literal_size ls ≤ MOST_SYMBOLS → list_all has_small_sides ls ≡ true
@@ -63,8 +63,8 @@ small-sides (l ∷ ls) few =
 module _ (usage : SymbolUse) (inputs : List TreeClause) where
   input-plain : (i : ℕ) (c : TreeClause) → IsWhole usage c → IsPlainLine usage (line_of (Clausify i) c)
   input-plain i c whole =
-      let same : clause_of (written c) ≡ c = clause-written c in
-      let canonical : IsCanonical (clause_of (written c)) = subst IsCanonical (sym same) whole.canonical in
+      let same : clause_of (clause_from c) ≡ c = clause-written c in
+      let canonical : IsCanonical (clause_of (clause_from c)) = subst IsCanonical (sym same) whole.canonical in
       record {
         step = refl;
         no_names = whole.no_names;
@@ -73,10 +73,10 @@ module _ (usage : SymbolUse) (inputs : List TreeClause) where
         numbered = record {
           canonical = canonical;
           bindings =
-              subst (λ vs. let order = distinct vs in order ≡ numbers_from 0 (length order)) (sym (append-nil (clause_variables (clause_of (written c))))) canonical;
+              subst (λ vs. let order = distinct vs in order ≡ numbers_from 0 (length order)) (sym (append-nil (clause_variables (clause_of (clause_from c))))) canonical;
         };
         small =
-            and_from (list_all has_small_sides (clause_of (written c)).literals) true
+            and_from (list_all has_small_sides (clause_of (clause_from c)).literals) true
             (ap (λ (d : TreeClause). list_all has_small_sides d.literals) same ∙ small-sides c.literals whole.small) refl;
       }
 
@@ -87,7 +87,7 @@ module _ (usage : SymbolUse) (inputs : List TreeClause) where
     plain = All-cons (IsPlainLine usage) (line_of (Clausify i) c) [] (input-plain i c whole) (All-nil (IsPlainLine usage));
     symbols =
         λ test truth pass. (
-          and_from (clause_symbols_pass test (clause_of (written c))) true
+          and_from (clause_symbols_pass test (clause_of (clause_from c))) true
               (ap (clause_symbols_pass test) (clause-written c) ∙ list_all-item (clause_symbols_pass test) inputs i c at pass) refl,
           refl,
         );

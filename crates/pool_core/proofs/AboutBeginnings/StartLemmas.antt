@@ -28,7 +28,8 @@ use Rattle.bank_clause.specs.declared.clause.BankClause.{BankClause}
 use Rattle.bank_clause.proofs.EqualityLemmas.{same-are-equal}
 use Rattle.bank_clause.proofs.SidesLemmas.{known-literals-kept}
 use Rattle.pool_core.specs.Record.{PoolRecord, Registered, nothing_registered, has_living, lives, clause_numbered}
-use Rattle.pool_core.specs.Lines.{line_of, with_lines}
+use Rattle.pool_core.specs.Lines.{with_lines}
+use Rattle.kernel_steps.specs.FromTrees.{line_of}
 use Rattle.pool_core.specs.Registering.{comes, with_propositional, has_none, registered_last, empty_comes, with_refutation, with_inputs}
 use Rattle.pool_core.specs.Register.{is_living_copy}
 use Rattle.pool_core.specs.Tags.{line_names}

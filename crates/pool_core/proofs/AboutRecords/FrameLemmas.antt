@@ -10,7 +10,8 @@ use Rattle.split_parts.specs.SignedNames.{signed_name}
 use Rattle.kernel_steps.specs.Derivation.{negative_of}
 use Rattle.pool_core.specs.Components.{parts_of, is_to_split}
 use Rattle.pool_core.specs.Record.{PoolRecord, Registered, has_living}
-use Rattle.pool_core.specs.Lines.{line_of, with_lines, last_number, definition_of, result_of, pool_line}
+use Rattle.pool_core.specs.Lines.{with_lines, last_number, definition_of, result_of, pool_line}
+use Rattle.kernel_steps.specs.FromTrees.{line_of}
 use Rattle.pool_core.specs.Registering.{over, registered_by, registered_unless_living, with_propositional, with_tag, with_part_clause, with_split, split_named, split_up, has_none, with_refutation, empty_comes, comes, unless_ended, with_inputs}
 use Rattle.pool_core.specs.Counting.{comes_by, result_comes}
 use Rattle.pool_core.specs.declared.outcome.Outcome.TheVariants.{Refuted}

@@ -18,7 +18,8 @@ use Rattle.kernel_steps.specs.declared.step.Step.TheVariants.{Clausify}
 use Rattle.kernel_steps.specs.declared.step.Line.{Line}
 use Rattle.sat_core.specs.declared.answer.Chain as log
 use Rattle.pool_core.specs.Record.{PoolRecord, Registered, GivenJob, SolverJob, has_living, lives, given_job, without_job, nothing_registered}
-use Rattle.pool_core.specs.Lines.{line_of, with_lines, pool_line, result_of}
+use Rattle.pool_core.specs.Lines.{with_lines, pool_line, result_of}
+use Rattle.kernel_steps.specs.FromTrees.{line_of}
 use Rattle.pool_core.specs.Registering.{registered_last, has_none, empty_comes, comes, unless_ended, with_inputs}
 use Rattle.pool_core.specs.Counting.{lines_of_fate, lines_of_entries, keys_of, comes_by, result_comes, is_refuting, refutes, spends, counts}
 use Rattle.pool_core.specs.Returning.{dies, replaced, removed, takes_effect, proposed, becomes_active, sets_aside, worked, returns_to}

@@ -19,7 +19,7 @@ use Rattle.kernel_steps.specs.declared.step.Line.{Line}
 use Rattle.kernel_steps.specs.declared.step.Step.TheVariants as step
 use Rattle.calculus.specs.Lifting.{among, IsMember}
 use Rattle.pool_core.specs.Record.{GivenJob, clauses_of}
-use Rattle.pool_core.specs.Lines.{line_of}
+use Rattle.kernel_steps.specs.FromTrees.{line_of}
 use Rattle.pool_core.specs.Reduction.{Lookup, AreLinesFrom}
 use Rattle.pool_core.specs.Batches.{is_told_beside, told_clauses, IsReducedBeside, IsRightGone}
 use Rattle.pool_core.specs.Lawful.{IsLawful}

@@ -3,7 +3,7 @@
 ghost use Rattle.std.specs.Prelude.{◌≡◌, [], ◌∷◌, ◌++◌, true, Some, None, length, take, option_map, slice_get};
 ghost use Rattle.fol_base.specs.Examples.{a, b, f, p, clause};
 ghost use Rattle.kernel_steps.specs.declared.key.Key.TheVariants as key;
-ghost use Rattle.pool_core.specs.Lines.{line_of};
+ghost use Rattle.kernel_steps.specs.FromTrees.{line_of};
 ghost use Rattle.pool_core.specs.Outcomes.{outcome_of};
 ghost use Rattle.pool_core.specs.Record.{Registered};
 ghost use Rattle.pool_core.specs.Replay.{replay};

@@ -7,7 +7,7 @@ ghost use Rattle.kernel_steps.specs.Derivation.{complement};
 ghost use Rattle.kernel_steps.specs.Examples.{not_true, opposites};
 ghost use Rattle.kernel_steps.specs.declared.key.Key.TheVariants as key;
 ghost use Rattle.kernel_steps.specs.declared.step.Step.TheVariants as step;
-ghost use Rattle.pool_core.specs.Lines.{line_of};
+ghost use Rattle.kernel_steps.specs.FromTrees.{line_of};
 ghost use Rattle.pool_core.specs.Outcomes.{outcome_of};
 ghost use Rattle.pool_core.specs.Replay.{replay};
 ghost use Rattle.pool_core.specs.Examples.{pool_of, units, units_history, cut_away, at_roots, para_at_roots};

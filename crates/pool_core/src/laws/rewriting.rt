@@ -4,7 +4,7 @@ ghost use Rattle.std.specs.Prelude.{◌≡◌, [], ◌∷◌, ◌++◌, Some, No
 ghost use Rattle.fol_base.specs.Examples.{a, b, c, f, p, equation, clause};
 ghost use Rattle.kernel_steps.specs.declared.key.Key.TheVariants as key;
 ghost use Rattle.pool_core.specs.Claiming.{ready};
-ghost use Rattle.pool_core.specs.Lines.{line_of};
+ghost use Rattle.kernel_steps.specs.FromTrees.{line_of};
 ghost use Rattle.pool_core.specs.Outcomes.{outcome_of};
 ghost use Rattle.pool_core.specs.Record.{told_now, lives, has_living};
 ghost use Rattle.pool_core.specs.News.{news_since, activated, died};

@@ -6,7 +6,7 @@ ghost use Rattle.kernel_steps.specs.Derivation.{positive_of, negative_of};
 ghost use Rattle.kernel_steps.specs.Examples.{with};
 ghost use Rattle.kernel_steps.specs.declared.step.Step.TheVariants as step;
 ghost use Rattle.pool_core.specs.Claiming.{ready};
-ghost use Rattle.pool_core.specs.Lines.{line_of};
+ghost use Rattle.kernel_steps.specs.FromTrees.{line_of};
 ghost use Rattle.pool_core.specs.Outcomes.{outcome_of};
 ghost use Rattle.pool_core.specs.Record.{is_awake, jobs_out, propositional_clauses};
 ghost use Rattle.pool_core.specs.Replay.{start, replay};

@@ -2,7 +2,7 @@
 use Rattle.std.proofs.Common.{◌≡◌, ℕ, zero, suc, ◌+◌, ◌<◌, ◌≤◌, Bool, true, false, not, ◌&&◌, List, [], ◌∷◌, ◌++◌, length, get_or, set, take, Some, refl, ap, sym, ◌∙◌, subst, arith, ⊎_elim}
 use mathlib.Core.Bool.{beq}
 use Rattle.std.specs.Prelude.{IsTrue, nat_le}
-use Rattle.std.proofs.lemmas.Bool.{cases_Bool, cases_lt, or_cases, and_from, and_cases, not-false, lt-ltb, le-leb, both_ways}
+use Rattle.std.proofs.lemmas.Bool.{cases_Bool, cases_lt, or_cases, or_left, or_right, and_from, and_cases, not-false, lt-ltb, le-leb, both_ways}
 use Rattle.std.proofs.lemmas.List.{length-set}
 use Rattle.std.proofs.Math.Bool.{and-true}
 use Rattle.std.proofs.lemmas.Option.{same_Some}
@@ -32,6 +32,39 @@ others_more slots xs i other x h e before closed k there o =
     (λ (g : not (is_false slots x) ≡ false). ap (is_false slots) kx ∙ not-false (is_false slots x) g)
     (and_cases (not (same_name other x)) (not (is_false slots x)) closed))
     (or_cases (has_name k (take i xs)) (same_name k x) (sym (has_name_more xs i x k h e) ∙ there))
+
+-- one that is left out, or a false one
+pub others_met :
+    (slots : List Slot) (xs : PropClause) (i : ℕ) (other x : NameLit)
+    → i < length xs → x ≡ get_or xs i x → OthersFalse slots (take i xs) other
+    → same_name other x ≡ true → OthersFalse slots (take (i + 1) xs) other
+others_met slots xs i other x h e before same =
+    others_more slots xs i other x h e before (ap (λ (b : Bool). not b && not (is_false slots x)) same)
+
+pub others_wrong :
+    (slots : List Slot) (xs : PropClause) (i : ℕ) (other x : NameLit)
+    → i < length xs → x ≡ get_or xs i x → OthersFalse slots (take i xs) other
+    → is_false slots x ≡ true → OthersFalse slots (take (i + 1) xs) other
+others_wrong slots xs i other x h e before wrong = others_more slots xs i other x h e before (neither (not (same_name other x)) (is_false slots x) wrong)
+  where
+    neither : (p b : Bool) → b ≡ true → (p && not b) ≡ false
+    neither true b g = ap not g
+    neither false b g = refl
+
+-- a literal stands among those looked at so far
+pub met_now :
+    (xs : PropClause) (i : ℕ) (l x : NameLit) → i < length xs → x ≡ get_or xs i x → same_name l x ≡ true → IsTrue (has_name l (take (i + 1) xs))
+met_now xs i l x h e same = has_name_more xs i x l h e ∙ or_right (has_name l (take i xs)) (same_name l x) same
+
+pub met_before :
+    (xs : PropClause) (i : ℕ) (l x : NameLit) → i < length xs → x ≡ get_or xs i x → IsTrue (has_name l (take i xs)) → IsTrue (has_name l (take (i + 1) xs))
+met_before xs i l x h e before = has_name_more xs i x l h e ∙ or_left (has_name l (take i xs)) (same_name l x) before
+
+-- the only literal of a clause that isn't false, where it has no value
+pub alone_unit :
+    (slots : List Slot) (c d : PropClause) (l : NameLit)
+    → c ≡ d → IsTrue (has_name l c) × OthersFalse slots c l → place_of slots l ≡ 0 → IsUnit slots d l
+alone_unit slots c d l same alone free = subst (λ (x : PropClause). IsUnit slots x l) same (record { member = alone.0; free = free; others = alone.1 })
 
 -- all literals are false
 pub all_false :

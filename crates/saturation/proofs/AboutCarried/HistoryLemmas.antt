@@ -14,7 +14,7 @@ use Rattle.kernel_steps.specs.declared.step.Line.{Line}
 use Rattle.literal_selection.specs.Mode.{mode_of}
 use Rattle.calculus.specs.Symbols.{is_allowed}
 use Rattle.pool_core.specs.Record.{PoolRecord, given_job, nothing_registered}
-use Rattle.pool_core.specs.Lines.{line_of}
+use Rattle.kernel_steps.specs.FromTrees.{line_of}
 use Rattle.pool_core.specs.Registering.{comes, unless_ended, with_inputs}
 use Rattle.pool_core.specs.Claiming.{next_given, given_out, claimed_by}
 use Rattle.pool_core.specs.Returning.{returns_to}

@@ -3,10 +3,8 @@ use Rattle.std.proofs.Common.{◌≡◌, ℕ, ◌+◌, Bool, true, false, List, 
 use Rattle.std.specs.Prelude.{slice_get}
 use Rattle.std.specs.List.{list_all}
 use Rattle.std.proofs.lemmas.Bool.{and_parts, and_from, cond-true}
-use Rattle.std.proofs.lemmas.Option.{same_Some, option_and_then_some}
 use Rattle.fol_base.specs.Tree.{Tree, variable, application, Trees, no_trees, tree_then, trees_count}
 use Rattle.fol_base.specs.Instance.{Substitution, instance, instances}
-use Rattle.fol_base.specs.Place.{argument, subterm}
 use Rattle.fol_base.specs.Clause.{TreeLiteral, TreeClause, literal_instance}
 use Rattle.fol_base.specs.Ground.{literals_instance}
 use Rattle.fol_base.specs.Rules.{resolved, factored, disequation}
@@ -21,15 +19,8 @@ use Rattle.fol_base.proofs.WorkedExamples.TestLemmas.{list_all-item, list_all-se
 use Rattle.kernel_steps.specs.Inference.{NamedSuperposition, NamedResolution, NamedFactoring}
 use Rattle.kernel_steps.specs.Symbols.{symbols_pass, all_symbols_pass, literal_symbols_pass}
 use Rattle.kernel_steps.specs.declared.key.Key.TheVariants.{Para, Refl, Factor, Replaced}
-use Rattle.kernel_steps.proofs.AboutCalls.SymbolLemmas.{passes-argument, side-passes, superposed-passes}
+use Rattle.kernel_steps.proofs.AboutCalls.SymbolLemmas.{subterm-passes, side-passes, superposed-passes}
 use Rattle.saturation.specs.Laws.{InferencesKeepSymbols}
-
-subterm-passes :
-    (test : ℕ → ℕ → Bool) (place : List ℕ) (t u : Tree) → subterm place t ≡ Some u → symbols_pass test t ≡ true → symbols_pass test u ≡ true
-subterm-passes test [] t u there h = ap (symbols_pass test) (sym (same_Some t u there)) ∙ h
-subterm-passes test (k ∷ place) t u there h =
-    option_and_then_some (subterm place) (argument k t) u there λ a a_is u_is.
-    subterm-passes test place a u u_is (passes-argument test k t a a_is h)
 
 module _ (test : ℕ → ℕ → Bool) where
   -- ---- foreign parts taken out

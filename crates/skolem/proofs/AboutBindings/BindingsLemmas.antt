@@ -1,7 +1,8 @@
 -- The innermost binding of a name, and how the table is kept.
-use Rattle.std.proofs.Common.{◌≡◌, ℕ, zero, suc, ◌+◌, ◌-◌, ◌<◌, ◌≤◌, ◌⊎◌, inl, inr, Bool, true, false, cond, List, [], ◌∷◌, ◌++◌, length, take, get_or, None, Some, refl, ap, sym, subst, ◌∙◌, arith}
+use Rattle.std.proofs.Common.{◌≡◌, ℕ, zero, suc, ◌+◌, ◌-◌, ◌<◌, ◌≤◌, ◌⊎◌, inl, inr, Bool, true, false, ◌==◌, cond, List, [], ◌∷◌, ◌++◌, length, take, get_or, None, Some, refl, ap, sym, subst, ◌∙◌, arith}
 use Rattle.std.specs.Prelude.{if◌then◌else◌, bytes_eq, Result, Ok, Err, OnOk, OnErr, IsOk}
 use Rattle.std.specs.Option.{unwrap_or}
+use Rattle.std.specs.List.{list_any}
 use Rattle.std.specs.Map.{lookup}
 use Rattle.std.proofs.lemmas.Bool.{cases_lt}
 use Rattle.std.proofs.lemmas.List.{get_or_append_left, length-append, take_all}
@@ -13,7 +14,7 @@ use Rattle.skolem.specs.declared.bindings.Binding.{Binding}
 use Rattle.skolem.specs.declared.bindings.Entry.{Entry}
 use Rattle.skolem.specs.BoundTerm.{bound_tree}
 use Rattle.skolem.specs.Name.{same_name}
-use Rattle.skolem.specs.Bindings.{no_binding, no_entry, name_at, innermost_below, place_in, IsAlike, IsChained, bindings_of, HasVariables}
+use Rattle.skolem.specs.Bindings.{no_binding, no_entry, name_at, innermost_below, place_in, IsAlike, AreAmong, IsCovered, IsChained, bindings_of, HasVariables, Covers}
 use Rattle.skolem.specs.Progress.{environment_of}
 
 -- the last binding comes first
@@ -139,10 +140,37 @@ alike-before es fs i (suc j) h k = (
   ap variables-in (sym (get_or_append_left es fs no_entry j (omega (arith, h, k.0)))) ∙ k.1 ∙ ap variables-in (get_or_append_left es fs no_entry i h),
 )
 
+-- ---- bindings whose terms have the variables of others
+
+among-same : (vs us ws zs : List ℕ) → vs ≡ ws → us ≡ zs → AreAmong vs us → AreAmong ws zs
+among-same vs us ws zs e f h v k = ap (list_any (λ w. v == w)) (sym f) ∙ h v (ap (list_any (λ w. v == w)) e ∙ k)
+
+covered-append : (es fs : List Entry) (i a : ℕ) → i < length es → IsCovered es i a → IsCovered (es ++ fs) i a
+covered-append es fs i zero h k = tt
+covered-append es fs i (suc j) h k = (
+  k.0,
+  among-same _ _ _ _ (ap variables-in (sym (get_or_append_left es fs no_entry j (omega (arith, h, k.0)))))
+      (ap variables-in (sym (get_or_append_left es fs no_entry i h))) k.1,
+)
+
+covered-prior : (es fs : List Entry) (i a : ℕ) → i < length es → IsCovered (es ++ fs) i a → IsCovered es i a
+covered-prior es fs i zero h k = tt
+covered-prior es fs i (suc j) h k = (
+  k.0,
+  among-same _ _ _ _ (ap variables-in (get_or_append_left es fs no_entry j (omega (arith, h, k.0))))
+      (ap variables-in (get_or_append_left es fs no_entry i h)) k.1,
+)
+
 -- ---- one entry more or less
 
 pub chained-none : IsChained [] []
-chained-none = record { hidden = λ i h. absurd (omega (arith, h)); innermost = λ x. refl; alike = λ i h. absurd (omega (arith, h)) }
+chained-none =
+    record {
+      hidden = λ i h. absurd (omega (arith, h));
+      innermost = λ x. refl;
+      alike = λ i h. absurd (omega (arith, h));
+      covers = λ i h. absurd (omega (arith, h));
+    }
 
 last-entry : (es : List Entry) (e : Entry) → get_or (es ++ e ∷ []) (length es) no_entry ≡ e
 last-entry [] e = refl
@@ -154,6 +182,19 @@ alike-last es e (suc j) h = (
   omega (arith, under),
   ap variables-in (get_or_append_left es (e ∷ []) no_entry j under)
       ∙ ap (λ (b : Binding). tree_variables (bound_tree b.term)) (sym (binding-at es j)) ∙ h.1 ∙ ap variables-in (sym (last-entry es e)),
+)
+  where
+    under : j < length es
+    under = omega (arith, h.0, bindings-length es)
+
+covered-last : (es : List Entry) (e : Entry) (a : ℕ) → Covers (bindings_of es) a (variables-in e) → IsCovered (es ++ e ∷ []) (length es) a
+covered-last es e zero h = tt
+covered-last es e (suc j) h = (
+  under,
+  among-same _ _ _ _
+      (sym (ap variables-in (get_or_append_left es (e ∷ []) no_entry j under)
+      ∙ ap (λ (b : Binding). tree_variables (bound_tree b.term)) (sym (binding-at es j))))
+      (ap variables-in (sym (last-entry es e))) h.1,
 )
   where
     under : j < length es
@@ -194,10 +235,10 @@ place-after heads new key place x put = ap (λ o. unwrap_or o 0) (put (record { 
 pub chained-push :
     (es all : List Entry) (heads new : List (VariableName × ℕ)) (key : VariableName) (e : Entry) (place : ℕ)
     → IsChained es heads → key.text ≡ e.binding.name → e.hidden ≡ place_in heads e.binding.name → HasVariables (bindings_of es) e.alike (variables-in e)
-    → all ≡ es ++ e ∷ [] → place ≡ length all
+    → Covers (bindings_of es) e.covers (variables-in e) → all ≡ es ++ e ∷ [] → place ≡ length all
     → ((q : VariableName) → lookup (same_name q) new ≡ cond (same_name key q) (Some place) (lookup (same_name q) heads))
     → IsChained all new
-chained-push es all heads new key e place c k h g a p put = subst (λ ds. IsChained ds new) (sym a) (record {
+chained-push es all heads new key e place c k h g o a p put = subst (λ ds. IsChained ds new) (sym a) (record {
   hidden = λ i l. link i l (cases_lt i (length es));
   innermost = λ x.
       place-after heads new key place x put
@@ -206,6 +247,7 @@ chained-push es all heads new key e place c k h g a p put = subst (λ ds. IsChai
       ∙ ap (λ n. if bytes_eq e.binding.name x then suc (length es) else n) (c.innermost x)
       ∙ sym (innermost-last x es e);
   alike = λ i l. like i l (cases_lt i (length es));
+  covers = λ i l. covered i l (cases_lt i (length es));
 })
   where
     longer : place ≡ suc (length es)
@@ -245,6 +287,19 @@ chained-push es all heads new key e place c k h g a p put = subst (λ ds. IsChai
         last : length es ≡ i
         last = omega (arith, l, more, length-append es (e ∷ []))
 
+    covered :
+        (i : ℕ) → i < length (es ++ e ∷ []) → (i < length es) ⊎ (length es ≤ i)
+        → IsCovered (es ++ e ∷ []) i (get_or (es ++ e ∷ []) i no_entry).covers
+    covered i l (inl less) =
+        subst (λ (d : Entry). IsCovered (es ++ e ∷ []) i d.covers) (sym (get_or_append_left es (e ∷ []) no_entry i less))
+        (covered-append es (e ∷ []) i _ less (c.covers i less))
+    covered i l (inr more) =
+        subst (λ j. IsCovered (es ++ e ∷ []) j (get_or (es ++ e ∷ []) j no_entry).covers) last
+        (subst (λ (d : Entry). IsCovered (es ++ e ∷ []) (length es) d.covers) (sym (last-entry es e)) (covered-last es e e.covers o))
+      where
+        last : length es ≡ i
+        last = omega (arith, l, more, length-append es (e ∷ []))
+
 pub chained-pop :
     (es rest : List Entry) (heads new : List (VariableName × ℕ)) (key : VariableName) (e : Entry)
     → IsChained es heads → key.text ≡ e.binding.name → es ≡ rest ++ e ∷ []
@@ -264,6 +319,11 @@ chained-pop es rest heads new key e c k a put = record {
       alike-before rest (e ∷ []) i _ l
       (subst (λ ds. IsAlike ds i (get_or rest i no_entry).alike) a
       (subst (λ (d : Entry). IsAlike es i d.alike) same (c.alike i (omega (arith, l, ap length a, length-append rest (e ∷ []))))));
+  covers = λ i l.
+      let same : get_or es i no_entry ≡ get_or rest i no_entry = ap (λ ds. get_or ds i no_entry) a ∙ get_or_append_left rest (e ∷ []) no_entry i l in
+      covered-prior rest (e ∷ []) i _ l
+      (subst (λ ds. IsCovered ds i (get_or rest i no_entry).covers) a
+      (subst (λ (d : Entry). IsCovered es i d.covers) same (c.covers i (omega (arith, l, ap length a, length-append rest (e ∷ []))))));
 }
   where
     outer : e.hidden ≡ innermost_below e.binding.name rest (length rest)

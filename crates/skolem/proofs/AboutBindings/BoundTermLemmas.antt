@@ -13,7 +13,7 @@ pub arguments-added :
 arguments-added made new vs symbol t h e =
     h ∙ ap (λ ws. made ++ ws) (sym (variables-of vs)) ∙ ap (λ u. made ++ tree_variables u) (sym e)
 
-sizes-of : (vs : List ℕ) → trees_size (trees_of (map variable vs)) ≡ length vs
+pub sizes-of : (vs : List ℕ) → trees_size (trees_of (map variable vs)) ≡ length vs
 sizes-of [] = refl
 sizes-of (v ∷ vs) = omega (arith, sizes-of vs)
 

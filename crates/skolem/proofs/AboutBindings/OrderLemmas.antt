@@ -96,7 +96,7 @@ take-one vs i w h e = ap (λ k. take k vs) plus ∙ by vs i h e
     by (u ∷ us) zero g f = ap (λ x. x ∷ []) (sym f)
     by (u ∷ us) (suc j) g f = ap (λ xs. u ∷ xs) (by us j (omega (arith, g)) f)
 
-differs : (v w : ℕ) → (v ≡ w → ⊥) → (v == w) ≡ false
+pub differs : (v w : ℕ) → (v ≡ w → ⊥) → (v == w) ≡ false
 differs v w h = by (v == w) refl
   where
     by : (t : Bool) → (v == w) ≡ t → t ≡ false

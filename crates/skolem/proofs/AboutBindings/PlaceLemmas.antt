@@ -273,7 +273,7 @@ any-one q n p h = by (q p) refl
         here w g =
             ap (λ t. t && q w) (eq-eqb w p (sym (eqb-true p w g))) ∙ ap q (sym (eqb-true p w g)) ∙ e
 
-any-members :
+pub any-members :
     (q : ℕ → Bool) (n : ℕ) (ps : List ℕ) → ((p : ℕ) → n ≤ p → q p ≡ false)
     → list_any (λ w. list_any (λ p. w == p) ps && q w) (numbers_from 0 n) ≡ list_any q ps
 any-members q n [] h = any-never (numbers_from 0 n)

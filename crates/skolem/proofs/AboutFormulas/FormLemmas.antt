@@ -6,7 +6,7 @@ use Rattle.std.proofs.lemmas.Map.Views.{any-filter_same}
 use Rattle.fol_base.proofs.WorkedExamples.TestLemmas.{list_any-agree}
 use Rattle.fol_base.specs.Canonical.{numbers_from}
 use Rattle.tptp_tree.specs.Term.{TermTrees}
-use Rattle.tptp_tree.specs.Formula.{predicate, formulas_of}
+use Rattle.tptp_tree.specs.Formula.{predicate, formulas_of, with_sign}
 use Rattle.fol_base.specs.Tree.{variable, application, tree_variables}
 use Rattle.fol_base.specs.Clause.{TreeLiteral}
 use Rattle.skolem.specs.declared.bound_term.BoundTerm.{BoundTerm}
@@ -18,7 +18,7 @@ use Rattle.signature.specs.Environment.{Environment, terms_under, without_names,
 use Rattle.signature.specs.Clausal.{SymbolNumbers, Made, Scope, atom_literal, with_variables, with_skolem_terms, skolem_arguments, applied}
 use Rattle.signature.proofs.OccurrenceLemmas.{drop-item, drop-end}
 use Rattle.formula_nnf.specs.declared.form.Nnf.{Nnf}
-use Rattle.formula_nnf.specs.Shape.{nnf_tree, signed}
+use Rattle.formula_nnf.specs.Shape.{nnf_tree}
 use Rattle.skolem.specs.declared.progress.Progress.{Progress}
 use Rattle.skolem.specs.Matrix.{MatrixTree, literal, MatrixTrees, no_matrices, matrix_then, matrices_of, list_of_matrices}
 use Rattle.skolem.specs.Skolemized.{Skolemized, SkolemizedList, skolemized, skolemized_list, numbers_after, AreKnown}
@@ -236,11 +236,11 @@ matrices_left known fs i p = list_of_matrices (list_left known fs i p).matrices
 abbrev pub made_left : List Symbol → List Nnf → ℕ → Progress → Made
 made_left known fs i p = (list_left known fs i p).made
 
-abbrev one : List Symbol → Nnf → Progress → Skolemized
+abbrev pub one : List Symbol → Nnf → Progress → Skolemized
 one known f p = skolemized (numbers_after known) (nnf_tree f) (environment_of p.bindings) (made_of p)
 
 -- the rest after one more form
-rest-same :
+pub rest-same :
     (known : List Symbol) (fs : List Nnf) (i : ℕ) (f : Nnf) (p q : Progress)
     → made_of q ≡ (one known f p).made → q.bindings ≡ p.bindings
     → list_left known fs (i + 1) q
@@ -249,7 +249,7 @@ rest-same known fs i f p q g b =
     ap (λ bs. skolemized_list (numbers_after known) (formulas_of (map nnf_tree (drop (i + 1) fs))) (environment_of bs) (made_of q)) b
     ∙ ap (skolemized_list (numbers_after known) (formulas_of (map nnf_tree (drop (i + 1) fs))) (environment_of p.bindings)) g
 
-left-then :
+pub left-then :
     (known : List Symbol) (fs : List Nnf) (i : ℕ) (f : Nnf) (p : Progress)
     → i < length fs → f ≡ get_or fs i f
     → list_left known fs i p
@@ -311,6 +311,6 @@ forms-known known fs i f h e a =
 pub atom-matrix :
     (known : List Symbol) (positive : Bool) (p : List ℕ) (ts : TermTrees) (env : Environment) (m : Made) (l : TreeLiteral)
     → l ≡ atom_literal positive (application (number_of known (predicate_symbol p (terms_count ts))) (terms_under known env ts))
-    → literal l ≡ (skolemized (numbers_after known) (signed positive (predicate p ts)) env m).matrix
+    → literal l ≡ (skolemized (numbers_after known) (with_sign positive (predicate p ts)) env m).matrix
 atom-matrix known true p ts env m l h = ap literal h
 atom-matrix known false p ts env m l h = ap literal h

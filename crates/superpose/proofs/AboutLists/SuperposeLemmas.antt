@@ -34,7 +34,7 @@ use Rattle.kernel_steps.specs.Named.{IsInference}
 use Rattle.kernel_steps.specs.Parents.{Parent}
 use Rattle.kernel_steps.specs.Symbols.{symbols_pass, literal_symbols_pass}
 use Rattle.kernel_steps.specs.declared.step.Step.TheVariants as step
-use Rattle.kernel_steps.proofs.AboutCalls.SymbolLemmas.{side-passes}
+use Rattle.kernel_steps.proofs.AboutCalls.SymbolLemmas.{side-passes, subterm-passes}
 use Rattle.unifier.specs.Renaming.{AreNamedTerms}
 use Rattle.unifier.specs.SolvedForm.{SolvedForm, substitution_of}
 use Rattle.unifier.proofs.AboutClasses.SharedLemmas.{shared_put_function_terms}
@@ -55,7 +55,7 @@ use Rattle.eq_rules.specs.declared.concluding.LiteralSide.{LiteralSide}
 use Rattle.superpose.specs.declared.sites.LiteralPlace.{LiteralPlace}
 use Rattle.superpose.proofs.AboutSites.AllowLemmas.{Allowed, allows-parts, allows-from, allowed_lifts, atoms_coincide, coincide_says, named-allowed}
 use Rattle.superpose.proofs.AboutSteps.ApartLemmas.{wide_by, left_fresh, right_fresh, wide_by-literals, wide_by-back, wide_apart}
-use Rattle.superpose.proofs.AboutSteps.BoundLemmas.{binds_two, subterm-passes, left_terms_small, right_terms_small, left_terms_pass, right_terms_pass}
+use Rattle.superpose.proofs.AboutSteps.BoundLemmas.{binds_two, left_terms_small, right_terms_small, left_terms_pass, right_terms_pass}
 use Rattle.superpose.proofs.AboutSites.KindLemmas.{kinds-alike}
 use Rattle.superpose.proofs.AboutSteps.StepLemmas.{appended_variables}
 use Rattle.superpose.proofs.AboutSteps.TermsLemmas.{left-many, right-many, left-below, right-below, s-below, old-below, general, left-size, right-size, plain, superposition_gives}

@@ -2,12 +2,9 @@
 -- symbols alone.
 use Rattle.std.proofs.Common.{◌≡◌, ℕ, ◌<◌, ◌≤◌, Bool, true, ◌&&◌, List, [], ◌∷◌, length, Some, refl, ap, sym, ◌∙◌, ⊎_elim, arith}
 use Rattle.std.proofs.lemmas.Bool.{and_from}
-use Rattle.std.proofs.lemmas.Option.{same_Some, option_and_then_some}
 use Rattle.fol_base.specs.Tree.{Tree, tree_size}
 use Rattle.fol_base.specs.Instance.{Substitution, instance, substitution}
-use Rattle.fol_base.specs.Place.{argument, subterm}
 use Rattle.kernel_steps.specs.Symbols.{symbols_pass}
-use Rattle.kernel_steps.proofs.AboutCalls.SymbolLemmas.{passes-argument}
 use Rattle.unifier.proofs.AboutAdditions.SymbolLemmas.{cleaned, adds-no_symbol}
 use Rattle.eq_rules.proofs.AboutConclusions.BindingLemmas.{SymbolTest, changed, changed_there, smaller_or_same, variable_size, added-passes}
 use Rattle.superpose.proofs.AboutSteps.ApartLemmas.{IsGeneralApart}
@@ -15,13 +12,6 @@ use Rattle.superpose.proofs.AboutSteps.ApartLemmas.{IsGeneralApart}
 -- of the two lists that a step binds
 pub binds_two : (first second : Bool) → first ≡ true → second ≡ true → (first && (second && true)) ≡ true
 binds_two first second h k = and_from first (second && true) h (and_from second true k refl)
-
-pub subterm-passes :
-    (test : SymbolTest) (place : List ℕ) (t u : Tree) → subterm place t ≡ Some u → symbols_pass test t ≡ true → symbols_pass test u ≡ true
-subterm-passes test [] t u there h = ap (symbols_pass test) (sym (same_Some t u there)) ∙ h
-subterm-passes test (k ∷ place) t u there h =
-    option_and_then_some (subterm place) (argument k t) u there λ a a_is a_there.
-    subterm-passes test place a u a_there (passes-argument test k t a a_is h)
 
 module _ (s t : Tree) (left right : List Tree) (general : IsGeneralApart s t left right) where
   abbrev σ : Substitution

@@ -13,7 +13,7 @@ use Rattle.tptp_token.specs.Words.{name_of}
 use Rattle.tptp_tree.specs.Entries.{NamePhrase, names_meant, is_conjecture}
 use Rattle.tptp_reader.specs.Annotating.{IsReading, IsFaultAt}
 use Rattle.tptp_tree.specs.declared.problem.Annotated.{Annotated}
-use Rattle.tptp_reader.specs.Shape.{tree_of}
+use Rattle.tptp_tree.specs.Shape.{entry_of}
 use Rattle.tptp_reader.specs.declared.entry.Read.{Read}
 use Rattle.tptp_reader.specs.Faults.{IsEndFault}
 use Rattle.tptp_reader.specs.declared.cause.ReadCause.{ReadCause}
@@ -189,7 +189,7 @@ formula-fault s first progress cause place h e k c f p l =
 -- ---- a formula that is read
 
 pub formula-added :
-    (old new : List Annotated) (a x : Annotated) (name : List ℕ) → new ≡ old ++ x ∷ [] → tree_of x ≡ tree_of a → x.file ≡ name → x.place ≡ a.place
+    (old new : List Annotated) (a x : Annotated) (name : List ℕ) → new ≡ old ++ x ∷ [] → entry_of x ≡ entry_of a → x.file ≡ name → x.place ≡ a.place
     → map placed new ≡ map placed old ++ placed_in name a ∷ []
 formula-added old new a x name e t f p =
     let made : placed x ≡ placed_in name a = cc in

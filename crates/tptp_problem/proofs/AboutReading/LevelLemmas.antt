@@ -3,7 +3,7 @@ use Rattle.std.proofs.Common.{◌≡◌, ◌≤◌, ℕ, zero, suc, List, [], �
 use Rattle.std.proofs.Math.Nat.{le-max_left}
 use Rattle.std.specs.List.{AllByRecursion}
 use Rattle.outside.specs.Library.{Holdings}
-use Rattle.tptp_tree.specs.declared.limits.TheConstants.{MOST_NESTING}
+use Rattle.tptp_tree.specs.declared.limits.TheConstants.{MOST_NESTING, MOST_PRINTED_NESTING}
 use Rattle.tptp_tree.specs.Formula.{FormulaTree, truth, falsity, predicate, equation, negation, conjunction, disjunction, connected, quantified}
 use Rattle.tptp_tree.specs.Spelling.{Atom, true_atom, false_atom, predicate_atom, equation_atom, atom_meant, UnitPhrase, negated, bound, in_brackets, atomic, unit_meant, Phrase, alone, all_of, some_of, joined_by, meant}
 use Rattle.tptp_tree.specs.Entries.{atom_of, LiteralPhrase, positive_literal, negated_literal, negated_in_brackets, literal_meant, ClausePhrase, literals, clause_in_brackets, clause_meant, Body, formula_body, clause_body, body_meant}
@@ -11,19 +11,19 @@ use Rattle.tptp_tree.specs.Levels.{unit_levels, phrase_levels, literal_levels, c
 use Rattle.tptp_tree.proofs.AboutLevels.LimitLemmas.{faultless-within}
 use Rattle.tptp_tree.proofs.AboutLevels.PrintedLevels.{written-doubles}
 use Rattle.tptp_reader.specs.Annotating.{IsReading}
-use Rattle.tptp_reader.specs.Shape.{tree_of}
+use Rattle.tptp_tree.specs.Shape.{entry_of}
 use Rattle.tptp_reader.specs.declared.entry.Read.{Read}
 use Rattle.tptp_reader.proofs.AboutTexts.PrintedLemmas.{reading-again}
 use Rattle.tptp_problem.specs.Formulas.{Placed}
-use Rattle.tptp_problem.specs.Levels.{HasFewLevels, negated_times, TooManyLevels}
+use Rattle.tptp_problem.specs.Levels.{HasFewLevels, negated_times, TooManyLevels, TooManyPrinted, PrintedWithin}
 use Rattle.tptp_problem.specs.Problem.{LoadedFile, tokens_of, IsProblem}
 use Rattle.tptp_problem.proofs.AboutReading.ConjectureLemmas.{all-hold}
 
 reading-levels :
     (file : LoadedFile) (first : ℕ) (read : Read) → IsReading MOST_NESTING file.bytes (tokens_of file) first read
-    → HasFewLevels (tree_of read.annotated).formula
+    → HasFewLevels (entry_of read.annotated).formula
 reading-levels file first read h =
-    let written : IsWrittenWithin MOST_NESTING (tree_of read.annotated).formula =
+    let written : IsWrittenWithin MOST_NESTING (entry_of read.annotated).formula =
     (h.phrase.body, sym h.meant.formula, faultless-within MOST_NESTING h.phrase h.spelled.faultless) in
     record { written = written; printed = written-doubles MOST_NESTING _ written (reading-again MOST_NESTING file.bytes first read h).formula }
 
@@ -89,3 +89,10 @@ written-negations levels n h = omega (arith, negations-times n, ap negations h.1
 pub too-many-levels : TooManyLevels
 too-many-levels h =
     let over : suc MOST_NESTING ≤ MOST_NESTING = written-negations MOST_NESTING (suc MOST_NESTING) h.written in omega (arith, over)
+
+pub printed-within : PrintedWithin
+printed-within f h = h.printed
+
+pub too-many-printed : TooManyPrinted
+too-many-printed text h =
+    let over : 1001 ≤ MOST_PRINTED_NESTING = omega (arith, negations-times 1001, ap negations h.2, phrase-negations h.0, h.3) in omega (arith, over)

@@ -9,7 +9,7 @@ use Rattle.tptp_token.specs.Lexemes.{lexeme_at}
 use Rattle.tptp_token.specs.Words.{Word, name_of}
 use Rattle.tptp_tree.specs.Entries.{EntryPhrase, annotated_entry, is_right_entry, entry_lexemes, problem_lexemes, EntryTree, annotated_tree, include_tree, NamePhrase, names_meant, IsEntryOf, AreEntriesOf, SpellsEntries}
 use Rattle.tptp_tree.proofs.AboutPrinting.AgainLemmas.{one_entries}
-use Rattle.tptp_reader.specs.Shape.{tree_of}
+use Rattle.tptp_tree.specs.Shape.{entry_of}
 use Rattle.tptp_problem.specs.declared.limits.TheConstants.{MOST_INCLUDES}
 use Rattle.tptp_problem.specs.Files.{base_of, loaded_name}
 use Rattle.tptp_problem.specs.Formulas.{Placed, selects, selected}
@@ -58,8 +58,8 @@ formula-spelled base gives file first progress s h = record {
   phrase = annotated_entry h.reading.phrase;
   right = h.reading.spelled.right;
   spelled = h.reading.spelled.spelled ∙ ap (λ n. entry_lexemes (annotated_entry h.reading.phrase) (drop n (lexemes file))) (sym h.next_is);
-  entry = annotated_tree (tree_of h.read.annotated);
-  says = (tree_of h.read.annotated, h.reading.meant, refl);
+  entry = annotated_tree (entry_of h.read.annotated);
+  says = (entry_of h.read.annotated, h.reading.meant, refl);
   given = ap (map from_file) h.formulas_are;
 }
 

@@ -2,13 +2,12 @@
 use Rattle.std.proofs.Common.{subst, ◌≡◌, true, ℕ, ◌+◌, Bool, ◌&&◌, List, [], ◌∷◌, ◌++◌, drop, codes, Some, sym, ap, ap₂, ◌∙◌}
 use Rattle.tptp_token.specs.declared.token.Kind.TheVariants.{Lower, Mark}
 use Rattle.tptp_tree.specs.Formula.{FormulaTree}
-use Rattle.tptp_tree.specs.Shape.{formula_of}
+use Rattle.tptp_tree.specs.Shape.{formula_of, entry_of}
 use Rattle.tptp_token.specs.Lexemes.{lexeme, lexemes_of}
 use Rattle.tptp_tree.specs.Entries.{name_lexeme, is_clause_body, body_lexemes, language_word, role_of, AnnotatedPhrase, is_right_annotated, annotated_lexemes, IsAnnotatedOf}
 use Rattle.tptp_tree.specs.declared.role.Role.{Role}
 use Rattle.tptp_reader.specs.Machine.{Symbol, mark, an_annotated, a_name, a_role, end_of_body, read_up_to}
 use Rattle.tptp_reader.specs.Placed.{verdict_at}
-use Rattle.tptp_reader.specs.Shape.{tree_of}
 use Rattle.tptp_reader.specs.Telling.{lexemes, IsNext, Leads, Ends, IsEnd, told}
 use Rattle.tptp_reader.specs.TellingEntries.{body_symbols, ReadsLanguage, ReadsName, ReadsRole, ReadsBody, ReadsEnding, ReadsEntry, IsFaultOfHalt}
 use Rattle.tptp_reader.specs.declared.source.Reader.{Reader}
@@ -176,7 +175,7 @@ pub record IsAnnotatedRead (limit : ℕ) (bytes : List ℕ) (tokens : List Token
   pub phrase : AnnotatedPhrase
   pub right : is_right_annotated phrase ≡ true
   pub spelled : drop first (lexemes_of bytes tokens) ≡ annotated_lexemes phrase (drop read.next (lexemes_of bytes tokens))
-  pub meant : IsAnnotatedOf phrase (tree_of read.annotated)
+  pub meant : IsAnnotatedOf phrase (entry_of read.annotated)
   pub taken_so : verdict_at limit (lexemes_of bytes tokens) first ≡ read_up_to read.next
   pub range : drop read.notes_start (lexemes_of bytes tokens) ≡ phrase.notes ++ drop read.notes_end (lexemes_of bytes tokens)
 

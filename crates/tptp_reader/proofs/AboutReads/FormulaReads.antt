@@ -20,16 +20,16 @@ use Rattle.tptp_reader.proofs.AboutRuns.LoopLemmas.{SoFar, sofar-first, sofar-mo
 -- ---- units
 
 pub negation-read :
-    (r : Reader) (names : List Name) (level deep at next : ℕ) (t : Lexeme) (f boxed : FormulaTree)
+    (r : Reader) (names : List Name) (level deep at next : ℕ) (t : Lexeme) (inner f : FormulaTree)
     → IsNext r at t → is_connective (codes "~") t ≡ true → deep ≡ level + 1 → level < r.limit
-    → ReadsUnit r names deep (at + 1) next f → boxed ≡ f → ReadsUnit r names level at next (negation boxed)
-negation-read r names level deep at next t f boxed n h e low u g =
+    → ReadsUnit r names deep (at + 1) next inner → f ≡ negation inner → ReadsUnit r names level at next f
+negation-read r names level deep at next t inner f n h e low u g =
     let is = lexeme-is Connective (codes "~") t h in
     record {
       phrase = negated u.phrase;
       spelled =
           n.here ∙ ap (λ v. v ∷ drop (at + 1) (lexemes r)) is ∙ ap (λ us. lexeme Connective (codes "~") ∷ us) u.spelled;
-      meant = ap negation (u.meant ∙ sym g);
+      meant = ap negation u.meant ∙ sym g;
       leads = record {
         by = λ s k.
             leads-then r (a_unit s ∷ []) (a_unit (deeper s) ∷ []) [] at (at + 1) next
@@ -376,16 +376,17 @@ operands-spelled r names level at after next sign first values t u n e k =
     (k.spelled ∙ ap (unit_lexemes k.phrase.first) (further-spelled (lexeme Connective sign) k.phrase.others (drop next (lexemes r)))))
 
 pub conjunction-read :
-    (r : Reader) (names : List Name) (level at after next : ℕ) (first : FormulaTree) (values : List FormulaTree) (t : Lexeme)
+    (r : Reader) (names : List Name) (level at after next : ℕ) (first f : FormulaTree) (values : List FormulaTree) (t : Lexeme)
     → ReadsUnit r names level at after first → IsNext r after t → is_connective (codes "&") t ≡ true
     → ReadsUnits (codes "&") first r names level (after + 1) next values
-    → ReadsFormula r names level at next (conjunction (formulas_of values))
-conjunction-read r names level at after next first values t u n h k =
+    → f ≡ conjunction (formulas_of values)
+    → ReadsFormula r names level at next f
+conjunction-read r names level at after next first f values t u n h k e =
     let is = lexeme-is Connective (codes "&") t h in
     record {
       phrase = all_of u.phrase k.phrase.first (units_of k.phrase.others);
       spelled = operands-spelled r names level at after next (codes "&") first values t u n is k;
-      meant = ap conjunction (operands-are first u.phrase k.phrase.first k.phrase.others values u.meant k.meant);
+      meant = ap conjunction (operands-are first u.phrase k.phrase.first k.phrase.others values u.meant k.meant) ∙ sym e;
       leads = joined-leads r names level at after next (further_units (codes "&")) first u (λ s. and-leads r after s t n is) k.leads;
     }
 
@@ -399,16 +400,17 @@ conjunction-halted r names level at after first t halt u n h k =
     (λ s. and-leads r after s t n (lexeme-is Connective (codes "&") t h)) k
 
 pub disjunction-read :
-    (r : Reader) (names : List Name) (level at after next : ℕ) (first : FormulaTree) (values : List FormulaTree) (t : Lexeme)
+    (r : Reader) (names : List Name) (level at after next : ℕ) (first f : FormulaTree) (values : List FormulaTree) (t : Lexeme)
     → ReadsUnit r names level at after first → IsNext r after t → is_connective (codes "|") t ≡ true
     → ReadsUnits (codes "|") first r names level (after + 1) next values
-    → ReadsFormula r names level at next (disjunction (formulas_of values))
-disjunction-read r names level at after next first values t u n h k =
+    → f ≡ disjunction (formulas_of values)
+    → ReadsFormula r names level at next f
+disjunction-read r names level at after next first f values t u n h k e =
     let is = lexeme-is Connective (codes "|") t h in
     record {
       phrase = some_of u.phrase k.phrase.first (units_of k.phrase.others);
       spelled = operands-spelled r names level at after next (codes "|") first values t u n is k;
-      meant = ap disjunction (operands-are first u.phrase k.phrase.first k.phrase.others values u.meant k.meant);
+      meant = ap disjunction (operands-are first u.phrase k.phrase.first k.phrase.others values u.meant k.meant) ∙ sym e;
       leads = joined-leads r names level at after next (further_units (codes "|")) first u (λ s. or-leads r after s t n is) k.leads;
     }
 

@@ -13,7 +13,8 @@ use Rattle.tptp_tree.specs.Causes.{Refusal, syntax, free_variable, role_not_take
 use Rattle.tptp_tree.proofs.UniqueEntries.{annotated-same, tree-same}
 use Rattle.tptp_reader.specs.Machine.{Verdict, read_up_to, refused_at, ran_out}
 use Rattle.tptp_reader.specs.Placed.{verdict_at}
-use Rattle.tptp_reader.specs.Shape.{form_of, tree_of}
+use Rattle.tptp_reader.specs.Shape.{form_of}
+use Rattle.tptp_tree.specs.Shape.{entry_of}
 use Rattle.tptp_reader.specs.Annotating.{IsReading, StandsAt, TokensRunOut, IsFaultAt, IsSameReading}
 use Rattle.tptp_reader.specs.Faults.{IsEndFault}
 use Rattle.tptp_reader.specs.declared.cause.Form.{Form as ToldForm}
@@ -181,7 +182,7 @@ one_reading limit bytes tokens first read other h k =
     let small : read.notes_end + 2 ≤ length (lexemes_of bytes tokens) =
     within-lexemes bytes tokens (read.notes_end + 2) (subst (λ n. n ≤ length tokens) (sym h.close) h.within) in
     record {
-      tree = tree-same k.phrase (tree_of read.annotated) (tree_of other.annotated) (subst (λ p. IsAnnotatedOf p (tree_of read.annotated)) same.0 h.meant) k.meant;
+      tree = tree-same k.phrase (entry_of read.annotated) (entry_of other.annotated) (subst (λ p. IsAnnotatedOf p (entry_of read.annotated)) same.0 h.meant) k.meant;
       place = one-place tokens first read.annotated.place other.annotated.place (reading-begins limit bytes tokens first read h) h.place k.place;
       file = h.file ∙ sym k.file;
       start = one-start (lexemes_of bytes tokens) h.phrase.notes read.notes_start other.notes_start read.notes_end small h.notes notes;

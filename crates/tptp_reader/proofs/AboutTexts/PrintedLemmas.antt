@@ -14,7 +14,7 @@ use Rattle.tptp_tree.proofs.CanonicalLemmas.{WellFormula, term_phrase, term_phra
 use Rattle.tptp_tree.proofs.LexingLemmas.{formula-lexes}
 use Rattle.tptp_tree.proofs.WellLemmas.{AreSpelled, lexemes-spelled, text-spelled, phrase-well}
 use Rattle.tptp_reader.specs.Annotating.{IsReading}
-use Rattle.tptp_reader.specs.Shape.{tree_of}
+use Rattle.tptp_tree.specs.Shape.{entry_of}
 use Rattle.tptp_reader.specs.Printed.{SpellsClause, IsPrintedAgain}
 use Rattle.tptp_reader.specs.declared.entry.Read.{Read}
 
@@ -164,8 +164,8 @@ spelled-behind (suc n) (l ∷ ls) h = spelled-behind n ls h.1
 pub reading-again :
     (limit : ℕ) (bytes : List ℕ) (first : ℕ) (read : Read)
     → IsReading limit bytes (lexed_of bytes).tokens first read
-    → IsPrintedAgain (tree_of read.annotated).is_clause (tree_of read.annotated).formula
+    → IsPrintedAgain (entry_of read.annotated).is_clause (entry_of read.annotated).formula
 reading-again limit bytes first read h =
-    phrase-again h.phrase _ (tree_of read.annotated)
+    phrase-again h.phrase _ (entry_of read.annotated)
     (subst AreSpelled h.spelled.spelled
     (spelled-behind first (lexemes_of bytes (lexed_of bytes).tokens) (lexemes-spelled bytes (lexed_of bytes).tokens (tokens-spelled bytes)))) h.meant

@@ -17,7 +17,7 @@ use Rattle.tptp_tree.proofs.WellLemmas.{IsSpelled, AreSpelled, lexemes-spelled, 
 use Rattle.tptp_reader.specs.Answers.{AreFaultless}
 use Rattle.tptp_reader.specs.Annotating.{IsReading}
 use Rattle.tptp_reader.specs.Placed.{IsReadFrom}
-use Rattle.tptp_reader.specs.Shape.{tree_of}
+use Rattle.tptp_tree.specs.Shape.{entry_of}
 use Rattle.tptp_reader.specs.declared.entry.Read.{Read}
 use Rattle.tptp_reader.proofs.AboutTexts.PrintedLemmas.{spelled-behind}
 
@@ -65,9 +65,9 @@ spelled-name text a s = phrase-name s.0 [] a s.1 (text-spelled text (annotated_l
 pub read-name :
     (limit : ℕ) (bytes : List ℕ) (first : ℕ) (read : Read)
     → IsReading limit bytes (lexed_of bytes).tokens first read
-    → SpellsName (name_text (tree_of read.annotated).name) (tree_of read.annotated).name
+    → SpellsName (name_text (entry_of read.annotated).name) (entry_of read.annotated).name
 read-name limit bytes first read h =
-    phrase-name h.phrase _ (tree_of read.annotated) h.spelled.right
+    phrase-name h.phrase _ (entry_of read.annotated) h.spelled.right
     (subst AreSpelled h.spelled.spelled
     (spelled-behind first (lexemes_of bytes (lexed_of bytes).tokens) (lexemes-spelled bytes (lexed_of bytes).tokens (tokens-spelled bytes)))) h.meant
 
@@ -81,7 +81,7 @@ pub read-is-spelled :
     (limit : ℕ) (bytes : List ℕ) (read : Read)
     → IsReading limit bytes (lexed_of bytes).tokens 0 read
     → read.next ≡ length (lexed_of bytes).tokens → (lexed_of bytes).fault ≡ None
-    → SpellsAnnotated bytes (tree_of read.annotated)
+    → SpellsAnnotated bytes (entry_of read.annotated)
 read-is-spelled limit bytes read h end whole =
     let lexemes : List Lexeme = lexemes_of bytes (lexed_of bytes).tokens in
     let behind : drop read.next lexemes ≡ [] = ap (λ n. drop n lexemes) end ∙ nothing-behind bytes (lexed_of bytes).tokens in

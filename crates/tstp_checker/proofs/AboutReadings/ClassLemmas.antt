@@ -5,7 +5,8 @@ use Rattle.std.proofs.lemmas.Bool.{eqb-true, eq-eqb, true≢false, false_from_ne
 use Rattle.std.proofs.lemmas.Option.{slice_get-map, none-some}
 use Rattle.signature.proofs.OccurrenceLemmas.{drop-item, drop-end}
 use Rattle.tptp_tree.specs.declared.problem.Annotated.{Annotated}
-use Rattle.clausal_form.specs.DerivationLine.{same_entry, entry_of}
+use Rattle.clausal_form.specs.DerivationLine.{same_entry}
+use Rattle.tptp_tree.specs.Shape.{entry_of}
 use Rattle.tstp_checker.specs.Classes.{class_of, same_at, same_place, AreClasses}
 use Rattle.tstp_checker.specs.declared.classes.Classes.{Classes}
 use Rattle.tstp_checker.specs.Inputs.{first_from}

@@ -16,7 +16,8 @@ use Rattle.kernel_steps.specs.declared.step.Line.{Line}
 use Rattle.clausal_form.specs.DerivationClause.{is_written_clause, name_number}
 use Rattle.clausal_form.specs.DerivationItems.{only_one, row_arguments}
 use Rattle.clausal_form.specs.DerivationSteps.{of_number}
-use Rattle.clausal_form.specs.DerivationLine.{LineTree, Taken, kernel_line, kernel_lines}
+use Rattle.clausal_form.specs.DerivationLine.{LineTree, Taken, kernel_lines}
+use Rattle.kernel_steps.specs.FromTrees.{line_of}
 use Rattle.clausal_form.specs.DerivationParts.{Setting, line_kind, line_names, line_clause}
 use Rattle.clausal_form.specs.DerivationCauses.{text, clausification, rule, conclusion, new_symbol, Given, fault, gives_clause, is_clausified, given_by_clausify, opposite_from, given_by_opposite, given_by, is_formula_kind, has_new_symbol, is_old_name, LineVerdict, refused, taken, compared, line_verdict}
 use Rattle.clausal_form.proofs.AboutNaming.GivenLemmas.{clause_eq-says}
@@ -69,28 +70,28 @@ clause-asked s e t h =
 
 -- ---- a clause against the line's
 
-abbrev pub line_of : Step → TreeClause → Bool → LineVerdict
-line_of st c is_new = if is_new then refused new_symbol else taken (kernel_line st c)
+abbrev pub line_unless : Step → TreeClause → Bool → LineVerdict
+line_unless st c is_new = if is_new then refused new_symbol else taken (line_of st c)
 
 pub clause-compared :
     (s : Setting) (e : Taken) (t : LineTree) (items : List GeneralTree) (parents : List ℕ) (parts : LineParts) (st : Step) (c : TreeClause)
     → IsClauseLine s e t items parents parts
     → compared s e t (gives_clause st c)
-    ≡ (if not (clause_eq c (clause_of parts.clause)) then refused conclusion else line_of st c parts.has_new_symbol)
+    ≡ (if not (clause_eq c (clause_of parts.clause)) then refused conclusion else line_unless st c parts.has_new_symbol)
 clause-compared s e t items parents parts st c l =
-    ap (λ d. if not (clause_eq c d) then refused conclusion else line_of st c (has_new_symbol s e t || is_old_name s e (line_kind t))) (sym l.its_parts.clause)
-    ∙ ap (λ b. if not (clause_eq c (clause_of parts.clause)) then refused conclusion else line_of st c b)
+    ap (λ d. if not (clause_eq c d) then refused conclusion else line_unless st c (has_new_symbol s e t || is_old_name s e (line_kind t))) (sym l.its_parts.clause)
+    ∙ ap (λ b. if not (clause_eq c (clause_of parts.clause)) then refused conclusion else line_unless st c b)
     (ap₂ ◌||◌ (sym l.its_parts.new_symbol) l.no_old_name ∙ or-false parts.has_new_symbol)
 
 -- the same clause
 pub clause-equal :
     (s : Setting) (e : Taken) (t : LineTree) (items : List GeneralTree) (parents : List ℕ) (parts : LineParts) (st : Step) (c : TreeClause)
     → IsClauseLine s e t items parents parts → true ≡ clause_eq c (clause_of parts.clause)
-    → compared s e t (gives_clause st c) ≡ line_of st (clause_of parts.clause) parts.has_new_symbol
+    → compared s e t (gives_clause st c) ≡ line_unless st (clause_of parts.clause) parts.has_new_symbol
 clause-equal s e t items parents parts st c l h =
     clause-compared s e t items parents parts st c l
-    ∙ ap (λ b. if not b then refused conclusion else line_of st c parts.has_new_symbol) (sym h)
-    ∙ ap (λ d. line_of st d parts.has_new_symbol) (clause_eq-says c (clause_of parts.clause) (sym h))
+    ∙ ap (λ b. if not b then refused conclusion else line_unless st c parts.has_new_symbol) (sym h)
+    ∙ ap (λ d. line_unless st d parts.has_new_symbol) (clause_eq-says c (clause_of parts.clause) (sym h))
 
 -- another clause
 pub clause-other :
@@ -98,7 +99,7 @@ pub clause-other :
     → IsClauseLine s e t items parents parts → false ≡ clause_eq c (clause_of parts.clause) → compared s e t (gives_clause st c) ≡ refused conclusion
 clause-other s e t items parents parts st c l h =
     clause-compared s e t items parents parts st c l
-    ∙ ap (λ b. if not b then refused conclusion else line_of st c parts.has_new_symbol) (sym h)
+    ∙ ap (λ b. if not b then refused conclusion else line_unless st c parts.has_new_symbol) (sym h)
 
 -- ---- clauses of the form
 
@@ -132,7 +133,7 @@ pub clausify-so :
     → IsClauseLine s e t items parents parts → Some i ≡ number_of_items items
     → b ≡ (comes_from s e parents i && is_form_clause s (clause_of parts.clause) i)
     → compared s e t (given_by_clausify s e t)
-    ≡ (if b then line_of (step.Clausify i) (clause_of parts.clause) parts.has_new_symbol else refused clausification)
+    ≡ (if b then line_unless (step.Clausify i) (clause_of parts.clause) parts.has_new_symbol else refused clausification)
 clausify-so s e t items parents parts i b l h test =
     ap (compared s e t)
     (clausify-given s e t items parents parts l
@@ -143,7 +144,7 @@ clausify-so s e t items parents parts i b l h test =
     by :
         (a : Bool)
         → compared s e t (unwrap_or (if a then Some (gives_clause (step.Clausify i) (clause_of parts.clause)) else None) (fault clausification))
-        ≡ (if a then line_of (step.Clausify i) (clause_of parts.clause) parts.has_new_symbol else refused clausification)
+        ≡ (if a then line_unless (step.Clausify i) (clause_of parts.clause) parts.has_new_symbol else refused clausification)
     by true = clause-equal s e t items parents parts (step.Clausify i) (clause_of parts.clause) l (sym (clause_eq-refl (clause_of parts.clause)))
     by false = refl
 
@@ -196,6 +197,6 @@ verdict-as v w result e h = subst (λ u. IsVerdict u result) (sym e) h
 -- a conclusion that is the line's clause
 pub same-so :
     (st : Step) (c d : TreeClause) (is_new : Bool)
-    → true ≡ clause_eq c d → (if not (clause_eq c d) then refused conclusion else line_of st c is_new) ≡ line_of st d is_new
+    → true ≡ clause_eq c d → (if not (clause_eq c d) then refused conclusion else line_unless st c is_new) ≡ line_unless st d is_new
 same-so st c d is_new h =
-    ap (λ b. if not b then refused conclusion else line_of st c is_new) (sym h) ∙ ap (λ e. line_of st e is_new) (clause_eq-says c d (sym h))
+    ap (λ b. if not b then refused conclusion else line_unless st c is_new) (sym h) ∙ ap (λ e. line_unless st e is_new) (clause_eq-says c d (sym h))

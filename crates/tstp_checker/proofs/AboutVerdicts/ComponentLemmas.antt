@@ -16,7 +16,7 @@ use Rattle.clausal_form.specs.DerivationLine.{LineTree, NamedLine, Taken, names_
 use Rattle.clausal_form.specs.DerivationParts.{Setting}
 use Rattle.clausal_form.specs.DerivationCauses.{text, order, rule, conclusion, fault, gives_clause, is_old_name, LineVerdict, refused, compared, line_verdict}
 use Rattle.tstp_checker.specs.Verdicts.{IsComponentLine}
-use Rattle.tstp_checker.proofs.AboutVerdicts.ClauseLineLemmas.{clause_eq-refl, line_of}
+use Rattle.tstp_checker.proofs.AboutVerdicts.ClauseLineLemmas.{clause_eq-refl, line_unless}
 
 abbrev line_with : AnnotatedTree → SourceTree → LineTree
 line_with a source = record { entry = a; source = source }
@@ -37,7 +37,7 @@ asked_first written there v = if not written then refused text else if there the
 
 -- what is asked of its clause
 abbrev pub component_of : ℕ → TreeClause → Bool → Bool → LineVerdict
-component_of n c is_right is_new = if is_right then line_of (Component n) c is_new else refused rule
+component_of n c is_right is_new = if is_right then line_unless (Component n) c is_new else refused rule
 
 abbrev pub verdict_with : Setting → AnnotatedTree → List (List ℕ) → List NamedLine → ℕ → Bool → LineVerdict
 verdict_with s a names lines n is_old =
@@ -46,9 +46,9 @@ verdict_with s a names lines n is_old =
 
 self-same :
     (st : Step) (c : TreeClause) (is_right is_new : Bool)
-    → (if is_right then (if not (clause_eq c c) then refused conclusion else line_of st c is_new) else refused rule)
-    ≡ (if is_right then line_of st c is_new else refused rule)
-self-same st c true is_new = ap (λ b. if not b then refused conclusion else line_of st c is_new) (clause_eq-refl c)
+    → (if is_right then (if not (clause_eq c c) then refused conclusion else line_unless st c is_new) else refused rule)
+    ≡ (if is_right then line_unless st c is_new else refused rule)
+self-same st c true is_new = ap (λ b. if not b then refused conclusion else line_unless st c is_new) (clause_eq-refl c)
 self-same st c false is_new = refl
 
 given-compared :

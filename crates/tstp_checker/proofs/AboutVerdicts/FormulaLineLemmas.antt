@@ -10,7 +10,8 @@ use Rattle.kernel_steps.specs.Parents.{all_there}
 use Rattle.kernel_steps.specs.Conclusion.{empty_clause}
 use Rattle.kernel_steps.specs.declared.step.Step.TheVariants as step
 use Rattle.clausal_form.specs.DerivationItems.{plain_word}
-use Rattle.clausal_form.specs.DerivationLine.{LineTree, NamedLine, Taken, kernel_line}
+use Rattle.clausal_form.specs.DerivationLine.{LineTree, NamedLine, Taken}
+use Rattle.kernel_steps.specs.FromTrees.{line_of}
 use Rattle.clausal_form.specs.DerivationParts.{Setting, line_kind, parent_places, parents_of}
 use Rattle.clausal_form.specs.DerivationCauses.{text, order, unknown_parent, leaf, conclusion, Given, fault, gives_formula, cited, place_of_entry, given_by_file, given_by, is_formula_kind, is_written, LineVerdict, refused, taken, compared, line_verdict}
 use Rattle.tstp_checker.specs.FormulaLines.{cited_at}
@@ -43,10 +44,10 @@ file-given s t (opposite_source name) = refl
 
 pub input-taken :
     (s : Setting) (e : Taken) (t : LineTree) (source : SourceTree) (p : ℕ)
-    → Some p ≡ cited_at s t source → compared s e t (given_by_file s t source) ≡ taken (kernel_line (step.Input p) empty_clause)
+    → Some p ≡ cited_at s t source → compared s e t (given_by_file s t source) ≡ taken (line_of (step.Input p) empty_clause)
 input-taken s e t source p h =
     sym (ap (λ o. compared s e t (input_given t o)) h ∙ ap (compared s e t) (file-given s t source))
-    ∙ ap (λ b. if b then taken (kernel_line (step.Input p) empty_clause) else refused conclusion) (same_formula-refl (t.entry).formula)
+    ∙ ap (λ b. if b then taken (line_of (step.Input p) empty_clause) else refused conclusion) (same_formula-refl (t.entry).formula)
 
 pub input-refused :
     (s : Setting) (e : Taken) (t : LineTree) (source : SourceTree)

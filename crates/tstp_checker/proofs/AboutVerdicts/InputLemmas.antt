@@ -6,7 +6,8 @@ use Rattle.std.proofs.lemmas.Bool.{ltb-true, ltb-false, lt-ltb, le-ltb}
 use Rattle.signature.proofs.OccurrenceLemmas.{drop-item}
 use Rattle.tptp_tree.specs.Entries.{AnnotatedTree}
 use Rattle.tptp_tree.specs.declared.problem.Annotated.{Annotated}
-use Rattle.clausal_form.specs.DerivationLine.{same_entry, entry_of}
+use Rattle.clausal_form.specs.DerivationLine.{same_entry}
+use Rattle.tptp_tree.specs.Shape.{entry_of}
 use Rattle.tstp_checker.specs.Entries.{entry_meant, same_meant}
 use Rattle.tstp_checker.specs.EntryLaws.{same_entry-symm}
 use Rattle.tstp_checker.specs.Inputs.{first_from, says}

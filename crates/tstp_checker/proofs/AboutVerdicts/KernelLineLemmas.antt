@@ -9,18 +9,18 @@ use Rattle.fol_base.specs.declared.clause.Clause.{Clause}
 use Rattle.fol_base.proofs.AboutTerms.TreeLemmas.{list_of-trees_of}
 use Rattle.kernel_steps.specs.declared.step.Step.{Step}
 use Rattle.kernel_steps.specs.declared.step.Line.{Line}
-use Rattle.clausal_form.specs.DerivationLine.{kernel_term, kernel_literal, kernel_line}
+use Rattle.kernel_steps.specs.FromTrees.{term_from, literal_from, line_of}
 
-term-back : (t : Term) → kernel_term (tree_of t) ≡ t
+term-back : (t : Term) → term_from (tree_of t) ≡ t
 term-back (Var v) = refl
 term-back (App f ts) = ap (App f) (list_of-trees_of ts)
 
-literals-back : (ls : List Literal) → map kernel_literal (map literal_of ls) ≡ ls
+literals-back : (ls : List Literal) → map literal_from (map literal_of ls) ≡ ls
 literals-back [] = refl
 literals-back (l ∷ ls) =
     let make : Term → Term → Literal = λ t u. record { positive = l.positive; left = t; right = u } in
     ap₂ ◌∷◌ (ap₂ make (term-back l.left) (term-back l.right)) (literals-back ls)
 
-pub line-back : (st : Step) (c : Clause) → kernel_line st (clause_of c) ≡ record { step = st; clause = c }
+pub line-back : (st : Step) (c : Clause) → line_of st (clause_of c) ≡ record { step = st; clause = c }
 line-back st c =
     let make : List Literal → Line = λ ls. record { step = st; clause = record { literals = ls; names = c.names } } in ap make (literals-back c.literals)

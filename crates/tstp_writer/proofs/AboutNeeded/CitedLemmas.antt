@@ -5,7 +5,8 @@ use Rattle.std.specs.List.{list_any, cons_option, AllByRecursion}
 use Rattle.fol_base.specs.Canonical.{numbers_from}
 use Rattle.kernel_steps.specs.declared.step.Line.{Line}
 use Rattle.tstp_writer.specs.LineTrees.{Script, comes_from, lines_at, cited_places}
-use Rattle.tstp_writer.specs.Marks.{is_marked, marked_numbers, comes_at}
+use Rattle.tstp_writer.specs.Marks.{comes_at}
+use Rattle.kernel_steps.specs.Marks.{is_marked, marked_numbers}
 use Rattle.tstp_writer.proofs.AboutPrinted.PlaceLemmas.{all-passing, all-below}
 
 pub marked-filter :

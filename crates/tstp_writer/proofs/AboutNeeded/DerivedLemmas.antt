@@ -24,7 +24,8 @@ use Rattle.kernel_steps.specs.declared.step.Step.TheVariants.{Input, Negate, Cla
 use Rattle.kernel_steps.specs.declared.step.Line.{Line}
 use Rattle.clausal_form.specs.DerivationClause.{ordinary_literals, is_written_clause, numbered_from, symbols_in, variables_in, Numbering, term_by, clause_by}
 use Rattle.clausal_form.specs.DerivationSteps.{kind_of}
-use Rattle.clausal_form.specs.DerivationLine.{LineTree, NamedLine, Taken, kernel_line, names_with}
+use Rattle.clausal_form.specs.DerivationLine.{LineTree, NamedLine, Taken, names_with}
+use Rattle.kernel_steps.specs.FromTrees.{line_of}
 use Rattle.clausal_form.specs.DerivationParts.{Setting, setting_of, line_kind, parent_places, parent_lines, line_names, bound_terms, line_literals, all_bound, line_numbering, line_clause, line_bindings}
 use Rattle.clausal_form.specs.DerivationCauses.{text, order, unknown_parent, binding, rule, conclusion, new_symbol, fault, gives_clause, is_bound, are_bound, line_step, concluded, given_by_rule, given_by, is_formula_kind, is_written, has_new_symbol, is_old_name, LineVerdict, refused, taken, compared, line_verdict}
 use Rattle.tstp_writer.specs.ClauseTrees.{variable_name, clause_formula, introduced_name}
@@ -258,7 +259,7 @@ module _ (problem : List Annotated) (file : List ℕ) (layout : Layout) (names k
       (t : LineTree) (from : Step) (c : TreeClause) (step : Step)
       → IsReadBack t from c → AllKnown c.names → list_any (λ (l : NamedLine). bytes_eq (t.entry).name l.name) e.lines ≡ false
       → list_all is_some (parent_places e t) ≡ true → given_by s e t (line_kind t) ≡ gives_clause step (read_clause names c)
-      → is_old_name s e (line_kind t) ≡ false → IsTakenLine t c (kernel_line step (read_clause names c))
+      → is_old_name s e (line_kind t) ≡ false → IsTakenLine t c (line_of step (read_clause names c))
   verdict-taken t from c step back known_names new parents given no_old = record {
     verdict_is =
         ap (λ b. if not b then refused text else after_text) back.written
@@ -267,7 +268,7 @@ module _ (problem : List Annotated) (file : List ℕ) (layout : Layout) (names k
         ∙ ap (compared s e t) given
         ∙ ap (λ b. if not b then refused conclusion else last)
         (ap (clause_eq (read_clause names c)) back.same ∙ clause_eq-same (read_clause names c))
-        ∙ ap₂ (λ a b. if a || b then refused new_symbol else taken (kernel_line step (read_clause names c))) back.known_symbols no_old;
+        ∙ ap₂ (λ a b. if a || b then refused new_symbol else taken (line_of step (read_clause names c))) back.known_symbols no_old;
     names_known = known_names;
   }
     where
@@ -279,7 +280,7 @@ module _ (problem : List Annotated) (file : List ℕ) (layout : Layout) (names k
       after_text = if list_any (λ (l : NamedLine). bytes_eq (t.entry).name l.name) e.lines then refused order else after_order
 
       last : LineVerdict
-      last = if has_new_symbol s e t || is_old_name s e (line_kind t) then refused new_symbol else taken (kernel_line step (read_clause names c))
+      last = if has_new_symbol s e t || is_old_name s e (line_kind t) then refused new_symbol else taken (line_of step (read_clause names c))
 
   -- what is to be shown of a step
   abbrev pub IsTakenBy : ℕ → TreeClause → Step → Type 0

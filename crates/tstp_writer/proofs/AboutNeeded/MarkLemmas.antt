@@ -5,7 +5,8 @@ use Rattle.std.proofs.lemmas.Bool.{or_cases, or_left, or_right, eqb-true, eq-eqb
 use Rattle.std.proofs.lemmas.Option.{slice_get_past, slice_get_cases, get_or_from_slice_get}
 use Rattle.kernel_steps.specs.declared.step.Line.{Line}
 use Rattle.tstp_writer.specs.Cone.{needs, has_number, NeedEarlier, IsClosed, IsNeeded, IsAbove, IsRising, IsCone}
-use Rattle.tstp_writer.specs.Marks.{is_marked, defines_one, has_line, IsVisited, IsPassed, marked_numbers}
+use Rattle.tstp_writer.specs.Marks.{defines_one, has_line, IsVisited, IsPassed}
+use Rattle.kernel_steps.specs.Marks.{is_marked, marked_numbers}
 use Rattle.tstp_writer.specs.declared.needed.Marks.{Marks}
 
 -- a line that was marked before its needs were added

@@ -15,7 +15,9 @@ use Rattle.kernel_steps.specs.Derivation.{is_component_of, component_clause}
 use Rattle.kernel_steps.specs.declared.step.Step.{Step}
 use Rattle.kernel_steps.specs.declared.step.Step.TheVariants.{Input, Negate, Clausify, Para, Refl, Factor, Merge, Component, Opposite, Split, Chain}
 use Rattle.kernel_steps.specs.declared.step.Line.{Line}
-use Rattle.clausal_form.specs.DerivationLine.{same_entry, entry_of, NamedLine, kernel_line}
+use Rattle.clausal_form.specs.DerivationLine.{same_entry, NamedLine}
+use Rattle.tptp_tree.specs.Shape.{entry_of}
+use Rattle.kernel_steps.specs.FromTrees.{line_of}
 use Rattle.clausal_form.specs.DerivationParts.{Setting, setting_of, entry_at, line_place}
 use Rattle.clausal_form.specs.DerivationCauses.{fits, is_conjecture_at as is_conjecture_in}
 use Rattle.tstp_writer.specs.Cone.{has_number, IsRising}
@@ -32,7 +34,7 @@ use Rattle.std.proofs.lemmas.List.{append-nil, map-append}
 use Rattle.std.proofs.lemmas.Grind.{flat_map-append}
 use Rattle.plain_types.specs.declared.sequence.NameLit.{NameLit}
 use Rattle.fol_base.specs.Instance.{Substitution}
-use Rattle.clausal_form.proofs.AboutNaming.TakenLemmas.{kernel_line-clause}
+use Rattle.clausal_form.proofs.AboutNaming.TakenLemmas.{line_of-clause}
 use Rattle.tstp_writer.specs.ClauseTrees.{introduced_name}
 use Rattle.tstp_writer.proofs.AboutPrinted.NameOrder.{has-front, has-behind}
 
@@ -102,20 +104,20 @@ negations-none file problem i k (p ∷ ps) = negations-none file problem i (k + 
 -- the component line of a name, as it is read
 component-here :
     (layout : Layout) (names : List ℕ) (σ : Substitution) (step : Step) (name : ℕ) (c : TreeClause) → step ≡ Component name
-    → component_clause (place_in name names) (kernel_line (placed_step layout names σ step) (read_clause names c) ∷ []) ≡ Some (read_clause names c)
+    → component_clause (place_in name names) (line_of (placed_step layout names σ step) (read_clause names c) ∷ []) ≡ Some (read_clause names c)
 component-here layout names σ step name c step_is =
-    ap (λ st. component_clause (place_in name names) (kernel_line (placed_step layout names σ st) (read_clause names c) ∷ [])) step_is
-    ∙ ap (λ t. if t then Some (clause_of (kernel_line (Component (place_in name names)) (read_clause names c)).clause) else None)
+    ap (λ st. component_clause (place_in name names) (line_of (placed_step layout names σ st) (read_clause names c) ∷ [])) step_is
+    ∙ ap (λ t. if t then Some (clause_of (line_of (Component (place_in name names)) (read_clause names c)).clause) else None)
     (eq-eqb (place_in name names) (place_in name names) refl)
-    ∙ ap Some (kernel_line-clause (Component (place_in name names)) (read_clause names c))
+    ∙ ap Some (line_of-clause (Component (place_in name names)) (read_clause names c))
 
 -- any other line is none of a name
 component-none :
     (layout : Layout) (names : List ℕ) (σ : Substitution) (step : Step) (i : ℕ) (c : TreeClause)
     → ((name : ℕ) → step ≡ Component name → (place_in name names == i) ≡ false)
-    → component_clause i (kernel_line (placed_step layout names σ step) (read_clause names c) ∷ []) ≡ None
+    → component_clause i (line_of (placed_step layout names σ step) (read_clause names c) ∷ []) ≡ None
 component-none layout names σ (Component name) i c h =
-    ap (λ t. if t then Some (clause_of (kernel_line (Component (place_in name names)) (read_clause names c)).clause) else None) (h name refl)
+    ap (λ t. if t then Some (clause_of (line_of (Component (place_in name names)) (read_clause names c)).clause) else None) (h name refl)
 component-none layout names σ (Input place) i c h = refl
 component-none layout names σ (Negate place) i c h = refl
 component-none layout names σ (Clausify j) i c h = refl

@@ -6,6 +6,7 @@ use Rattle.std.specs.Fmt.{digits, digits_onto, digit_glyph, decimal}
 use Rattle.std.proofs.lemmas.Bool.{and_parts, and_from, lt-ltb, ltb-true, false≢true}
 use Rattle.std.proofs.Math.Dec.{ltb}
 use Rattle.std.proofs.lemmas.List.Folds.{list_all-append}
+use Rattle.std.proofs.lemmas.Option.{none-some, same_Some}
 use Rattle.kernel_steps.specs.Keys.{commas_before}
 use Rattle.tptp_token.specs.Spelling.{is_digit, is_lower, is_upper, is_word_byte, is_lower_word, is_variable_word}
 use Rattle.tptp_token.specs.Words.{name_text, quoted_text}

@@ -13,7 +13,7 @@ use Rattle.signature.specs.Prefix.{underscores, needed, fresh_prefix_of}
 use Rattle.kernel_steps.specs.declared.step.Line.{Line}
 use Rattle.clausal_form.specs.declared.finished.Clausal.{Clausal}
 use Rattle.clausal_form.specs.Form.{form_of}
-use Rattle.clausal_form.specs.DerivationLine.{entry_of}
+use Rattle.tptp_tree.specs.Shape.{entry_of}
 use Rattle.tstp_writer.specs.Cone.{IsCone}
 use Rattle.tstp_writer.specs.LineTexts.{lines_text}
 use Rattle.tstp_writer.specs.LineTrees.{Script, script_of, Layout, layout_of, laid_out_trees}

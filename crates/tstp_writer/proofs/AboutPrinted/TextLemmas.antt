@@ -1,6 +1,6 @@
 -- Printed names, clauses and sources, put together from their parts.
 use Rattle.std.proofs.Common.{Result, IfOk, Option, None, Some, ◌≡◌, ℕ, ◌+◌, ◌<◌, Bool, true, false, ◌==◌, List, [], ◌∷◌, ◌++◌, map, length, drop, get_or, codes, refl, ap, ap₂, sym, ◌∙◌, append_assoc, append-nil}
-use Rattle.std.specs.Prelude.{filter_map, if◌then◌else◌}
+use Rattle.std.specs.Prelude.{filter_map, slice_get, if◌then◌else◌}
 use Rattle.std.specs.List.{cons_option, AllByRecursion}
 use Rattle.plain_types.specs.declared.sequence.NameLit.{NameLit}
 use Rattle.fol_base.specs.Tree.{Tree, variable, application, tree_eq, true_tree}
@@ -12,20 +12,20 @@ use Rattle.kernel_steps.specs.Keys.{commas_before, with_commas}
 use Rattle.signature.specs.declared.symbol.Symbol.{Symbol}
 use Rattle.tptp_token.specs.Spelling.{is_lower_word}
 use Rattle.tptp_token.specs.Words.{name_text}
-use Rattle.tptp_tree.specs.Formula.{FormulaTree, truth, predicate, equation, formulas_of}
+use Rattle.tptp_tree.specs.Formula.{FormulaTree, truth, predicate, equation, formulas_of, with_sign}
 use Rattle.tptp_tree.specs.Term.{TermTree, variable as named_variable, application as named_application, TermTrees, no_terms, term_then}
 use Rattle.tptp_tree.specs.Printing.{term_text, arguments_text, more_arguments_text, is_joined, in_parentheses, formula_text, more_operands_text}
 use Rattle.tptp_source.specs.General.{GeneralTree, trees_of}
 use Rattle.tptp_source.specs.Sources.{inference_source, component_source, opposite_source, word_of as word_term, list_of as list_term}
 use Rattle.tstp_writer.specs.SourceTexts.{general_text, arguments_text as general_arguments, items_text, more_text, name_term, source_text}
-use Rattle.tstp_writer.specs.ClauseTrees.{symbol_name, term_tree, term_trees, with_sign, atom_formula, literal_formula, introduced_name, signed_name_formula, one_of, clause_formula}
+use Rattle.tstp_writer.specs.ClauseTrees.{symbol_name, term_tree, term_trees, atom_formula, literal_formula, introduced_name, signed_name_formula, one_of, clause_formula}
 use Rattle.tptp_source.specs.Sources.{SourceTree}
 use Rattle.tptp_tree.specs.Entries.{AnnotatedTree, language_word, role_word}
 use Rattle.clausal_form.specs.DerivationLine.{LineTree}
 use Rattle.tstp_writer.specs.LineTexts.{formula_name_text, line_text, lines_text, shown_text, shown_texts}
 use Rattle.tstp_writer.specs.LineTrees.{with_source, Script, is_conjecture_at, origin, Layout, place_in, line_name, cited_name, negated_name, derived_name, named, status_item, term_item, term_items, bind_item, pivot_name, pivot_item, rule_word, status_word, step_items, origin_name, parent_names, step_source}
 use Rattle.tstp_writer.specs.NameTexts.{signed_name_text, more_names_text, more_items_text, definition_text, introduction_text, inference_text, head_text}
-use Rattle.tstp_writer.proofs.AboutPrinted.PieceTexts.{formula-name-same, three_added, three_joined, drop-next, numbered-lower, bare-text, bare-name, line_name-lower}
+use Rattle.tstp_writer.proofs.AboutPrinted.PieceTexts.{formula-name-same, three_added, two_joined, three_joined, drop-there, drop-next, numbered-lower, bare-text, bare-name, line_name-lower}
 
 -- ---- clauses
 
@@ -94,6 +94,25 @@ names-operands prefix (n ∷ ns) h =
     ap (λ t. codes " | " ++ in_parentheses t (formula_text (signed_name_formula prefix n)) ++ more_operands_text (codes " | ") (formulas_of (map (signed_name_formula prefix) ns)))
     (name-single prefix n)
     ∙ ap₂ (λ us vs. codes " | " ++ us ++ vs) (sym (signed-name prefix n h)) (names-operands prefix ns h)
+
+-- a text goes on with the next literal
+pub next_literal :
+    (symbols : List Symbol) (ls : List TreeLiteral) (i : ℕ) (l : TreeLiteral) (old sign new whole : List ℕ)
+    → slice_get ls i ≡ Some l → sign ≡ old ++ codes " | " → new ≡ sign ++ formula_text (literal_formula symbols l)
+    → old ++ more_operands_text (codes " | ") (formulas_of (map (literal_formula symbols) (drop i ls))) ≡ whole
+    → new ++ more_operands_text (codes " | ") (formulas_of (map (literal_formula symbols) (drop (i + 1) ls))) ≡ whole
+next_literal symbols ls i l old sign new whole at first second h =
+    ap (λ us. us ++ rest) (two_joined old sign new (codes " | ") text first second)
+    ∙ append_assoc old (codes " | " ++ text) rest
+    ∙ ap (λ us. old ++ us) (sym (ap (λ t. codes " | " ++ in_parentheses t text ++ rest) (literal-single symbols l)))
+    ∙ ap (λ ks. old ++ more_operands_text (codes " | ") (formulas_of (map (literal_formula symbols) ks))) (sym (drop-there ls i l at))
+    ∙ h
+  where
+    text : List ℕ
+    text = formula_text (literal_formula symbols l)
+
+    rest : List ℕ
+    rest = more_operands_text (codes " | ") (formulas_of (map (literal_formula symbols) (drop (i + 1) ls)))
 
 -- literals first
 pub clause_of_parts :

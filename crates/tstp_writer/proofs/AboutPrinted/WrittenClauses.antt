@@ -10,7 +10,7 @@ use Rattle.fol_base.specs.Tree.{Tree, variable, application, Trees, no_trees, tr
 use Rattle.fol_base.specs.Instance.{Substitution, instance, instances}
 use Rattle.fol_base.specs.Clause.{TreeLiteral, literal_variables, literal_instance}
 use Rattle.fol_base.proofs.WorkedExamples.TestLemmas.{list_all-joined}
-use Rattle.tptp_tree.specs.Formula.{FormulaTree, truth, predicate, equation, formulas_of, list_of_formulas}
+use Rattle.tptp_tree.specs.Formula.{FormulaTree, truth, predicate, equation, formulas_of, list_of_formulas, with_sign}
 use Rattle.signature.specs.declared.symbol.Symbol.{Symbol}
 use Rattle.signature.specs.declared.symbol.SymbolKind.{SymbolKind}
 use Rattle.signature.specs.declared.symbol.SymbolKind.TheVariants.{Predicate, Function}
@@ -21,7 +21,7 @@ use Rattle.signature.specs.Environment.{Environment, term_names, terms_names, fr
 use Rattle.signature.specs.Clausal.{atom_literal}
 use Rattle.clausal_form.specs.FormFunctions.{is_predicate_in}
 use Rattle.clausal_form.specs.DerivationClause.{literals_of, is_literal as is_literal_formula, Numbering, literal_by}
-use Rattle.tstp_writer.specs.ClauseTrees.{symbol_name, variable_name, term_tree, term_trees, with_sign, atom_formula, literal_formula}
+use Rattle.tstp_writer.specs.ClauseTrees.{symbol_name, variable_name, term_tree, term_trees, atom_formula, literal_formula}
 use Rattle.tstp_writer.specs.ReadableLines.{is_symbol_in, is_literal_over}
 use Rattle.tstp_writer.proofs.ReadAgain.LiteralKinds.{IsTermOver, AreTermsOver, first-term, more-terms, IsHeadOver, function-head, IsEquationOver, by-kind}
 use Rattle.tstp_writer.proofs.AboutPrinted.VariableNames.{IsReadBy, AreReadBy, all-front, all-back}

@@ -9,11 +9,12 @@ use Rattle.kernel_steps.specs.Conclusion.{empty_clause}
 use Rattle.kernel_steps.specs.Derivation.{is_clause_step}
 use Rattle.kernel_steps.specs.declared.step.Step.{Step}
 use Rattle.kernel_steps.specs.declared.step.Line.{Line}
-use Rattle.clausal_form.specs.DerivationLine.{LineTree, kernel_line, NamedLine}
+use Rattle.clausal_form.specs.DerivationLine.{LineTree, NamedLine}
+use Rattle.kernel_steps.specs.FromTrees.{line_of}
 use Rattle.clausal_form.specs.DerivationParts.{Setting, setting_of}
 use Rattle.clausal_form.specs.DerivationCauses.{no_empty_clause}
 use Rattle.clausal_form.specs.DerivationLines.{is_empty_clause_line, ends_empty, accepted, refused_line, ended}
-use Rattle.clausal_form.proofs.AboutNaming.TakenLemmas.{kernel_line-clause}
+use Rattle.clausal_form.proofs.AboutNaming.TakenLemmas.{line_of-clause}
 use Rattle.tstp_writer.specs.Cone.{IsCone}
 use Rattle.tstp_writer.specs.LineTrees.{Script, script_of, Layout, layout_of, cited_name, negated_name, input_at, negate_at, derived_tree, derivation_trees, lines_at}
 use Rattle.tstp_writer.specs.ReadableLines.{LinesFit, read_renaming, placed_step, derived_taken, all_written, names_of_lines, read_clause}
@@ -58,9 +59,9 @@ module _
   last-empty =
       let placed : Step = placed_step layout names (read_renaming (r.line).step (clause_of (r.line).clause)) (r.line).step in
       let clause : TreeClause = read_clause names (clause_of (r.line).clause) in
-      and_from (is_clause_step placed) (clause_eq (clause_of (kernel_line placed clause).clause) empty_clause)
+      and_from (is_clause_step placed) (clause_eq (clause_of (line_of placed clause).clause) empty_clause)
       (placed-clause layout names (read_renaming (r.line).step (clause_of (r.line).clause)) (r.line).step ∙ r.is_clause)
-      (ap (λ c. clause_eq c empty_clause) (kernel_line-clause placed clause ∙ ap (read_clause names) r.is_empty))
+      (ap (λ c. clause_eq c empty_clause) (line_of-clause placed clause ∙ ap (read_clause names) r.is_empty))
 
   all-end : ends_empty all ≡ true
   all-end =

@@ -11,7 +11,7 @@ use Rattle.fol_base.specs.Tree.{Trees, no_trees, tree_then, application, true_tr
 use Rattle.fol_base.specs.Instance.{Substitution}
 use Rattle.fol_base.specs.Clause.{TreeLiteral, TreeClause, clause_variables, clause_instance}
 use Rattle.tptp_tree.specs.Term.{no_terms}
-use Rattle.tptp_tree.specs.Formula.{FormulaTree, truth, predicate, equation}
+use Rattle.tptp_tree.specs.Formula.{FormulaTree, truth, predicate, equation, with_sign}
 use Rattle.signature.specs.declared.symbol.Symbol.{Symbol}
 use Rattle.signature.specs.declared.symbol.SymbolKind.TheVariants.{Predicate}
 use Rattle.signature.specs.Symbol.{predicate_symbol, same_symbol, has_symbol, are_different}
@@ -23,7 +23,7 @@ use Rattle.kernel_steps.specs.Parents.{all_there}
 use Rattle.clausal_form.specs.DerivationItems.{introduced_in}
 use Rattle.clausal_form.specs.DerivationClause.{literals_of, is_literal as is_literal_formula, name_number, signed, literal_name, ordinary_literals, clause_names, names_come_last, is_written_clause, literal_by, clause_by}
 use Rattle.tstp_writer.specs.Cone.{has_number}
-use Rattle.tstp_writer.specs.ClauseTrees.{symbol_name, term_tree, term_trees, with_sign, atom_formula, literal_formula, introduced_name, signed_name_formula, one_of, clause_formula}
+use Rattle.tstp_writer.specs.ClauseTrees.{symbol_name, term_tree, term_trees, atom_formula, literal_formula, introduced_name, signed_name_formula, one_of, clause_formula}
 use Rattle.tstp_writer.specs.LineTrees.{place_in, pivot_name, pivot_item}
 use Rattle.tstp_writer.specs.ReadableLines.{is_literal_over, Fits, read_name, read_clause}
 use Rattle.tstp_writer.specs.DerivedLines.{IsKnown}

@@ -19,9 +19,10 @@ use Rattle.kernel_steps.proofs.AboutCalls.LineLemmas.{ParentLine, parent_line}
 use Rattle.clausal_form.specs.DerivationItems.{side_of, numbers_in, introduced_in}
 use Rattle.clausal_form.specs.DerivationSteps.{OfLiteral, literal_side, into_literal, rule_step}
 use Rattle.clausal_form.specs.DerivationSteps as kind
-use Rattle.clausal_form.specs.DerivationLine.{NamedLine, Taken, kernel_line, kernel_lines}
+use Rattle.clausal_form.specs.DerivationLine.{NamedLine, Taken, kernel_lines}
+use Rattle.kernel_steps.specs.FromTrees.{line_of}
 use Rattle.clausal_form.specs.DerivationParts.{parent_lines}
-use Rattle.clausal_form.proofs.AboutNaming.TakenLemmas.{kernel_line-clause}
+use Rattle.clausal_form.proofs.AboutNaming.TakenLemmas.{line_of-clause}
 use Rattle.tstp_writer.specs.LineTrees.{Script, Layout, place_in, number_item, numbers_item, side_item, pivot_item, status_item, step_items}
 use Rattle.tstp_writer.specs.ReadableLines.{Fits, read_clause, written_place, read_renaming, placed_step}
 use Rattle.tstp_writer.specs.DerivedLines.{IsKnown, ParentIsTaken}
@@ -176,7 +177,7 @@ parent-back layout names known lines e n k h p before = (
     clause = read_clause names (clause_of (h.line).clause)
 
     new : Line
-    new = kernel_line placed clause
+    new = line_of placed clause
 
     at : slice_get (kernel_lines e) (written_place layout k) ≡ Some new
     at = slice_get-map (λ (l : NamedLine). l.line) e.lines (written_place layout k) ∙ ap (option_map (λ (l : NamedLine). l.line)) h.taken
@@ -191,6 +192,6 @@ parent-back layout names known lines e n k h p before = (
     same_parent =
         ap (λ b. if b then Some (make (clause_of new.clause) (introduces_name new.step)) else None) (placed-clause layout names σ (h.line).step ∙ is_clause)
         ∙ ap Some
-        (ap₂ make (kernel_line-clause placed clause) (placed-introduces layout names σ (h.line).step)
+        (ap₂ make (line_of-clause placed clause) (placed-introduces layout names σ (h.line).step)
         ∙ ap (λ (l : Line). make (read_clause names (clause_of l.clause)) (introduces_name l.step)) same_line
         ∙ ap (renamed_parent (read_number names)) old.gives)

@@ -11,7 +11,9 @@ use Rattle.kernel_steps.specs.declared.step.Step.TheVariants.{Input, Negate}
 use Rattle.kernel_steps.specs.declared.step.Line.{Line}
 use Rattle.clausal_form.specs.DerivationItems.{only_one}
 use Rattle.clausal_form.specs.DerivationSteps.{input_kind}
-use Rattle.clausal_form.specs.DerivationLine.{LineTree, same_formula, same_entry, entry_of, kernel_line, NamedLine}
+use Rattle.clausal_form.specs.DerivationLine.{LineTree, same_formula, same_entry, NamedLine}
+use Rattle.tptp_tree.specs.Shape.{entry_of}
+use Rattle.kernel_steps.specs.FromTrees.{line_of}
 use Rattle.clausal_form.specs.DerivationParts.{Setting, setting_of, line_place}
 use Rattle.clausal_form.specs.DerivationCauses.{leaf, rule, order, unknown_parent, conclusion, fault, gives_formula, negation_from, given_by, compared, LineVerdict, refused, taken, line_verdict}
 use Rattle.tstp_writer.specs.Cone.{has_number}
@@ -62,7 +64,7 @@ module _ (file : List ℕ) (problem : List Annotated) where
   pub input-line :
       (name : List ℕ) (ls : List NamedLine) (place : ℕ) (a : Annotated)
       → slice_get problem place ≡ Some a → list_any (λ (l : NamedLine). bytes_eq name l.name) ls ≡ false
-      → line_verdict s (state ls) (input_tree script name (entry_of a)) ≡ taken (kernel_line (Input (first_place problem place)) empty_clause)
+      → line_verdict s (state ls) (input_tree script name (entry_of a)) ≡ taken (line_of (Input (first_place problem place)) empty_clause)
   input-line name ls place a at is_new =
       let t : LineTree = input_tree script name (entry_of a) in
       let f : FormulaTree = (entry_of a).formula in
@@ -71,7 +73,7 @@ module _ (file : List ℕ) (problem : List Annotated) where
       ∙ ap
       (λ (o : Option ℕ). compared s (state ls) t (unwrap_or (option_map (λ p. gives_formula (Input p) f) o) (fault leaf)))
       first.found
-      ∙ ap (λ b. if b then taken (kernel_line (Input (first_place problem place)) empty_clause) else refused conclusion) (formula-self f)
+      ∙ ap (λ b. if b then taken (line_of (Input (first_place problem place)) empty_clause) else refused conclusion) (formula-self f)
 
   -- what is given from a parent's place, and from its line
   abbrev from_place : List NamedLine → LineTree → Option ℕ → LineVerdict
@@ -101,9 +103,9 @@ module _ (file : List ℕ) (problem : List Annotated) where
       → slice_get problem place ≡ Some a → is_conjecture a.role ≡ true
       → list_any (λ (l : NamedLine). bytes_eq name l.name) ls ≡ false
       → line_place (state ls) (cited_name layout place) ≡ Some at
-      → slice_get ls at ≡ Some (taken_as (cited_name layout place) (kernel_line (Input (first_place problem place)) empty_clause))
+      → slice_get ls at ≡ Some (taken_as (cited_name layout place) (line_of (Input (first_place problem place)) empty_clause))
       → line_verdict s (state ls) (negate_tree script layout name place (entry_of a))
-      ≡ taken (kernel_line (Negate (first_place problem place)) empty_clause)
+      ≡ taken (line_of (Negate (first_place problem place)) empty_clause)
   negate-line layout name ls place at a a_there conjecture is_new parent parent_there =
       let t : LineTree = negate_tree script layout name place (entry_of a) in
       let p : ℕ = first_place problem place in
@@ -119,7 +121,7 @@ module _ (file : List ℕ) (problem : List Annotated) where
       ∙ ap
       (λ c. compared s (state ls) t (unwrap_or (if c then Some (gives_formula (Negate p) (negation b.formula)) else None) (fault rule)))
       is_one
-      ∙ ap (λ c. if c then taken (kernel_line (Negate p) empty_clause) else refused conclusion) same
+      ∙ ap (λ c. if c then taken (line_of (Negate p) empty_clause) else refused conclusion) same
 
   -- ---- all input lines
 
@@ -127,10 +129,10 @@ module _ (file : List ℕ) (problem : List Annotated) where
   entry-there place a at = slice_get-map entry_of problem place ∙ ap (option_map entry_of) at
 
   abbrev pub input_taken : List ℕ → ℕ → NamedLine
-  input_taken name place = taken_as name (kernel_line (Input (first_place problem place)) empty_clause)
+  input_taken name place = taken_as name (line_of (Input (first_place problem place)) empty_clause)
 
   abbrev pub negation_taken : List ℕ → ℕ → NamedLine
-  negation_taken name place = taken_as name (kernel_line (Negate (first_place problem place)) empty_clause)
+  negation_taken name place = taken_as name (line_of (Negate (first_place problem place)) empty_clause)
 
   pub inputs-walk :
       (layout : Layout) (k : ℕ) (ls : List NamedLine) (places : List ℕ)
@@ -141,7 +143,7 @@ module _ (file : List ℕ) (problem : List Annotated) where
   inputs-walk layout k ls (p ∷ ps) k_is named placed below small =
       let found = there-below problem p below.0 in
       let name : List ℕ = cited_name layout p in
-      let line : Line = kernel_line (Input (first_place problem p)) empty_clause in
+      let line : Line = line_of (Input (first_place problem p)) empty_clause in
       let name_is : name ≡ line_name k = ap line_name placed.0 in
       let is_new : list_any (λ (l : NamedLine). bytes_eq name l.name) ls ≡ false =
       ap (λ n. list_any (λ (l : NamedLine). bytes_eq n l.name) ls) name_is
@@ -201,7 +203,7 @@ module _ (file : List ℕ) (problem : List Annotated) where
       let found = there-below problem p below.0 in
       let entry : slice_get script.formulas p ≡ Some (entry_of found.0) = entry-there p found.0 found.1 in
       let name : List ℕ = negated_name layout p in
-      let line : Line = kernel_line (Negate (first_place problem p)) empty_clause in
+      let line : Line = line_of (Negate (first_place problem p)) empty_clause in
       let number : length layout.cited + place_in p layout.negated ≡ k = omega (arith, i_is, placed.0) in
       let name_is : name ≡ line_name k = ap line_name number in
       let is_new : list_any (λ (l : NamedLine). bytes_eq name l.name) ls ≡ false =

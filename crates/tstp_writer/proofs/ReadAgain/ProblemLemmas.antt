@@ -20,7 +20,6 @@ use Rattle.tptp_tree.proofs.CanonicalLemmas.{WellFormula, phrase_of, formula-mea
 use Rattle.tptp_tree.proofs.LexingLemmas.{formula-lexes}
 use Rattle.tptp_tree.proofs.WellLemmas.{text-spelled, word-well, spelled-well}
 use Rattle.tptp_reader.specs.Annotating.{IsReading}
-use Rattle.tptp_reader.specs.Shape.{tree_of}
 use Rattle.tptp_reader.specs.declared.entry.Read.{Read}
 use Rattle.tptp_reader.proofs.AboutTexts.PrintedLemmas.{reading-again}
 use Rattle.tptp_reader.proofs.AboutTexts.TextLemmas.{read-name}
@@ -33,7 +32,7 @@ use Rattle.tptp_source.specs.declared.sign.NumberSign.TheVariants.{Unsigned}
 use Rattle.tptp_source.specs.General.{GeneralTree, number}
 use Rattle.tptp_source.specs.Sources.{word_of}
 use Rattle.kernel_steps.specs.declared.step.Step.TheVariants.{Negate}
-use Rattle.clausal_form.specs.DerivationLine.{entry_of}
+use Rattle.tptp_tree.specs.Shape.{entry_of}
 use Rattle.tptp_tree.specs.Printing.{is_number_name}
 use Rattle.tstp_writer.specs.SourceTexts.{name_term, source_term}
 use Rattle.tptp_tree.specs.Levels.{formula_levels}
@@ -114,13 +113,13 @@ body-form (clause_body c) h = clause-form c
 
 reading-printable :
     (file : LoadedFile) (first : ℕ) (read : Read) → IsReading MOST_NESTING file.bytes (tokens_of file) first read
-    → IsPrintableRead (tree_of read.annotated)
+    → IsPrintableRead (entry_of read.annotated)
 reading-printable file first read h =
     let body : Body = h.phrase.body in
     let levels = body-levels MOST_NESTING body _ h.spelled.faultless.1.1.1.1.1.1 in
-    let same : formula_levels (tree_of read.annotated).formula ≡ formula_levels (body_meant body) = ap formula_levels h.meant.formula in
+    let same : formula_levels (entry_of read.annotated).formula ≡ formula_levels (body_meant body) = ap formula_levels h.meant.formula in
     record {
-      name = spelled-shown _ (tree_of read.annotated).name (read-name MOST_NESTING file.bytes first read h);
+      name = spelled-shown _ (entry_of read.annotated).name (read-name MOST_NESTING file.bytes first read h);
       spelled = (reading-again MOST_NESTING file.bytes first read h).formula;
       form = λ c. ap is_clause_formula h.meant.formula ∙ body-form body (sym h.meant.is_clause ∙ c);
       levels = omega (arith, same, levels);

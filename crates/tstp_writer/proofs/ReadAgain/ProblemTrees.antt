@@ -5,7 +5,8 @@ use Rattle.std.specs.List.{AllByRecursion, cons_option}
 use Rattle.tptp_tree.specs.declared.problem.Annotated.{Annotated}
 use Rattle.tptp_tree.specs.Entries.{AnnotatedTree, is_conjecture}
 use Rattle.kernel_steps.specs.declared.step.Line.{Line}
-use Rattle.clausal_form.specs.DerivationLine.{LineTree, entry_of}
+use Rattle.clausal_form.specs.DerivationLine.{LineTree}
+use Rattle.tptp_tree.specs.Shape.{entry_of}
 use Rattle.tstp_writer.specs.LineTrees.{Script, script_of, is_conjecture_at, Layout, layout_of, lines_at, cited_places, cited_name, negated_name, input_tree, negate_tree, input_at, negate_at}
 use Rattle.tstp_writer.specs.Printable.{IsShown, IsPrintable}
 use Rattle.tstp_writer.specs.ProblemLaws.{ArePrintableEntries, HasPrintableLines, HasPrintableFormulas, HasPrintableBeginning}

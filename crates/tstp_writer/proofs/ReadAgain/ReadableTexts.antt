@@ -12,7 +12,7 @@ use Rattle.tptp_token.specs.Lexemes.{IsLexedAs}
 use Rattle.tptp_token.proofs.AboutLexemes.LexemeLemmas.{lexes-whole, lexes-nothing}
 use Rattle.tptp_tree.specs.declared.limits.TheConstants.{MOST_DERIVATION_NESTING}
 use Rattle.tptp_tree.specs.Term.{TermTrees, no_terms}
-use Rattle.tptp_tree.specs.Formula.{FormulaTree, truth, falsity, predicate, equation, negation, conjunction, disjunction, connected, quantified, formulas_of, list_of_formulas}
+use Rattle.tptp_tree.specs.Formula.{FormulaTree, truth, falsity, predicate, equation, negation, conjunction, disjunction, connected, quantified, formulas_of, list_of_formulas, with_sign}
 use Rattle.tptp_tree.specs.Printing.{is_joined, formula_text}
 use Rattle.tptp_tree.specs.Spelling.{phrase_lexemes, SpellsFormula}
 use Rattle.tptp_tree.proofs.CanonicalLemmas.{WellTerm, WellTerms, WellFormula, WellFormulas, phrase_of, formula-meant}
@@ -20,7 +20,7 @@ use Rattle.tptp_tree.proofs.LexingLemmas.{formula-lexes}
 use Rattle.signature.specs.declared.symbol.Symbol.{Symbol}
 use Rattle.signature.specs.Clausal.{atom_literal}
 use Rattle.tptp_tree.specs.Levels.{term_levels, arguments_levels, terms_levels, with_parentheses, formula_levels, operands_levels}
-use Rattle.tstp_writer.specs.ClauseTrees.{symbol_name, term_tree, term_trees, with_sign, atom_formula, literal_formula, introduced_name, signed_name_formula, one_of, clause_formula}
+use Rattle.tstp_writer.specs.ClauseTrees.{symbol_name, term_tree, term_trees, atom_formula, literal_formula, introduced_name, signed_name_formula, one_of, clause_formula}
 use Rattle.kernel_steps.specs.Lines.{is_small_term, has_small_sides}
 use Rattle.tstp_writer.specs.ReadableLines.{is_symbol_in, is_literal_over}
 use Rattle.tstp_writer.specs.Printable.{IsShown, is_literal_formula, is_clause_formula}

@@ -10,7 +10,7 @@ use Rattle.tptp_token.specs.Spelling.{is_printable}
 use Rattle.tptp_tree.specs.Term.{TermTree, variable, application, TermTrees, no_terms, term_then}
 use Rattle.tptp_tree.specs.Formula.{FormulaTree, truth, falsity, predicate, equation, negation, conjunction, disjunction, connected, quantified, FormulaTrees, no_formulas, formula_then}
 use Rattle.tptp_tree.specs.Printing.{formula_text}
-use Rattle.tptp_tree.specs.Shape.{formula_of}
+use Rattle.tptp_tree.specs.Shape.{formula_of, entry_of}
 use Rattle.tptp_tree.specs.Entries.{AnnotatedTree}
 use Rattle.tptp_tree.specs.declared.problem.Annotated.{Annotated}
 use Rattle.tptp_tree.proofs.NameLemmas.{WellName}
@@ -22,7 +22,6 @@ use Rattle.signature.specs.Occurrences.{term_symbols, terms_symbols, formula_sym
 use Rattle.signature.specs.Prefix.{underscores, needed, fresh_prefix_of}
 use Rattle.signature.specs.Clausal.{Made}
 use Rattle.signature.specs.Form.{numbered_symbols, is_constant, spare_constant, with_skolem, with_naming, form_symbols, problem_form, clausal_form}
-use Rattle.clausal_form.specs.DerivationLine.{entry_of}
 use Rattle.tstp_writer.specs.Printable.{IsShown}
 use Rattle.tstp_writer.specs.ProblemLaws.{IsPrintableEntry, ArePrintableEntries}
 use Rattle.tstp_writer.specs.WrittenTexts.{AreShownSymbols}

@@ -1,27 +1,45 @@
-use Rattle.std.proofs.Common.{not, [], ap, subst, sym, ◌∙◌}
+use Rattle.std.proofs.Common.{not, ap, subst, sym, ◌∙◌, arith}
+use Rattle.std.specs.Prelude.{true}
 use Rattle.tptp_tree.specs.Entries.{is_conjecture}
 use Rattle.signature.specs.Occurrences.{formula_symbols}
 use Rattle.signature.specs.Environment.{closed}
 use Rattle.formula_nnf.specs.NormalForm.{normal_form}
-use Rattle.clausal_form.specs.Heavy.{heavy_form}
+use Rattle.formula_nnf.specs.Shape.{nnf_tree}
+use Rattle.tptp_tree.specs.declared.problem.Annotated.{Annotated}
+use Rattle.tptp_tree.specs.Shape.{formula_of}
+use Rattle.tptp_tree.specs.Formula.{FormulaTree}
+use Rattle.std.proofs.Common.{◌≡◌, List}
+use Rattle.signature.specs.declared.symbol.Symbol.{Symbol}
 use Rattle.skolem.specs.Skolemized.{AreKnown}
 use Rattle.skolem.proofs.AboutFormulas.ProblemLemmas.{normal_form_keeps_known_symbols}
 use Rattle.clausal_form.proofs.AboutNaming.NameLemmas.{closed-known}
-use Rattle.skolem.specs.Skolemized.{numbers_after}
-use Rattle.signature.specs.Form.{nothing_made}
-use Rattle.clausal_form.proofs.AboutCounts.HeavyLemmas.{form-heavy}
+use Rattle.clausal_form.proofs.AboutCounts.PassingLemmas.{heavy-form-of, heavy-matrix-of}
 use Rattle.clausal_form.proofs.formula.formula_matrix.Goals as goal
+
+-- the normal form has known symbols alone
+form-known :
+    (known : List Symbol) (a : Annotated) (f : FormulaTree)
+    → f ≡ normal_form (closed a) (not (is_conjecture a.role)) → AreKnown known (formula_symbols (formula_of a.formula)) → AreKnown known (formula_symbols f)
+form-known known a f e k =
+    subst (λ g. AreKnown known (formula_symbols g)) (sym e)
+    (normal_form_keeps_known_symbols known (closed a) (not (is_conjecture a.role)) (closed-known known a k))
 
 pub skolemize-requires : goal.skolemize-requires
 skolemize-requires c =
+    record { known = form-known c.args.signature.now c.args.annotated.now _ c.in_ok-form.ensures c.requires.known }
+
+pub cause_over_total-requires : goal.cause_over_total-requires
+cause_over_total-requires c =
     record {
-      known =
-          subst (λ f. AreKnown c.args.signature.now (formula_symbols f)) (sym c.in_ok-form.ensures)
-          (normal_form_keeps_known_symbols c.args.signature.now (closed c.args.annotated.now) (not (is_conjecture c.args.annotated.now.role))
-          (closed-known c.args.signature.now c.args.annotated.now c.requires.known));
+      known = form-known c.args.signature.now c.args.annotated.now _ c.in_ok-form.ensures c.requires.known;
+      over = omega (arith, c.form_weight-weight.ensures.symbols);
     }
 
-pub returns-then-is_heavy_form : goal.returns-then-is_heavy_form
-returns-then-is_heavy_form c =
-    form-heavy (numbers_after c.args.signature.now) (normal_form (closed c.args.annotated.now) (not (is_conjecture c.args.annotated.now.role))) [] nothing_made
-    (ap heavy_form (sym c.in_ok-form.ensures) ∙ sym c.if-is_heavy_form.ensures)
+pub returns-then-weight : goal.returns-then-weight
+returns-then-weight c =
+    heavy-form-of c.args.signature.now c.args.annotated.now _ _ c.in_ok-form.ensures c.form_weight-weight.ensures.heavy c.if-weight.true
+
+pub returns-then-is_heavy_matrix : goal.returns-then-is_heavy_matrix
+returns-then-is_heavy_matrix c =
+    heavy-matrix-of c.args.signature.now c.args.annotated.now _ _ _ c.in_ok-form.ensures c.in_ok-made.ensures.matrix c.is_heavy_matrix.ensures
+    c.if-is_heavy_matrix.true

@@ -1,7 +1,8 @@
-use Rattle.std.proofs.Common.{◌≡◌, ◌+◌, ◌*◌, ◌&&◌, ◌||◌, map, drop}
+use Rattle.std.proofs.Common.{◌≡◌, ◌≤◌, ◌+◌, ◌-◌, ◌*◌, ◌^◌, ◌&&◌, ◌||◌, map, drop}
 use Rattle.tptp_tree.specs.Formula.{formula_size, formulas_size, formulas_of}
 use Rattle.formula_nnf.specs.Shape.{nnf_tree}
-use Rattle.clausal_form.specs.Heavy.{some_form_has_clauses, all_forms_have_clauses, some_heavy_form}
+use Rattle.clausal_form.specs.Heavy.{some_form_has_clauses, all_forms_have_clauses, some_heavy_form, written_totals}
+use Rattle.formula_nnf.specs.CappedCount.{capped}
 use Rattle.clausal_form.proofs.heavy.+form_weight.Given as goal
 
 abbrev pub decreases-form_weight : goal.decreases-form_weight
@@ -14,4 +15,6 @@ abbrev pub invariant-form_weights-loop-form : goal.invariant-form_weights-loop-f
 invariant-form_weights-loop-form l =
     ((l.weights.some || some_form_has_clauses (formulas_of (map nnf_tree (drop l.form-index l.forms)))) ≡ some_form_has_clauses (formulas_of (map nnf_tree l.forms)))
     × (((l.weights.all && all_forms_have_clauses (formulas_of (map nnf_tree (drop l.form-index l.forms)))) ≡ all_forms_have_clauses (formulas_of (map nnf_tree l.forms)))
-    × ((l.weights.heavy || some_heavy_form (formulas_of (map nnf_tree (drop l.form-index l.forms)))) ≡ some_heavy_form (formulas_of (map nnf_tree l.forms))))
+    × (((l.weights.heavy || some_heavy_form (formulas_of (map nnf_tree (drop l.form-index l.forms)))) ≡ some_heavy_form (formulas_of (map nnf_tree l.forms)))
+    × ((capped (l.weights.symbols + written_totals (formulas_of (map nnf_tree (drop l.form-index l.forms)))) ≡ capped (written_totals (formulas_of (map nnf_tree l.forms))))
+    × (l.weights.symbols ≤ 2 ^ 64 - 1))))

@@ -1,5 +1,5 @@
 use Rattle.std.proofs.Common.{◌≡◌, ◌++◌, drop}
-use Rattle.retracing.specs.Marks.{marked_numbers}
+use Rattle.kernel_steps.specs.Marks.{marked_numbers}
 use Rattle.retracing.proofs.cone.marked.Given as goal
 
 abbrev pub invariant-loop-number : goal.invariant-loop-number

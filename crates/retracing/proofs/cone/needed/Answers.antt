@@ -2,7 +2,7 @@ use Rattle.std.proofs.Common.{◌≡◌, refl, arith, sym, subst, ap, length, �
 use Rattle.std.proofs.lemmas.Option.{slice_get_read}
 use Rattle.std.proofs.lemmas.Result.{IfOk-weaker}
 use Rattle.retracing.specs.Needed.{AreNeeded}
-use Rattle.retracing.specs.Marks.{marked_numbers}
+use Rattle.kernel_steps.specs.Marks.{marked_numbers}
 use Rattle.retracing.proofs.MarkLemmas.{IsPassed, passed-none, passed-one-more, needed-are-marked}
 use Rattle.retracing.proofs.cone.needed.Goals as goal
 

@@ -1,6 +1,6 @@
 use Rattle.fol_base.specs.Term.{tree_of}
 use Rattle.disc_tree.proofs.AboutPaths.EntryLemmas.{in-with}
-use Rattle.rewriting.proofs.IndexLemmas.{in-more}
+use Rattle.rewriting.proofs.AboutIndexes.IndexLemmas.{in-more}
 use Rattle.rewriting.proofs.index.put_side.Goals as goal
 
 pub returns-clause-put : goal.returns-clause-put

@@ -1,4 +1,4 @@
-use Rattle.rewriting.proofs.IndexLemmas.{taken-keeps}
+use Rattle.rewriting.proofs.AboutIndexes.IndexLemmas.{taken-keeps}
 use Rattle.fol_base.specs.Term.{tree_of}
 use Rattle.rewriting.proofs.index.take_side.Goals as goal
 

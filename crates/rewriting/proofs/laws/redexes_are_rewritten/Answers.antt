@@ -1,4 +1,4 @@
-use Rattle.rewriting.proofs.LawLemmas.{normal_clauses_stay, redexes_rewrite, redexes_give}
+use Rattle.rewriting.proofs.AboutRedexes.LawLemmas.{normal_clauses_stay, redexes_rewrite, redexes_give}
 use Rattle.rewriting.proofs.laws.redexes_are_rewritten.Goals as goal
 
 pub returns-clause-normal : goal.returns-clause-normal

@@ -1,7 +1,7 @@
 use Rattle.std.proofs.Common.{List, ap, arith}
 use Rattle.std.specs.Prelude.{sum_by}
 use Rattle.fol_base.specs.Clause.{TreeLiteral, literal_size}
-use Rattle.rewriting.proofs.RewritableLemmas.{answer-is}
+use Rattle.rewriting.proofs.AboutRedexes.RewritableLemmas.{answer-is}
 use Rattle.rewriting.proofs.members.is_rewritten.Goals as goal
 
 pub find-requires-clause-size : goal.find-requires-clause-size

@@ -2,7 +2,7 @@ use Rattle.std.proofs.Common.{take}
 use Rattle.std.specs.Prelude.{All}
 use Rattle.fol_base.specs.WellFormed.{SymbolUse}
 use Rattle.rewriting.specs.Rewritable.{IsFormed, IsRewrittenBy}
-use Rattle.rewriting.proofs.RewritableLemmas.{AreListed}
+use Rattle.rewriting.proofs.AboutRedexes.RewritableLemmas.{AreListed}
 use Rattle.rewriting.proofs.members.rewritable.Given as goal
 
 abbrev pub invariant-loop-member : goal.invariant-loop-member

@@ -1,7 +1,7 @@
 use Rattle.fol_base.specs.Term.{tree_of}
 use Rattle.fol_base.specs.Lent.{lent_of}
 use Rattle.rewriting.specs.Spots.{spot_of}
-use Rattle.rewriting.proofs.TryLemmas.{side-taken, side-refused}
+use Rattle.rewriting.proofs.AboutSearches.TryLemmas.{side-taken, side-refused}
 use Rattle.rewriting.proofs.trying.match_side.Goals as goal
 
 pub returns-then-takes : goal.returns-then-takes

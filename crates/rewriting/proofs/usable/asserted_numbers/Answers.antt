@@ -1,5 +1,5 @@
 use Rattle.std.proofs.Common.{◌∙◌}
-use Rattle.rewriting.proofs.TryLemmas.{asserted-are}
+use Rattle.rewriting.proofs.AboutSearches.TryLemmas.{asserted-are}
 use Rattle.rewriting.proofs.usable.asserted_numbers.Goals as goal
 
 pub returns : goal.returns

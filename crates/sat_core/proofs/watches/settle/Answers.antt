@@ -1,12 +1,11 @@
-use Rattle.std.proofs.Common.{subst, arith}
-use Rattle.sat_core.specs.Clause.{PropClause}
-use Rattle.sat_core.specs.Search.{IsUnit}
-use Rattle.sat_core.proofs.AboutTrails.PropagationLemmas.{propagates_one}
+use Rattle.std.proofs.Common.{sym, ◌∙◌, arith}
+use Rattle.sat_core.proofs.AboutTrails.PropagationLemmas.{alone_unit, propagates_one}
 use Rattle.sat_core.specs.Known.{known}
 use Rattle.sat_core.proofs.watches.settle.Goals as goal
 
-pub returns-in_ok-push-in-Implied-clause-propagates : goal.returns-in_ok-push-in-Implied-clause-propagates
-returns-in_ok-push-in-Implied-clause-propagates c =
-    propagates_one (known c.args.clauses.now) _ _ _ _ c.args.number c.in-Implied.literal c.requires.sound (omega arith)
-    (subst (λ (x : PropClause). IsUnit c.args.trail.now.slots.items x c.in-Implied.literal) c.literals-literals.ensures c.in-Implied.ensures)
-    c.in_ok-push-in-Implied.ensures.trail c.in_ok-push-in-Implied.ensures.entries c.in_ok-push-in-Implied.ensures.slots
+pub returns-then-place-eq0-clause-propagates : goal.returns-then-place-eq0-clause-propagates
+returns-then-place-eq0-clause-propagates c =
+    propagates_one (known c.args.clauses.now) _ _ _ _ c.args.closed.number c.in-Some.literal c.requires.sound (omega arith)
+    (alone_unit c.args.trail.now.slots.items _ _ c.in-Some.literal c.literals-literals.ensures
+    (c.is_alone.ensures c.if-not-is_alone.false) (sym c.place.ensures ∙ c.if-place-eq0.true))
+    c.in_ok-push.ensures.trail c.in_ok-push.ensures.entries c.in_ok-push.ensures.slots

@@ -2,7 +2,7 @@ use Rattle.std.proofs.Common.{ℕ, Vec, Global, ap, refl, sym, subst, ◌+◌, �
 use Rattle.fol_base.specs.Tree.{tree_variables}
 use Rattle.signature.specs.Clausal.{applied}
 use Rattle.skolem.specs.declared.bound_term.BoundTerm.TheVariants.{Skolem}
-use Rattle.skolem.specs.Bindings.{HasVariables}
+use Rattle.skolem.specs.Bindings.{HasVariables, Covers}
 use Rattle.skolem.proofs.AboutBindings.BoundTermLemmas.{variables-of}
 use Rattle.skolem.proofs.AboutBindings.PlaceLemmas.{has-last}
 use Rattle.skolem.proofs.AboutFormulas.FormLemmas.{scope-step}
@@ -24,6 +24,11 @@ bind_term-requires c =
           (sym
           (ap (λ (v : Vec ℕ Global). tree_variables (applied c.in_ok-symbol.symbol v.items)) c.in_ok-clone.ensures.cases
           ∙ variables-of c.args.arguments.now.value.items)) c.requires.alike;
+      covers =
+          subst (Covers c.args.progress.now.bindings c.args.covers)
+          (sym
+          (ap (λ (v : Vec ℕ Global). tree_variables (applied c.in_ok-symbol.symbol v.items)) c.in_ok-clone.ensures.cases
+          ∙ variables-of c.args.arguments.now.value.items)) c.requires.covers;
     }
 
 pub returns-clause-last : goal.returns-clause-last

@@ -10,8 +10,8 @@ pub returns-clause-scope : goal.returns-clause-scope
 returns-clause-scope c =
     if-ok c.bind_applied.result _ _
     (λ u h. terms-bound (numbers_after c.args.signature.now) (free_names c.args.body.now) c.args.names.now c.args.progress.now c.arguments.new.self
-    c.bind_applied.new.progress c.in_ok-found.found.items
-    c.in_ok-found.ensures.found c.in_ok-found.ensures.bindings c.in_ok-found.ensures.variables c.in_ok-found.ensures.arities
+    c.bind_applied.new.progress c.in_ok-variables.field-0.variables.items
+    c.in_ok-variables.ensures.found c.in_ok-variables.ensures.bindings c.in_ok-variables.ensures.variables c.in_ok-variables.ensures.arities
     (h
     ∙ ap (λ (v : Vec ℕ Global). skolem_steps (numbers_after c.args.signature.now) v.items c.args.names.now (scope_of_progress c.arguments.new.self))
     c.in_ok-arguments.ensures.ok))

@@ -4,7 +4,7 @@ use Rattle.tptp_token.specs.Longest.{longest}
 use Rattle.tptp_token.specs.Kinds.{is_token, kind_of}
 use Rattle.tptp_token.specs.Pieces.{line_length, block_end, fills, piece_of}
 use Rattle.tptp_token.specs.Lexing.{lexed_from, lexed_of}
-use Rattle.tptp_token.specs.Words.{bare}
+use Rattle.tptp_token.specs.Words.{bare, quoted}
 use Rattle.tptp_tree.specs.declared.role.Role.TheVariants.{Plain}
 use Rattle.tptp_tree.specs.declared.formula.Formula.TheVariants.{Pred}
 use Rattle.tptp_tree.specs.Spelling.{no_phrases, predicate_atom}
@@ -47,6 +47,19 @@ first = (
 whole : SpellsEntries (codes "include(f).") (include_tree (codes "f") None ∷ [])
 unfolding longest is_token kind_of line_length block_end fills piece_of lexed_from lexed_of
 whole = (whole_include (bare (codes "f")) ∷ [], refl, record { whole = refl; tokens = refl }, (refl, tt))
+
+outer : SpellsEntries (codes "include('e/f').") (include_tree (codes "e/f") None ∷ [])
+unfolding longest is_token kind_of line_length block_end fills piece_of lexed_from lexed_of
+outer = (whole_include (quoted (codes "'e/f'")) ∷ [], refl, record { whole = refl; tokens = refl }, (refl, tt))
+
+inner : SpellsEntries (codes "include(g,[b]).cnf(a,plain,p).") (include_tree (codes "g") (Some (codes "b" ∷ [])) ∷ annotated_tree (clause_named (codes "a") (codes "p")) ∷ [])
+unfolding longest is_token kind_of line_length block_end fills piece_of lexed_from lexed_of
+inner = (
+  selected_include (bare (codes "g")) (record { first = word_name (bare (codes "b")); others = [] }) ∷ annotated_entry (phrase (codes "a") (codes "p")) ∷ [],
+  refl,
+  record { whole = refl; tokens = refl },
+  (refl, ((clause_named (codes "a") (codes "p"), says (codes "a") (codes "p"), refl), tt)),
+)
 
 abbrev at : List ℕ → List ℕ → List ℕ → FromFile
 at file name symbol = record { tree = clause_named name symbol; file = file }
@@ -160,6 +173,47 @@ returns c = record {
               entries = annotated_tree (clause_named (codes "b") (codes "q")) ∷ annotated_tree (clause_named (codes "c") (codes "r")) ∷ [];
               spelled = two;
               given = (at (codes "r/f") (codes "b") (codes "q") ∷ [], at (codes "r/f") (codes "c") (codes "r") ∷ [], refl, (at (codes "r/f") (codes "c") (codes "r") ∷ [], [], refl, refl, refl), refl);
+            },
+            refl,
+          ),
+          refl,
+          refl,
+        );
+      };
+  nested_include =
+      let taken : List FromFile = at (codes "d/g") (codes "b") (codes "q") ∷ at (codes "d/e/f") (codes "a") (codes "p") ∷ [] in
+      record {
+        bytes = codes "include('e/f').";
+        held = refl;
+        entries = include_tree (codes "e/f") None ∷ [];
+        spelled = outer;
+        given = (
+          taken,
+          [],
+          (
+            taken,
+            record {
+              bytes = codes "include(g,[b]).cnf(a,plain,p).";
+              held = refl;
+              entries = include_tree (codes "g") (Some (codes "b" ∷ [])) ∷ annotated_tree (clause_named (codes "a") (codes "p")) ∷ [];
+              spelled = inner;
+              given = (
+                at (codes "d/g") (codes "b") (codes "q") ∷ [],
+                at (codes "d/e/f") (codes "a") (codes "p") ∷ [],
+                (
+                  both (codes "d/g"),
+                  record {
+                    bytes = codes "cnf(b,plain,q).cnf(c,plain,r).";
+                    held = refl;
+                    entries = annotated_tree (clause_named (codes "b") (codes "q")) ∷ annotated_tree (clause_named (codes "c") (codes "r")) ∷ [];
+                    spelled = two;
+                    given = (at (codes "d/g") (codes "b") (codes "q") ∷ [], at (codes "d/g") (codes "c") (codes "r") ∷ [], refl, (at (codes "d/g") (codes "c") (codes "r") ∷ [], [], refl, refl, refl), refl);
+                  },
+                  refl,
+                ),
+                (at (codes "d/e/f") (codes "a") (codes "p") ∷ [], [], refl, refl, refl),
+                refl,
+              );
             },
             refl,
           ),

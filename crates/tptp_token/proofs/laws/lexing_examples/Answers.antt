@@ -1,4 +1,4 @@
-use Rattle.std.proofs.Common.{refl}
+use Rattle.std.proofs.Common.{refl, arith}
 use Rattle.tptp_token.specs.Longest.{longest}
 use Rattle.tptp_token.specs.Kinds.{is_token, kind_of}
 use Rattle.tptp_token.specs.Pieces.{line_length, block_end, fills, piece_of}
@@ -16,4 +16,5 @@ returns c = record {
   early_number = refl;
   endless_comment = refl;
   comments = refl;
+  second_token = record { here = refl; within = omega arith };
 }

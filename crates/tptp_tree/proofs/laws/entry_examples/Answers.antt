@@ -16,4 +16,6 @@ returns c = record {
   left_out_role = refl;
   balanced = refl;
   crossed = refl;
+  entry_of_truth = refl;
+  negative_sign = refl;
 }

@@ -1,7 +1,7 @@
 use Rattle.std.proofs.Common.{◌≡◌, ℕ, List, length, IfOk, ap, subst, ◌∙◌}
 use Rattle.std.proofs.lemmas.List.{length-map}
-use Rattle.clausal_form.specs.DerivationLine.{entry_of}
-use Rattle.tstp_writer.specs.Marks.{marked_numbers}
+use Rattle.tptp_tree.specs.Shape.{entry_of}
+use Rattle.kernel_steps.specs.Marks.{marked_numbers}
 use Rattle.tstp_writer.specs.Scripts.{script_in}
 use Rattle.tstp_writer.proofs.AboutNeeded.CitedLemmas.{marked-cited}
 use Rattle.tstp_writer.proofs.cited.cited_places.Goals as goal

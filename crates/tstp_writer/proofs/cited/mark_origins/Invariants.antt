@@ -1,6 +1,7 @@
 use Rattle.std.proofs.Common.{◌≡◌, ◌<◌, ◌||◌, ℕ, length, drop}
 use Rattle.std.specs.List.{list_any}
-use Rattle.tstp_writer.specs.Marks.{is_marked, comes_at}
+use Rattle.tstp_writer.specs.Marks.{comes_at}
+use Rattle.kernel_steps.specs.Marks.{is_marked}
 use Rattle.tstp_writer.specs.Scripts.{script_in}
 use Rattle.tstp_writer.proofs.cited.mark_origins.Given as goal
 

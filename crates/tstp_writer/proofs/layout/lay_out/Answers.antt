@@ -1,7 +1,7 @@
 use Rattle.std.proofs.Common.{◌<◌, length, sym, subst, ◌∙◌}
 use Rattle.std.specs.List.{AllByRecursion}
 use Rattle.std.proofs.lemmas.List.{length-map}
-use Rattle.clausal_form.specs.DerivationLine.{entry_of}
+use Rattle.tptp_tree.specs.Shape.{entry_of}
 use Rattle.tstp_writer.specs.LineTrees.{lines_at, is_conjecture_at}
 use Rattle.tstp_writer.specs.Scripts.{script_in}
 use Rattle.tstp_writer.proofs.AboutNeeded.CitedLemmas.{cited-below}

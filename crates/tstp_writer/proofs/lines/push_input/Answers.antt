@@ -1,5 +1,5 @@
 use Rattle.std.proofs.Common.{refl, ap, ◌∙◌, ◌++◌}
-use Rattle.clausal_form.specs.DerivationLine.{entry_of}
+use Rattle.tptp_tree.specs.Shape.{entry_of}
 use Rattle.tptp_tree.specs.Entries.{AnnotatedTree}
 use Rattle.tptp_source.specs.Sources.{file_source}
 use Rattle.tstp_writer.specs.SourceTexts.{source_text}

@@ -1,5 +1,5 @@
 use Rattle.std.proofs.Common.{false, refl}
-use Rattle.clausal_form.specs.DerivationLine.{entry_of}
+use Rattle.tptp_tree.specs.Shape.{entry_of}
 use Rattle.kernel_steps.specs.declared.step.Step.TheVariants.{Negate}
 use Rattle.tptp_tree.specs.Entries.{AnnotatedTree}
 use Rattle.tptp_tree.specs.Formula.{negation}

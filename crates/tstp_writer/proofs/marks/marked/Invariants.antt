@@ -1,5 +1,5 @@
 use Rattle.std.proofs.Common.{◌≡◌, ◌++◌, drop}
-use Rattle.tstp_writer.specs.Marks.{marked_numbers}
+use Rattle.kernel_steps.specs.Marks.{marked_numbers}
 use Rattle.tstp_writer.proofs.marks.marked.Given as goal
 
 abbrev pub invariant-loop-place : goal.invariant-loop-place

@@ -1,7 +1,8 @@
 use Rattle.std.proofs.Common.{arith, sym, ap, subst, refl, length, ◌-◌, ◌<◌}
 use Rattle.std.proofs.lemmas.Option.{slice_get_read}
 use Rattle.tstp_writer.specs.Cone.{NeedEarlier, IsCone}
-use Rattle.tstp_writer.specs.Marks.{IsPassed, marked_numbers}
+use Rattle.tstp_writer.specs.Marks.{IsPassed}
+use Rattle.kernel_steps.specs.Marks.{marked_numbers}
 use Rattle.tstp_writer.proofs.AboutNeeded.MarkLemmas.{passed-one-more, cone-is-marked}
 use Rattle.tstp_writer.proofs.needed.cone.Goals as goal
 

@@ -1,6 +1,6 @@
 use Rattle.std.proofs.Common.{sym, ap, ◌∙◌, ◌++◌, append-nil}
 use Rattle.std.specs.Prelude.{option_map}
-use Rattle.clausal_form.specs.DerivationLine.{entry_of}
+use Rattle.tptp_tree.specs.Shape.{entry_of}
 use Rattle.tstp_writer.specs.LineTexts.{shown_text}
 use Rattle.tstp_writer.specs.LineTrees.{line_name, input_tree}
 use Rattle.tstp_writer.specs.Scripts.{script_in}

@@ -2,7 +2,7 @@ use Rattle.std.proofs.Common.{take}
 use Rattle.std.specs.Prelude.{All}
 use Rattle.fol_base.specs.WellFormed.{SymbolUse}
 use Rattle.rewriting.specs.Rewritable.{IsFormed}
-use Rattle.rewriting.proofs.RewritableLemmas.{AreListed}
+use Rattle.rewriting.proofs.AboutRedexes.RewritableLemmas.{AreListed}
 use Rattle.unit_index.specs.Cuttable.{IsCutBy}
 use Rattle.unit_index.proofs.members.cuttable.Given as goal
 

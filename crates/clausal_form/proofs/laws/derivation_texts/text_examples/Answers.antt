@@ -19,7 +19,8 @@ use Rattle.tptp_source.specs.General.{word, no_trees}
 use Rattle.tptp_source.specs.Spelling.{word_part, number_part, list_part, no_parts, GeneralPhrase, parts, GeneralPhrases, no_phrases, phrase_then, general_lexemes}
 use Rattle.kernel_steps.specs.Conclusion.{empty_clause}
 use Rattle.kernel_steps.specs.declared.step.Step.TheVariants.{Input, Clausify}
-use Rattle.clausal_form.specs.DerivationLine.{Taken, nothing_taken, kernel_line}
+use Rattle.clausal_form.specs.DerivationLine.{Taken, nothing_taken}
+use Rattle.kernel_steps.specs.FromTrees.{line_of}
 use Rattle.clausal_form.specs.DerivationTexts.{AreLinesOf, phrases_lexemes, SpellsDerivation, NoLineBegins}
 use Rattle.clausal_form.specs.DerivationExamples.{falsum_text, falsum_lines}
 use Rattle.clausal_form.proofs.laws.derivation_texts.text_examples.Goals as goal
@@ -97,8 +98,8 @@ spells = ([], record { phrases = two_phrases; spelled = refl; lines = are_lines 
 two_taken : Taken
 two_taken = record {
   lines =
-      record { name = codes "a"; line = kernel_line (Input 0) empty_clause }
-      ∷ record { name = codes "b"; line = kernel_line (Clausify 0) empty_clause } ∷ [];
+      record { name = codes "a"; line = line_of (Input 0) empty_clause }
+      ∷ record { name = codes "b"; line = line_of (Clausify 0) empty_clause } ∷ [];
   introduced = [];
 }
 

@@ -9,7 +9,7 @@ use Rattle.rewriting.specs.Redex.{inner}
 use Rattle.rewriting.specs.Spots.{spot_of}
 use Rattle.rewriting.specs.Searching.{IsFoundIn, IsFoundInSome, IsPlaced, usable_by}
 use Rattle.rewriting.specs.declared.searching.Rewrite.{Rewrite}
-use Rattle.rewriting.proofs.SearchLemmas.{application-found, argument-found, variable-found, item-at, one-more-normal, popped}
+use Rattle.rewriting.proofs.AboutSearches.SearchLemmas.{application-found, argument-found, variable-found, item-at, one-more-normal, popped}
 use Rattle.rewriting.proofs.searching.Rewriters.+find_in_term.Goals as goal
 
 pub find_in_term-returns-in-Some : goal.find_in_term-returns-in-Some

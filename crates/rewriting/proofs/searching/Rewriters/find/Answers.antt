@@ -5,7 +5,7 @@ use Rattle.fol_base.specs.Lent.{lent_of}
 use Rattle.kbo_order.proofs.AboutMultisets.ClauseLoops.{item-size}
 use Rattle.rewriting.specs.Searching.{IsFoundOfLiteral, usable_by}
 use Rattle.rewriting.specs.declared.searching.Found.{Found}
-use Rattle.rewriting.proofs.SearchLemmas.{found-of, one-more-literal}
+use Rattle.rewriting.proofs.AboutSearches.SearchLemmas.{found-of, one-more-literal}
 use Rattle.rewriting.proofs.searching.Rewriters.find.Goals as goal
 
 pub find_in_literal-requires-clause-size : goal.find_in_literal-requires-clause-size

@@ -4,7 +4,7 @@ use Rattle.fol_base.specs.Lent.{lent_of}
 use Rattle.fol_base.specs.declared.clause.Side.TheVariants.{Left}
 use Rattle.rewriting.specs.Searching.{IsFoundOfSide, usable_by}
 use Rattle.rewriting.specs.declared.searching.Found.{Found}
-use Rattle.rewriting.proofs.SearchLemmas.{literal-found}
+use Rattle.rewriting.proofs.AboutSearches.SearchLemmas.{literal-found}
 use Rattle.rewriting.proofs.searching.Rewriters.find_in_literal.Goals as goal
 
 pub returns-in_ok-found-in-None : goal.returns-in_ok-found-in-None

@@ -7,7 +7,7 @@ use Rattle.rewriting.specs.Redex.{root_spot}
 use Rattle.rewriting.specs.Spots.{spot_of}
 use Rattle.rewriting.specs.Searching.{IsFoundIn, usable_by}
 use Rattle.rewriting.specs.declared.searching.Rewrite.{Rewrite}
-use Rattle.rewriting.proofs.SearchLemmas.{side-normal}
+use Rattle.rewriting.proofs.AboutSearches.SearchLemmas.{side-normal}
 use Rattle.rewriting.proofs.searching.Rewriters.find_in_side.Goals as goal
 
 pub returns-in-None : goal.returns-in-None

@@ -1,5 +1,5 @@
 use Rattle.rewriting.specs.Units.{is_kept}
-use Rattle.rewriting.proofs.TryLemmas.{may-use}
+use Rattle.rewriting.proofs.AboutSearches.TryLemmas.{may-use}
 use Rattle.rewriting.proofs.searching.Rewriters.may_use.Goals as goal
 
 pub returns-then-is_kept : goal.returns-then-is_kept

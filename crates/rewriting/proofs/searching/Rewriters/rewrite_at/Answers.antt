@@ -6,7 +6,7 @@ use Rattle.disc_tree.specs.Entries.{IsIn}
 use Rattle.rewriting.specs.Spots.{spot_of}
 use Rattle.rewriting.specs.Searching.{IsTried, NotBy, usable_by}
 use Rattle.rewriting.specs.declared.searching.Rewrite.{Rewrite}
-use Rattle.rewriting.proofs.SearchLemmas.{none-found, one-more-tried}
+use Rattle.rewriting.proofs.AboutSearches.SearchLemmas.{none-found, one-more-tried}
 use Rattle.rewriting.proofs.searching.Rewriters.rewrite_at.Goals as goal
 
 pub loop-entry-preserved : goal.loop-entry-preserved

@@ -3,7 +3,7 @@ use Rattle.fol_base.specs.Term.{tree_of}
 use Rattle.bank_clause.specs.Clause.{clause_at}
 use Rattle.rewriting.specs.Spots.{spot_of}
 use Rattle.rewriting.specs.Searching.{usable_by}
-use Rattle.rewriting.proofs.TryLemmas.{entry-refused, one-way, too_large}
+use Rattle.rewriting.proofs.AboutSearches.TryLemmas.{entry-refused, one-way, too_large}
 use Rattle.rewriting.proofs.searching.Rewriters.try_entry.Goals as goal
 
 pub returns-then-not-has : goal.returns-then-not-has

@@ -1,7 +1,7 @@
 use Rattle.std.proofs.Common.{sym, ap, ◌∙◌, Some, None}
 use Rattle.std.specs.Prelude.{if◌then◌else◌}
 use Rattle.bank_clause.specs.Clause.{clause_at}
-use Rattle.rewriting.proofs.TryLemmas.{usable-is}
+use Rattle.rewriting.proofs.AboutSearches.TryLemmas.{usable-is}
 use Rattle.rewriting.proofs.searching.Rewriters.usable.Goals as goal
 
 pub returns-then-may_use-clause-clause : goal.returns-then-may_use-clause-clause

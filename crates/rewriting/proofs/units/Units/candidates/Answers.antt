@@ -1,6 +1,6 @@
 use Rattle.fol_base.specs.Term.{tree_of}
 use Rattle.rewriting.specs.Units.{HasCandidates}
-use Rattle.rewriting.proofs.UnitLemmas.{candidates}
+use Rattle.rewriting.proofs.AboutIndexes.UnitLemmas.{candidates}
 use Rattle.rewriting.proofs.units.Units.candidates.Goals as goal
 
 pub returns : goal.returns

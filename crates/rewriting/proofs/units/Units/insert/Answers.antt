@@ -3,9 +3,9 @@ use Rattle.std.specs.Prelude.{nat_eq, cond}
 use Rattle.std.specs.Map.{lookup}
 use Rattle.fol_base.specs.Lent.{lent_of}
 use Rattle.rewriting.specs.declared.units.Unit.{Unit}
-use Rattle.rewriting.proofs.TryLemmas.{alone-lent}
-use Rattle.rewriting.proofs.NumberedLemmas.{put-numbered, put-of-bank, on_ok-at}
-use Rattle.rewriting.proofs.UnitLemmas.{absent-kept, clause_of_unit, made-unit, put-unit}
+use Rattle.rewriting.proofs.AboutSearches.TryLemmas.{alone-lent}
+use Rattle.rewriting.proofs.AboutIndexes.NumberedLemmas.{put-numbered, put-of-bank, on_ok-at}
+use Rattle.rewriting.proofs.AboutIndexes.UnitLemmas.{absent-kept, clause_of_unit, made-unit, put-unit}
 use Rattle.rewriting.proofs.units.Units.insert.Goals as goal
 
 pub invariant_of-self : goal.invariant_of-self

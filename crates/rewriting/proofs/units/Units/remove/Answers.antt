@@ -3,8 +3,8 @@ use Rattle.std.specs.Prelude.{option_map}
 use Rattle.std.specs.Option.{is_some}
 use Rattle.fol_base.specs.Clause.{TreeLiteral}
 use Rattle.rewriting.specs.Units.{clause_numbered}
-use Rattle.rewriting.proofs.NumberedLemmas.{found-numbered, taken-numbered, taken-of-bank}
-use Rattle.rewriting.proofs.UnitLemmas.{clause_of_unit, taken-units}
+use Rattle.rewriting.proofs.AboutIndexes.NumberedLemmas.{found-numbered, taken-numbered, taken-of-bank}
+use Rattle.rewriting.proofs.AboutIndexes.UnitLemmas.{clause_of_unit, taken-units}
 use Rattle.rewriting.proofs.units.Units.remove.Goals as goal
 
 pub lend-literals-requires : goal.lend-literals-requires

@@ -1,5 +1,5 @@
-use Rattle.rewriting.proofs.NumberedLemmas.{lent-clause}
-use Rattle.rewriting.proofs.UnitLemmas.{clause_of_unit, lent-recorded, lent-numbered}
+use Rattle.rewriting.proofs.AboutIndexes.NumberedLemmas.{lent-clause}
+use Rattle.rewriting.proofs.AboutIndexes.UnitLemmas.{clause_of_unit, lent-recorded, lent-numbered}
 use Rattle.rewriting.proofs.units.Units.unit.Goals as goal
 
 pub returns-clause-clause : goal.returns-clause-clause

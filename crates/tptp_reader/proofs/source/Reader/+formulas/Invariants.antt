@@ -32,7 +32,7 @@ decreases-quantified l = 4 * (length l.self.now.tokens.now - l.at) + 1
 abbrev pub invariant-operands-loop-operands : goal.invariant-operands-loop-operands
 invariant-operands-loop-operands l =
     record {
-      read : SoFar unit_lexemes unit_meant (lexeme Connective l.sign) l.self (further_units l.sign) (one (maybe_more_units l.sign)) l.fn.bound l.level l.at l.next (formula_of l.fn.first ∷ []) l.operands;
+      read : SoFar unit_lexemes unit_meant (lexeme Connective l.sign) l.self (further_units l.sign) (one (maybe_more_units l.sign)) l.fn.bound l.level l.at l.next (formula_of l.fn.read ∷ []) l.operands;
       kept : l.bound ≡ l.fn.bound;
     }
 

@@ -12,11 +12,11 @@ pub returns-then-clause-clause-read : goal.returns-then-clause-clause-read
 returns-then-clause-clause-read c =
     clause_body-read _ _ _ _ _ _ _ refl refl refl c.if-clause.true c.in_ok-plain.ensures.read
 
-pub returns-in_err-formula-clause-halted : goal.returns-in_err-formula-clause-halted
-returns-in_err-formula-clause-halted c =
-    passed _ _ _ c.from_residual-in_err-formula.ensures.1
-    (formula_body-halted _ _ _ _ _ _ refl refl refl c.if-clause.false c.new-bound.ensures c.in_err-formula.ensures.halted)
+pub returns-in_err-next-clause-halted : goal.returns-in_err-next-clause-halted
+returns-in_err-next-clause-halted c =
+    passed _ _ _ c.from_residual-in_err-next.ensures.1
+    (formula_body-halted _ _ _ _ _ _ refl refl refl c.if-clause.false c.new-bound.ensures c.in_err-next.ensures.halted)
 
 pub returns-clause-read : goal.returns-clause-read
 returns-clause-read c =
-    formula_body-read _ _ _ _ _ _ _ refl refl refl c.if-clause.false c.new-bound.ensures c.in_ok-formula.ensures.read
+    formula_body-read _ _ _ _ _ _ _ refl refl refl c.if-clause.false c.new-bound.ensures c.in_ok-next.ensures.read

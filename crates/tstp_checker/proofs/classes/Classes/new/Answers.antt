@@ -1,7 +1,8 @@
 use Rattle.std.proofs.Common.{ap, ◌∙◌}
 use Rattle.std.specs.Prelude.{position}
 use Rattle.tptp_tree.specs.declared.problem.Annotated.{Annotated}
-use Rattle.clausal_form.specs.DerivationLine.{same_entry, entry_of}
+use Rattle.clausal_form.specs.DerivationLine.{same_entry}
+use Rattle.tptp_tree.specs.Shape.{entry_of}
 use Rattle.tstp_checker.specs.Classes.{class_of}
 use Rattle.tstp_checker.proofs.AboutReadings.ClassLemmas.{map-starts, map-more, map-ends}
 use Rattle.tstp_checker.proofs.classes.Classes.new.Goals as goal

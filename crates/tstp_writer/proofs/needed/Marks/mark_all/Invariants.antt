@@ -1,6 +1,6 @@
 use Rattle.std.proofs.Common.{◌≡◌, ◌<◌, ◌||◌, ℕ, length, drop}
 use Rattle.tstp_writer.specs.Cone.{has_number}
-use Rattle.tstp_writer.specs.Marks.{is_marked}
+use Rattle.kernel_steps.specs.Marks.{is_marked}
 use Rattle.tstp_writer.proofs.needed.Marks.mark_all.Given as goal
 
 abbrev pub invariant-loop-number : goal.invariant-loop-number

@@ -4,7 +4,7 @@ use Rattle.std.proofs.lemmas.List.{take_more, take_all}
 use Rattle.fol_base.specs.Literal.{clause_of}
 use Rattle.kernel_steps.specs.declared.step.Reduced.{Reduced}
 use Rattle.disc_tree.specs.Entries.{IsIn}
-use Rattle.rewriting.proofs.SearchLemmas.{one-more-tried}
+use Rattle.rewriting.proofs.AboutSearches.SearchLemmas.{one-more-tried}
 use Rattle.unit_index.specs.Cuts.{SignedCutsNone, IsCutOrNotBy}
 use Rattle.unit_index.proofs.index.UnitIndex.cut_by_one_of.Goals as goal
 

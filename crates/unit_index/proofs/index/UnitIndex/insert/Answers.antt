@@ -6,7 +6,7 @@ use Rattle.fol_base.specs.Term.{tree_of}
 use Rattle.bank_clause.specs.Clause.{clause_at}
 use Rattle.bank_clause.specs.declared.member.Member.{Member}
 use Rattle.disc_tree.proofs.AboutPaths.EntryLemmas.{in-with}
-use Rattle.rewriting.proofs.NumberedLemmas.{on_ok-at, put-known, put-numbered, put-of-bank}
+use Rattle.rewriting.proofs.AboutIndexes.NumberedLemmas.{on_ok-at, put-known, put-numbered, put-of-bank}
 use Rattle.unit_index.specs.Indexed.{IsIndexedAt}
 use Rattle.unit_index.proofs.IndexedLemmas.{alone-lent, clause_of_member, kept-others, made-unit, more-keeps}
 use Rattle.unit_index.proofs.index.UnitIndex.insert.Goals as goal

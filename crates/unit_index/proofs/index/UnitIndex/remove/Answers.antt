@@ -4,7 +4,7 @@ use Rattle.std.specs.Option.{is_some}
 use Rattle.fol_base.specs.Clause.{TreeLiteral}
 use Rattle.fol_base.specs.Term.{tree_of}
 use Rattle.rewriting.specs.Units.{clause_numbered}
-use Rattle.rewriting.proofs.NumberedLemmas.{found-numbered, taken-known, taken-numbered, taken-of-bank}
+use Rattle.rewriting.proofs.AboutIndexes.NumberedLemmas.{found-numbered, taken-known, taken-numbered, taken-of-bank}
 use Rattle.unit_index.specs.Indexed.{IsIndexedAt}
 use Rattle.unit_index.proofs.IndexedLemmas.{clause_of_member, fewer-keeps, kept-others}
 use Rattle.unit_index.proofs.index.UnitIndex.remove.Goals as goal

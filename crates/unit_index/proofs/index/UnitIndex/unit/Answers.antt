@@ -1,4 +1,4 @@
-use Rattle.rewriting.proofs.NumberedLemmas.{lent-clause}
+use Rattle.rewriting.proofs.AboutIndexes.NumberedLemmas.{lent-clause}
 use Rattle.unit_index.proofs.IndexedLemmas.{clause_of_member, lent-low, lent-number, lent-one}
 use Rattle.unit_index.proofs.index.UnitIndex.unit.Goals as goal
 

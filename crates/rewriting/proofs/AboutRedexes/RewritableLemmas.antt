@@ -23,8 +23,8 @@ use Rattle.rewriting.specs.Searching.{IsFoundOf}
 use Rattle.rewriting.specs.Laws.{AreWellFormed, MayRewrite}
 use Rattle.rewriting.specs.Rewritable.{IsFormed, IsRewrittenBy, SomeMember, AreNumbersOf}
 use Rattle.rewriting.specs.declared.searching.Found.{Found}
-use Rattle.rewriting.proofs.TryLemmas.{numbers-asserted}
-use Rattle.rewriting.proofs.LawLemmas.{normal_clauses_stay, redexes_rewrite, redexes_give}
+use Rattle.rewriting.proofs.AboutSearches.TryLemmas.{numbers-asserted}
+use Rattle.rewriting.proofs.AboutRedexes.LawLemmas.{normal_clauses_stay, redexes_rewrite, redexes_give}
 
 -- the unit stands alone in the list
 abbrev pub IsAlone : List Member → Member → Type 0

@@ -25,8 +25,8 @@ use Rattle.unifier.specs.Matching.{by_pairs, are_below, IsMatched, NoMatcher}
 use Rattle.rewriting.specs.Units.{has_other_variables, may_rewrite, side_number, usable, usable_clause, is_kept, clause_numbered}
 use Rattle.rewriting.specs.Redex.{Spot, IsRedex, is_within}
 use Rattle.rewriting.specs.Searching.{IsMatchedBy, NotBy}
-use Rattle.rewriting.proofs.IndexLemmas.{side_number-unit, side_number-side}
-use Rattle.rewriting.proofs.PairLemmas.{pairs-match, matchers-agree}
+use Rattle.rewriting.proofs.AboutIndexes.IndexLemmas.{side_number-unit, side_number-side}
+use Rattle.rewriting.proofs.AboutSearches.PairLemmas.{pairs-match, matchers-agree}
 
 -- ---- one side of an equation
 

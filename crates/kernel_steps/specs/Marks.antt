@@ -1,4 +1,4 @@
--- Marks of numbers.
+-- Marks of the numbers from 0 on.
 use Rattle.std.specs.Prelude.{ℕ, suc, Bool, false, List, [], ◌∷◌, slice_get, unwrap_or, if◌then◌else◌}
 
 abbrev pub is_marked : List Bool → ℕ → Bool

@@ -14,8 +14,8 @@ use Rattle.rewriting.specs.Index.{KeepsOthers}
 use Rattle.rewriting.specs.declared.index.Orientation.{Orientation}
 use Rattle.fol_base.specs.declared.clause.Side.{Side}
 use Rattle.rewriting.specs.declared.units.Unit.{Unit}
-use Rattle.rewriting.proofs.IndexLemmas.{in-found}
-use Rattle.rewriting.proofs.NumberedLemmas as by_number
+use Rattle.rewriting.proofs.AboutIndexes.IndexLemmas.{in-found}
+use Rattle.rewriting.proofs.AboutIndexes.NumberedLemmas as by_number
 
 abbrev pub clause_of_unit : Unit → BankClause
 clause_of_unit u = u.clause

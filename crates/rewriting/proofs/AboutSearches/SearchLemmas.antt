@@ -20,7 +20,7 @@ use Rattle.bank_clause.specs.declared.clause.BankClause.{BankClause}
 use Rattle.bank_clause.specs.declared.member.Member.{Member}
 use Rattle.fol_base.specs.Subsumption.{assertions, is_among}
 use Rattle.disc_tree.proofs.AboutQueries.UnifierLemmas.{generalisation-compatible}
-use Rattle.rewriting.proofs.TryLemmas.{redex-may}
+use Rattle.rewriting.proofs.AboutSearches.TryLemmas.{redex-may}
 use Rattle.rewriting.specs.Units.{HasCandidates, usable, usable_clause, clause_numbered, side_number, is_kept}
 use Rattle.rewriting.specs.Redex.{Spot, spot_at, inner, root_spot, HasRedex, IsNormal, IsNormalLiteral}
 use Rattle.rewriting.specs.Searching.{IsPlaced, IsFoundIn, IsFoundInSome, IsFoundAt, IsFoundAtSide, IsFoundOf, IsFoundOfLiteral, IsFoundOfSide, IsRewrite, NotBy}

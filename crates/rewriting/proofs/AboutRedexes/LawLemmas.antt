@@ -32,7 +32,7 @@ use Rattle.unifier.specs.Matching.{by_pairs}
 use Rattle.unifier.proofs.AboutLayouts.KindLemmas.{matchers_put_function_terms}
 use Rattle.rewriting.specs.Redex.{spot_at, root_spot, is_within}
 use Rattle.rewriting.specs.Laws.{MayRewrite, AreWellFormed, Becomes, NormalClausesStay, RedexesRewrite, RedexesGive}
-use Rattle.rewriting.proofs.KindLemmas.{kind-at, redex-kinds, predicate-head}
+use Rattle.rewriting.proofs.AboutRedexes.KindLemmas.{kind-at, redex-kinds, predicate-head}
 
 -- ---- from a rewriting step to a redex
 

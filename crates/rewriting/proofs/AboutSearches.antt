@@ -1,0 +1,4 @@
+-- The search, with the pairs of a matcher, one side of one unit, and all units at all places.
+pub mod PairLemmas
+pub mod TryLemmas
+pub mod SearchLemmas

@@ -1,5 +1,0 @@
-use Rattle.sat_core.proofs.AboutConflicts.AnalysisLemmas.{named_at}
-use Rattle.sat_core.proofs.watches.examine.Goals as goal
-
-pub is_true-requires : goal.is_true-requires
-is_true-requires c = named_at _ c.args.literals.now _ c.requires.within c.requires.watched

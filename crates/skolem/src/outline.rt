@@ -1,0 +1,276 @@
+// How large the clauses of a normal form are, found without making its matrix: a form whose literals are too many symbols to be kept is refused,
+// and this tells by which limit. The walk is that which makes the matrix. Of a part it keeps how many clauses it has, the size of the largest,
+// and the variables in them, which the arguments of a name are found by.
+
+ghost use Rattle.std.specs.Prelude.{◌≡◌, ◌≤◌, ◌+◌, ◌++◌, true, false, max, map, IfOk};
+ghost use Rattle.tptp_tree.specs.Formula.{formulas_of};
+ghost use Rattle.signature.specs.Occurrences.{formula_symbols, formulas_symbols};
+ghost use Rattle.fol_base.specs.declared.limits.TheConstants.{MOST_SYMBOLS};
+ghost use Rattle.formula_nnf.specs.Shape.{nnf_tree};
+ghost use Rattle.skolem.specs.Skolemized.{skolemized, skolemized_list, numbers_after, skolemized_form, AreKnown};
+ghost use Rattle.skolem.specs.Progress.{environment_of, made_of};
+ghost use Rattle.skolem.specs.Outline.{ClauseOutline, IsOutline, AreSame, told, constant_outline, literal_outline, sum_outline, pairs_outline, named_outline, product_outline, joined_outline, outline_of, outlines_of};
+
+use crate::forms::{atom, bind_skolem_terms, bind_variables, equation};
+use crate::literal::MatrixLiteral;
+use crate::progress::{Progress, made_in_order};
+use fol_base::MOST_SYMBOLS;
+use formula_nnf::{Nnf, is_large};
+use plain_types::{Mem, NoMemory};
+use signature::Signature;
+use std::alloc::Global;
+
+/// A size over the limit. Sizes are counted no further.
+const OVER_LIMIT: u64 = MOST_SYMBOLS + 1;
+
+/// The symbols of a name's literal beside its arguments: the name and `$true`.
+const NAME_SYMBOLS: u64 = 2;
+
+/// The last number that no variable has, so that all are below it.
+const NO_VARIABLE: u32 = u32::MAX;
+
+/// How long a list of variables gets before its repetitions are dropped for the first time.
+const FIRST_ROOM: usize = 4096;
+
+/// What is known of clauses: how many they are, the symbols of the largest, those of the largest that defines a name, and the variables in them.
+#[derive(Drop)]
+pub(crate) struct Outline {
+    pub clauses: u64,
+    pub largest: u64,
+    pub defining: u64,
+    /// With repetitions, which are dropped where the list is longer than `room`.
+    pub variables: Vec<u32>,
+    pub room: usize,
+}
+
+/// The symbols of the largest clause of a normal form without free variables, those that define names included. Sizes over `MOST_SYMBOLS`
+/// are all told as one more than that.
+pub fn largest_clause<'a>(alloc: Global, form: &Nnf<'a>, signature: &'a Signature) -> Mem<u64>
+    requires known { AreKnown signature.now (formula_symbols (nnf_tree form.now)) }
+    ensures { IfOk result (λ size. size
+        ≡ told (max (outline_of (skolemized_form signature.now (nnf_tree form.now)).matrix).largest
+        (outline_of (skolemized_form signature.now (nnf_tree form.now)).matrix).defining)) }
+{
+    let mut progress = Progress::new(alloc);
+    let outline = outline_in(alloc, signature, form, &mut progress)?;
+    if outline.defining > MOST_SYMBOLS {
+        return Ok(OVER_LIMIT);
+    }
+    Ok(outline.largest.max(outline.defining))
+}
+
+/// The outline of a form under the variables in force.
+#[cycle(outline_in)]
+fn outline_in<'a>(
+    alloc: Global,
+    signature: &'a Signature,
+    form: &Nnf<'a>,
+    progress: &mut Progress,
+) -> Mem<Outline>
+    requires known { AreKnown signature.now (formula_symbols (nnf_tree form.now)) }
+    ensures outline { IfOk result (λ outline. IsOutline outline
+        (outline_of (skolemized (numbers_after signature.now) (nnf_tree form.now) (environment_of progress.old.bindings) (made_of progress.old)).matrix)) }
+    ensures made { IfOk result (λ _. made_of progress.new
+        ≡ (skolemized (numbers_after signature.now) (nnf_tree form.now) (environment_of progress.old.bindings) (made_of progress.old)).made) }
+    ensures bindings { IfOk result (λ _. progress.new.bindings ≡ progress.old.bindings) }
+{
+    match form {
+        Nnf::True => Ok(constant(alloc, true)),
+        Nnf::False => Ok(constant(alloc, false)),
+        Nnf::Pred(positive, name, arguments) => {
+            let literal = atom(alloc, signature, progress, *positive, name, arguments)?;
+            of_literal(alloc, &literal)
+        }
+        Nnf::Equal(positive, left, right) => {
+            let literal = equation(alloc, signature, progress, *positive, left, right)?;
+            of_literal(alloc, &literal)
+        }
+        Nnf::And(forms) => outline_in_all(alloc, signature, true, 0, forms.as_slice(), progress),
+        Nnf::Or(forms) => {
+            let made = progress.variables;
+            outline_in_all(alloc, signature, false, made, forms.as_slice(), progress)
+        }
+        Nnf::All(names, body) => {
+            let before = progress.bindings.len();
+            bind_variables(alloc, names.as_slice(), progress)?;
+            let outline = outline_in(alloc, signature, body.get(), progress)?;
+            progress.bindings.truncate(before);
+            Ok(outline)
+        }
+        Nnf::Ex(names, body) => {
+            let before = progress.bindings.len();
+            bind_skolem_terms(alloc, signature, names.as_slice(), body, progress)?;
+            let outline = outline_in(alloc, signature, body.get(), progress)?;
+            progress.bindings.truncate(before);
+            Ok(outline)
+        }
+    }
+}
+
+/// The outline of forms one after another (`listed`), or of their product, on which the work began when so many variables were made.
+#[cycle(outline_in)]
+fn outline_in_all<'a>(
+    alloc: Global,
+    signature: &'a Signature,
+    listed: bool,
+    began: u32,
+    forms: &[Nnf<'a>],
+    progress: &mut Progress,
+) -> Mem<Outline>
+    requires known { AreKnown signature.now (formulas_symbols (formulas_of (map nnf_tree forms.now))) }
+    ensures outline { IfOk result (λ outline. IsOutline outline
+        (outlines_of listed began (constant_outline listed)
+        (skolemized_list (numbers_after signature.now) (formulas_of (map nnf_tree forms.now)) (environment_of progress.old.bindings) (made_of progress.old)).matrices)) }
+    ensures made { IfOk result (λ _. made_of progress.new
+        ≡ (skolemized_list (numbers_after signature.now) (formulas_of (map nnf_tree forms.now)) (environment_of progress.old.bindings) (made_of progress.old)).made) }
+    ensures bindings { IfOk result (λ _. progress.new.bindings ≡ progress.old.bindings) }
+{
+    let mut total = constant(alloc, listed);
+    for form in forms {
+        let member = outline_in(alloc, signature, form, progress)?;
+        total = joined(alloc, listed, began, total, member)?;
+    }
+    Ok(total)
+}
+
+/// No clause, or the empty one.
+fn constant(alloc: Global, positive: bool) -> Outline
+    ensures { IsOutline result (constant_outline positive) }
+{
+    Outline {
+        clauses: if positive { 0 } else { 1 },
+        largest: 0,
+        defining: 0,
+        variables: Vec::new(alloc),
+        room: FIRST_ROOM,
+    }
+}
+
+/// One clause of that literal. The variables of one over the limit aren't gathered: a Skolem term can have very many.
+fn of_literal(alloc: Global, literal: &MatrixLiteral<'_>) -> Mem<Outline>
+    ensures { IfOk result (λ outline. IsOutline outline (literal_outline literal.now)) }
+{
+    let size = literal.size();
+    let mut variables = Vec::new(alloc);
+    if size <= MOST_SYMBOLS {
+        literal.push_variables(&mut variables)?;
+    }
+    Ok(Outline {
+        clauses: 1,
+        largest: size.min(OVER_LIMIT),
+        defining: 0,
+        variables,
+        room: FIRST_ROOM,
+    })
+}
+
+/// One list after another (`listed`), or their product.
+fn joined(alloc: Global, listed: bool, began: u32, first: Outline, second: Outline) -> Mem<Outline>
+    ensures { IfOk result (λ outline. (t u : ClauseOutline) → IsOutline first t → IsOutline second u
+        → IsOutline outline (joined_outline listed began t u)) }
+{
+    if listed {
+        sum(alloc, first, second)
+    } else {
+        product(alloc, began, first, second)
+    }
+}
+
+/// One list after another. More clauses than a u64 counts are want of memory; a formula that doesn't expand too far has far fewer.
+fn sum(alloc: Global, first: Outline, second: Outline) -> Mem<Outline>
+    ensures { IfOk result (λ outline. (t u : ClauseOutline) → IsOutline first t → IsOutline second u
+        → IsOutline outline (sum_outline t u)) }
+{
+    let clauses = first.clauses.checked_add(second.clauses).ok_or(NoMemory)?;
+    let room = first.room.max(second.room);
+    let Gathered { variables, room } = together(alloc, first.variables, &second.variables, room)?;
+    Ok(Outline {
+        clauses,
+        largest: first.largest.max(second.largest),
+        defining: first.defining.max(second.defining),
+        variables,
+        room,
+    })
+}
+
+/// The product of two lists. Of a large one the longer list is named, the first one where they are equally long.
+fn product(alloc: Global, began: u32, first: Outline, second: Outline) -> Mem<Outline>
+    ensures { IfOk result (λ outline. (t u : ClauseOutline) → IsOutline first t → IsOutline second u
+        → IsOutline outline (product_outline began t u)) }
+{
+    if !is_large(first.clauses, second.clauses) {
+        return pairs(alloc, first, second);
+    }
+    if first.clauses < second.clauses {
+        let name = named(alloc, began, second)?;
+        return pairs(alloc, first, name);
+    }
+    let name = named(alloc, began, first)?;
+    pairs(alloc, name, second)
+}
+
+/// The product, written out.
+fn pairs(alloc: Global, first: Outline, second: Outline) -> Mem<Outline>
+    ensures { IfOk result (λ outline. (t u : ClauseOutline) → IsOutline first t → IsOutline second u
+        → IsOutline outline (pairs_outline t u)) }
+{
+    let clauses = first.clauses.checked_mul(second.clauses).ok_or(NoMemory)?;
+    let defining = first.defining.max(second.defining);
+    if clauses == 0 {
+        return Ok(Outline {
+            clauses,
+            largest: 0,
+            defining,
+            variables: Vec::new(alloc),
+            room: FIRST_ROOM,
+        });
+    }
+    let room = first.room.max(second.room);
+    let Gathered { variables, room } = together(alloc, first.variables, &second.variables, room)?;
+    Ok(Outline {
+        clauses,
+        largest: first.largest.saturating_add(second.largest).min(OVER_LIMIT),
+        defining,
+        variables,
+        room,
+    })
+}
+
+/// A name stands for the clauses, applied to those of their variables that were made before the work on the product began.
+fn named(alloc: Global, began: u32, part: Outline) -> Mem<Outline>
+    ensures { IfOk result (λ outline. (t : ClauseOutline) → IsOutline part t → IsOutline outline (named_outline began t)) }
+{
+    let mut occurring = part.variables;
+    let variables = made_in_order(alloc, began, &mut occurring)?;
+    let size = (variables.len() as u64).saturating_add(NAME_SYMBOLS);
+    let clause = size.saturating_add(part.largest).min(OVER_LIMIT);
+    Ok(Outline {
+        clauses: 1,
+        largest: size.min(OVER_LIMIT),
+        defining: part.defining.max(clause),
+        variables,
+        room: part.room,
+    })
+}
+
+/// Variables, and how long their list gets before its repetitions are dropped.
+#[derive(Drop)]
+struct Gathered {
+    variables: Vec<u32>,
+    room: usize,
+}
+
+/// The variables of both. Repetitions are dropped where the list is longer than `room`, and it gets room for twice what is left: so a list is
+/// at most about twice as long as there are variables in it, and each is sorted a few times.
+fn together(alloc: Global, first: Vec<u32>, second: &Vec<u32>, room: usize) -> Mem<Gathered>
+    ensures { IfOk result (λ both. AreSame both.variables.items (first.items ++ second.now.items)) }
+{
+    let mut variables = first;
+    variables.extend_from_slice(second.as_slice())?;
+    if variables.len() <= room {
+        return Ok(Gathered { variables, room });
+    }
+    let variables = made_in_order(alloc, NO_VARIABLE, &mut variables)?;
+    let room = variables.len().saturating_mul(2).max(FIRST_ROOM);
+    Ok(Gathered { variables, room })
+}
