@@ -5,7 +5,6 @@ use plain_types::Mem;
 use sample_terms::{binary, constant, unary};
 use std::alloc::Global;
 use std::process::Abort;
-use term_bank::{Bank, BankLit};
 use unifier::{Bindings, Matched, match_onto, unify};
 
 const A: u32 = 1;
@@ -139,36 +138,6 @@ fn a_unifier_is_applied(rt: HostRuntime) {
     }
 }
 
-/// The size of `f(X0,b) = b` on each side, after the unifier of `f(X0,b)` and `f(a,X0)` apart.
-#[test]
-fn the_size_of_an_instance(rt: HostRuntime) {
-    let alloc = rt.alloc();
-    let left = binary(alloc, G, Term::Var(0), constant(alloc, B)).expect(&rt, "memory");
-    let right = binary(alloc, G, constant(alloc, A), Term::Var(0)).expect(&rt, "memory");
-    let found = unify(alloc, &left, &right, true).expect(&rt, "memory");
-    let found = found.expect(&rt, "a unifier");
-    let (bank, mut table) = Bank::new(alloc).expect(&rt, "memory");
-    let term = bank
-        .intern(&rt, alloc, &mut table, &left)
-        .expect(&rt, "memory");
-    let b = bank
-        .intern(&rt, alloc, &mut table, &constant(alloc, B))
-        .expect(&rt, "memory");
-    let literals = [BankLit {
-        positive: true,
-        left: term,
-        right: b,
-    }];
-    for side in [Side::Left, Side::Right] {
-        let size = found
-            .instance_size(&bank, side, &literals)
-            .expect(&rt, "memory");
-        assert_eq!(rt; size, 4);
-    }
-    let size = found.term_size(Side::Left, &left).expect(&rt, "memory");
-    assert_eq!(rt; size, 3);
-}
-
 /// The terms for the first variables that turn a pattern into a target. None where there are none, or the
 /// count isn't above the pattern's variables.
 fn matched_terms(alloc: Global, pattern: &Term, target: &Term, count: u32) -> Mem<Option<Subst>> {
@@ -226,7 +195,7 @@ fn a_pattern_is_matched(rt: HostRuntime) {
     assert!(rt; none.is_none());
     let found = matched_terms(alloc, &pattern, &same, 1).expect(&rt, "memory");
     let terms = found.expect(&rt, "a matcher");
-    assert!(rt; same_terms(terms.as_slice(), &[constant(alloc, A)]));
+    assert!(rt; same_terms(terms.as_slice(), terms_of(&rt, alloc, "a").as_slice()));
     let known = can_go_on(alloc, (&pattern, &Term::Var(0)), &same, &b).expect(&rt, "memory");
     assert!(rt; !known);
     let further = can_go_on(alloc, (&pattern, &Term::Var(1)), &same, &b).expect(&rt, "memory");
@@ -247,8 +216,8 @@ fn a_matcher_is_applied(rt: HostRuntime) {
     assert!(rt; same_term(&made, &wanted));
 }
 
-/// Pairs of terms, by a stack. Then a letter says what is known of the two: p where they unify, q where they do apart
-/// alone, r where they don't; small where the second one is an instance of the first. A plain unifier
+/// Pairs of terms, by a stack. Then a letter says what is known of the two: P where they unify, Q where they do apart
+/// alone, R where they don't; p and q where the second one is an instance of the first too. A plain unifier
 /// outside the repository made the answers.
 const TABLE: [&str; 31] = [
     "xxfqxbgaxgQ",
@@ -291,10 +260,10 @@ fn a_table_of_small_pairs(rt: HostRuntime) {
     let mut rows: u64 = 0;
     for line in TABLE {
         for byte in line.as_bytes() {
-            if is_answer(*byte) {
+            if let Some(wanted) = answers_of(*byte) {
                 let right = popped(&rt, &mut stack);
                 let left = popped(&rt, &mut stack);
-                assert!(rt; answers(&rt, alloc, &left, &right) == wanted(*byte));
+                assert!(rt; answers(&rt, alloc, &left, &right) == wanted);
                 rows = rows.saturating_add(1);
             } else {
                 step(&rt, alloc, &mut stack, *byte);
@@ -307,17 +276,15 @@ fn a_table_of_small_pairs(rt: HostRuntime) {
 /// Whether two terms unify, whether they do apart, and whether the first one matches the second.
 type Answers = (bool, bool, bool);
 
-fn is_answer(byte: u8) -> bool {
-    matches!(byte, b'p' | b'q' | b'r' | b'P' | b'Q' | b'R')
-}
-
-fn wanted(byte: u8) -> Answers {
+/// What a letter of the table says of the two terms before it. None where it is a letter of a term.
+fn answers_of(byte: u8) -> Option<Answers> {
     match byte {
-        b'p' => (true, true, true),
-        b'q' => (false, true, true),
-        b'P' => (true, true, false),
-        b'Q' => (false, true, false),
-        _ => (false, false, false),
+        b'p' => Some((true, true, true)),
+        b'q' => Some((false, true, true)),
+        b'P' => Some((true, true, false)),
+        b'Q' => Some((false, true, false)),
+        b'R' => Some((false, false, false)),
+        _ => None,
     }
 }
 
