@@ -17,6 +17,8 @@ mod random_clauses;
 #[cfg(test)]
 mod random_sets;
 #[cfg(test)]
+mod removals;
+#[cfg(test)]
 mod samples;
 #[cfg(test)]
 mod simplified;

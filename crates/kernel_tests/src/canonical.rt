@@ -21,6 +21,7 @@ fn variables_are_numbered_by_first_occurrence(rt: HostRuntime) {
         let wanted = clause(rt.alloc(), form).expect(&rt, "memory");
         let made = renumbered(rt.alloc(), &read).expect(&rt, "memory");
         assert!(rt; same_clause(&made, &wanted), "{text}");
+        assert_eq!(rt; is_canonical(&read), text == form);
     }
 }
 

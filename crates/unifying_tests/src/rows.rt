@@ -5,6 +5,7 @@ use plain_types::Mem;
 use sample_terms::{binary, constant, unary};
 use std::alloc::Global;
 use std::process::Abort;
+use term_bank::{Bank, BankLit};
 use unifier::{Bindings, Matched, match_onto, unify};
 
 const A: u32 = 1;
@@ -136,6 +137,36 @@ fn a_unifier_is_applied(rt: HostRuntime) {
         let made = applied(&found, side, &term).expect(&rt, "memory");
         assert!(rt; same_term(&made.expect(&rt, "an instance"), &wanted));
     }
+}
+
+/// The size of `f(X0,b) = b` on each side, after the unifier of `f(X0,b)` and `f(a,X0)` apart.
+#[test]
+fn the_size_of_an_instance(rt: HostRuntime) {
+    let alloc = rt.alloc();
+    let left = binary(alloc, G, Term::Var(0), constant(alloc, B)).expect(&rt, "memory");
+    let right = binary(alloc, G, constant(alloc, A), Term::Var(0)).expect(&rt, "memory");
+    let found = unify(alloc, &left, &right, true).expect(&rt, "memory");
+    let found = found.expect(&rt, "a unifier");
+    let (bank, mut table) = Bank::new(alloc).expect(&rt, "memory");
+    let term = bank
+        .intern(&rt, alloc, &mut table, &left)
+        .expect(&rt, "memory");
+    let b = bank
+        .intern(&rt, alloc, &mut table, &constant(alloc, B))
+        .expect(&rt, "memory");
+    let literals = [BankLit {
+        positive: true,
+        left: term,
+        right: b,
+    }];
+    for side in [Side::Left, Side::Right] {
+        let size = found
+            .instance_size(&bank, side, &literals)
+            .expect(&rt, "memory");
+        assert_eq!(rt; size, 4);
+    }
+    let size = found.term_size(Side::Left, &left).expect(&rt, "memory");
+    assert_eq!(rt; size, 3);
 }
 
 /// The terms for the first variables that turn a pattern into a target. None where there are none, or the
