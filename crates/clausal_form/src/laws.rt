@@ -6,6 +6,7 @@ ghost use Rattle.signature.specs.Form.{symbol_numbers, nothing_made};
 ghost use Rattle.signature.specs.Symbol.{function_symbol};
 ghost use Rattle.skolem.specs.Matrix.{truth, literal, conjunction, disjunction, matrices_of};
 ghost use Rattle.skolem.specs.Examples.{known, p_literal};
+ghost use Rattle.skolem.specs.Outline.{outline_of, named_outline};
 ghost use Rattle.clausal_form.specs.Examples.{proposition, all_of, one_of, one_skolem_symbol_made};
 ghost use Rattle.clausal_form.specs.FormFunctions.{functions_of};
 ghost use Rattle.clausal_form.specs.Occurring.{matrix_variables};
@@ -47,6 +48,16 @@ pub fn measure_examples()
     ensures product { measured (written (one_of (all_of (1 ∷ 2 ∷ []) ∷ all_of (3 ∷ 4 ∷ []) ∷ [])))
         ≡ record { clauses = 4; symbols = 16; largest = 4 } }
     ensures none { measured [] ≡ record { clauses = 0; symbols = 0; largest = 0 } }
+{}
+
+/// `p(X0) & (p(X1) | p(X2))` has clauses of 3 and of 6 symbols. A name that stands for them in a product that was begun behind one variable has the
+/// argument X0, and its largest defining clause 9 symbols. With `$true` a product has no clause.
+pub fn outline_examples()
+    ensures listed { outline_of (conjunction (matrices_of (literal (p_literal 0) ∷ disjunction 0 (matrices_of (literal (p_literal 1) ∷ literal (p_literal 2) ∷ [])) ∷ [])))
+        ≡ record { clauses = 2; largest = 6; defining = 0; variables = 0 ∷ 1 ∷ 2 ∷ [] } }
+    ensures named { named_outline 1 (record { clauses = 2; largest = 6; defining = 0; variables = 0 ∷ 1 ∷ 2 ∷ [] })
+        ≡ record { clauses = 1; largest = 3; defining = 9; variables = 0 ∷ [] } }
+    ensures none { outline_of (one_of (all_of (1 ∷ 2 ∷ []) ∷ truth ∷ [])) ≡ record { clauses = 0; largest = 0; defining = 0; variables = [] } }
 {}
 
 /// A product with a member that has no clauses has none of its variables; function symbols keep their numbers among the predicates.
