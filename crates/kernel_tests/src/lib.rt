@@ -3,6 +3,7 @@
 
 #[cfg(test)]
 mod canonical;
+pub mod plain;
 #[cfg(test)]
 mod steps;
 #[cfg(test)]

@@ -1,11 +1,9 @@
 -- The lines of a refuted pool: a refutation of the problem's form that can be made anew, and read again.
 use Rattle.std.proofs.Common.{◌≡◌, ℕ, Bool, ◌+◌, ◌-◌, ◌<◌, List, [], ◌∷◌, true, false, length, Option, None, Some, refl, ap, sym, ◌∙◌, subst, arith, length-append}
 use Rattle.std.specs.Prelude.{slice_get, position, if◌then◌else◌}
-use Rattle.std.specs.List.{AllByRecursion}
 use Rattle.std.proofs.lemmas.Bool.{false≢true}
 use Rattle.std.proofs.lemmas.Option.{none-some}
 use Rattle.fol_base.specs.Clause.{TreeClause}
-use Rattle.fol_base.specs.Literal.{clause_of}
 use Rattle.fol_base.specs.WellFormed.{SymbolUse}
 use Rattle.tptp_tree.specs.declared.problem.Annotated.{Annotated}
 use Rattle.signature.specs.Form.{clausal_form}

@@ -6,6 +6,7 @@
 mod entries;
 #[cfg(test)]
 mod files;
+pub mod limits;
 #[cfg(test)]
 mod problems;
 #[cfg(test)]
