@@ -1,6 +1,6 @@
 -- Lines of a derivation: as they are written, and as the kernel has them.
 use mathlib.Core.Bool.{beq}
-use Rattle.std.specs.Prelude.{ℕ, Bool, true, false, ◌&&◌, List, [], ◌∷◌, ◌++◌, map, bytes_eq, if◌then◌else◌}
+use Rattle.std.specs.Prelude.{ℕ, Bool, ◌&&◌, List, [], ◌∷◌, ◌++◌, map, bytes_eq, if◌then◌else◌}
 use Rattle.std.specs.List.{list_any}
 pub use Rattle.tptp_tree.specs.Equality.{same_term, same_terms, same_formula}
 use Rattle.tptp_tree.specs.Entries.{AnnotatedTree, role_word}

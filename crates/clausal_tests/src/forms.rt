@@ -2,7 +2,7 @@
 
 use crate::printing::print_clauses;
 use crate::texts::{
-    conjunctions, equivalences, named_clause, names_under_some, problem_of, repeated,
+    conjunctions, equivalences, named_clause, names_under_some, nested, problem_of, repeated,
 };
 use clausal_form::{Clausal, FormFault, clausal};
 use std::alloc::Global;
@@ -141,6 +141,24 @@ fn limits_of_formulas(rt: HostRuntime) {
     let atom = format!(in alloc; "![X]:q({}X)", variables.as_str()).expect(&rt, "memory");
     let text = equivalences(&rt, alloc, 16, atom.as_str());
     expect_counts(&rt, alloc, text.as_slice(), "TooHeavy a");
+}
+
+/// Literals of 2,103 symbols each, which are over 2^28 together.
+#[test]
+fn literals_over_the_total(rt: HostRuntime) {
+    let alloc = rt.alloc();
+    let arguments = "a,".repeat(alloc, 2_100).expect(&rt, "memory");
+    let atom = format!(in alloc; "q({}a)", arguments.as_str()).expect(&rt, "memory");
+    let text = equivalences(&rt, alloc, 17, atom.as_str());
+    expect_counts(&rt, alloc, text.as_slice(), "TotalLimit a");
+}
+
+/// 498 levels of brackets, with connectives in turn.
+#[test]
+fn deep_connectives(rt: HostRuntime) {
+    let alloc = rt.alloc();
+    let text = nested(&rt, alloc, "p&(q|(", 249, "))", "p");
+    expect_counts(&rt, alloc, text.as_slice(), "250 4 hc0");
 }
 
 /// The clauses with names come first, and those that define them behind. A name has the variables that were made before its product.

@@ -77,9 +77,21 @@ pub(crate) fn equivalences(
     count: usize,
     innermost: &str,
 ) -> Vec<u8> {
-    let close = ")".repeat(alloc, count).expect(rt, "memory");
-    let after = format!(in alloc; "{innermost}{close}).").expect(rt, "memory");
-    repeated(rt, alloc, "fof(a,axiom,", "p<=>(", count, after.as_str())
+    nested(rt, alloc, "p<=>(", count, ")", innermost)
+}
+
+/// A formula with a part before it and one behind it, each so many times.
+pub(crate) fn nested(
+    rt: &impl Abort,
+    alloc: Global,
+    open: &str,
+    count: usize,
+    close: &str,
+    innermost: &str,
+) -> Vec<u8> {
+    let behind = close.repeat(alloc, count).expect(rt, "memory");
+    let after = format!(in alloc; "{innermost}{behind}).").expect(rt, "memory");
+    repeated(rt, alloc, "fof(a,axiom,", open, count, after.as_str())
 }
 
 /// The numbers from 0 on, so many, each in that text, with that text between two of them.

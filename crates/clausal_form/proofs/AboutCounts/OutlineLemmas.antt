@@ -1,15 +1,15 @@
 -- The outline of a matrix tells how many clauses it has, how large they and those that define names are, and which variables are in them.
-use Rattle.std.proofs.Common.{◌≡◌, ℕ, zero, suc, ◌+◌, ◌*◌, ◌<◌, ◌≤◌, ◌==◌, Bool, true, false, ◌&&◌, ◌||◌, List, [], ◌∷◌, ◌++◌, length, map, refl, ap, sym, subst, ◌∙◌, append-nil, append_assoc, arith}
-use Rattle.std.specs.Prelude.{max, nat_le, nat_lt, flat_map, not, if◌then◌else◌}
+use Rattle.std.proofs.Common.{◌≡◌, ℕ, zero, suc, ◌+◌, ◌*◌, ◌≤◌, ◌==◌, Bool, true, false, ◌&&◌, ◌||◌, List, [], ◌∷◌, ◌++◌, length, map, refl, ap, sym, subst, ◌∙◌, append-nil, append_assoc, arith}
+use Rattle.std.specs.Prelude.{max, nat_le, nat_lt, not, if◌then◌else◌}
 use Rattle.std.specs.List.{list_any}
 use Rattle.std.proofs.lemmas.Bool.{and_parts, eq-eqb, eqb-true, leb-true, ne_eqb, true≢false}
 use Rattle.std.proofs.lemmas.List.Sums.{sum_by-cons}
-use Rattle.fol_base.specs.Tree.{variable, trees_of, tree_size, trees_size, trees_variables, true_tree}
+use Rattle.fol_base.specs.Tree.{variable, trees_of, trees_variables}
 use Rattle.fol_base.specs.Clause.{TreeLiteral, literal_size, literal_variables}
 use Rattle.signature.specs.Clausal.{SymbolNumbers, Made, Worked, Literals, all_pairs, is_large, is_large_count, named, product, applied, atom_literal, made_in_order}
 use Rattle.skolem.specs.Matrix.{MatrixTree, truth as true_matrix, falsity as false_matrix, literal, conjunction as all_of, disjunction as some_of, MatrixTrees, no_matrices, matrix_then}
 use Rattle.skolem.specs.MatrixClauses.{matrix_clauses, listed_matrices, product_of_matrices}
-use Rattle.skolem.specs.Outline.{ClauseOutline, constant_outline, literal_outline, sum_outline, pairs_outline_of, pairs_outline, name_size, named_outline, product_outline, joined_outline, outline_of, outlines_of}
+use Rattle.skolem.specs.Outline.{ClauseOutline, constant_outline, sum_outline, pairs_outline_of, pairs_outline, name_size, named_outline, product_outline, outline_of, outlines_of}
 use Rattle.skolem.proofs.AboutBindings.BoundTermLemmas.{variables-of, sizes-of}
 use Rattle.clausal_form.specs.Occurring.{clauses_variables}
 use Rattle.clausal_form.specs.Measure.{literals_size, largest, product_largest}

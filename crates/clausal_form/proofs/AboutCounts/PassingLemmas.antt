@@ -1,6 +1,6 @@
 -- The limits that a formula passes by the literals of its normal form.
-use Rattle.std.proofs.Common.{◌≡◌, ℕ, ◌+◌, ◌<◌, ◌≤◌, Bool, true, false, List, [], ◌∷◌, ◌++◌, length, refl, ap, sym, subst, ◌∙◌, arith}
-use Rattle.std.specs.Prelude.{max, not, nat_lt, Option, None, Some, Err, if◌then◌else◌}
+use Rattle.std.proofs.Common.{◌≡◌, ℕ, ◌+◌, ◌<◌, ◌≤◌, Bool, true, false, List, [], ap, sym, subst, ◌∙◌, arith}
+use Rattle.std.specs.Prelude.{max, not, nat_lt, None, Some, Err, if◌then◌else◌}
 use Rattle.std.proofs.lemmas.Bool.{lt-ltb, le-ltb}
 use Rattle.std.proofs.lemmas.List.Sums.{sum_by-append}
 use Rattle.tptp_tree.specs.Entries.{is_conjecture}
@@ -9,7 +9,6 @@ use Rattle.tptp_tree.specs.declared.problem.Annotated.{Annotated}
 use Rattle.fol_base.specs.declared.limits.TheConstants.{MOST_SYMBOLS, MOST_FORM_SYMBOLS}
 use Rattle.signature.specs.declared.symbol.Symbol.{Symbol}
 use Rattle.signature.specs.Environment.{closed}
-use Rattle.signature.specs.Clausal.{SymbolNumbers, Made, Literals}
 use Rattle.signature.specs.Form.{nothing_made}
 use Rattle.formula_nnf.specs.NormalForm.{normal_form}
 use Rattle.skolem.specs.Matrix.{MatrixTree}

@@ -1,9 +1,9 @@
 -- The symbols of the literals in a form's clauses, as they are written, are no more than those of its clauses with the ones that define names.
-use Rattle.std.proofs.Common.{◌≡◌, ℕ, zero, suc, ◌+◌, ◌*◌, ◌<◌, ◌≤◌, min, Bool, true, false, not, ◌&&◌, List, [], ◌∷◌, ◌++◌, length, map, refl, ap, sym, ◌∙◌, arith}
+use Rattle.std.proofs.Common.{◌≡◌, ℕ, zero, suc, ◌+◌, ◌*◌, ◌≤◌, Bool, true, false, not, List, [], ◌∷◌, ◌++◌, length, map, refl, ap, sym, arith}
 use Rattle.std.specs.Prelude.{nat_lt, if◌then◌else◌}
 use Rattle.std.proofs.lemmas.Bool.{and_parts, true≢false}
 use Rattle.std.proofs.lemmas.List.Sums.{sum_by-append, sum_by-cons}
-use Rattle.tptp_tree.specs.Term.{TermTrees, term_size, terms_size}
+use Rattle.tptp_tree.specs.Term.{TermTrees}
 use Rattle.tptp_tree.specs.Formula.{FormulaTree, truth, falsity, predicate, equation, negation, conjunction, disjunction, connected, quantified, FormulaTrees, no_formulas, formula_then}
 use Rattle.fol_base.specs.Clause.{TreeLiteral, literal_size}
 use Rattle.fol_base.specs.Tree.{application}
@@ -14,12 +14,10 @@ use Rattle.signature.specs.Clausal.{SymbolNumbers, Made, Worked, Scope, Literals
 use Rattle.skolem.specs.Matrix.{MatrixTree, truth as true_matrix, falsity as false_matrix, literal, conjunction as all_of, disjunction as some_of, MatrixTrees, no_matrices, matrix_then}
 use Rattle.skolem.specs.MatrixClauses.{matrix_clauses, listed_matrices, product_of_matrices}
 use Rattle.skolem.specs.Skolemized.{Skolemized, skolemized, skolemized_list}
-use Rattle.skolem.specs.SkolemizedLaws.{is_predicate}
-use Rattle.clausal_form.specs.Occurring.{has_clauses, all_have_clauses}
 use Rattle.clausal_form.specs.Heavy.{form_has_clauses, all_forms_have_clauses, written_total, written_totals}
 use Rattle.clausal_form.specs.Measure.{literals_size, symbols_in}
 use Rattle.clausal_form.proofs.AboutNaming.OccurringLemmas.{is_some}
-use Rattle.clausal_form.proofs.AboutCounts.HeavyLemmas.{has-clauses, product-some, form-has, all-forms-have, written-size, written-sizes}
+use Rattle.clausal_form.proofs.AboutCounts.HeavyLemmas.{has-clauses, product-some, form-has, written-size, written-sizes}
 use Rattle.clausal_form.proofs.AboutCounts.MeasureLemmas.{before-symbols, pairs-symbols}
 
 -- the symbols of a work's clauses, and of those that define names

@@ -1,10 +1,8 @@
-use Rattle.std.proofs.Common.{not, ap, subst, sym, ◌∙◌, arith}
-use Rattle.std.specs.Prelude.{true}
+use Rattle.std.proofs.Common.{not, subst, sym, arith}
 use Rattle.tptp_tree.specs.Entries.{is_conjecture}
 use Rattle.signature.specs.Occurrences.{formula_symbols}
 use Rattle.signature.specs.Environment.{closed}
 use Rattle.formula_nnf.specs.NormalForm.{normal_form}
-use Rattle.formula_nnf.specs.Shape.{nnf_tree}
 use Rattle.tptp_tree.specs.declared.problem.Annotated.{Annotated}
 use Rattle.tptp_tree.specs.Shape.{formula_of}
 use Rattle.tptp_tree.specs.Formula.{FormulaTree}
