@@ -94,7 +94,8 @@ AreSame xs ys = (v : ℕ) → v < 2 ^ 32 - 1 → list_any (λ w. v == w) xs ≡ 
 abbrev pub told : ℕ → ℕ
 told size = min size (MOST_SYMBOLS + 1)
 
--- Once a clause is over the limit, less is told of the others: only how many they are.
+-- The number of clauses and the largest that defines a name are always told. Once one of these is over the limit, the largest clause isn't, and
+-- once any clause is over it, the variables aren't.
 pub record IsOutline (a : Outline) (t : ClauseOutline) : Type 0 where
   pub clauses : a.clauses ≡ t.clauses
   pub defining : a.defining ≡ told t.defining

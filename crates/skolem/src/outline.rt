@@ -27,7 +27,7 @@ const OVER_LIMIT: u64 = MOST_SYMBOLS + 1;
 const NAME_SYMBOLS: u64 = 2;
 
 /// The last number that no variable has, so that all are below it.
-const NO_VARIABLE: u32 = u32::MAX;
+const OVER_ALL_VARIABLES: u32 = u32::MAX;
 
 /// How long a list of variables gets before its repetitions are dropped for the first time.
 const FIRST_ROOM: usize = 4096;
@@ -182,12 +182,13 @@ fn sum(alloc: Global, first: Outline, second: Outline) -> Mem<Outline>
         → IsOutline outline (sum_outline t u)) }
 {
     let clauses = first.clauses.checked_add(second.clauses).ok_or(NoMemory)?;
-    let room = first.room.max(second.room);
-    let Gathered { variables, room } = together(alloc, first.variables, &second.variables, room)?;
+    let largest = first.largest.max(second.largest);
+    let defining = first.defining.max(second.defining);
+    let Together { variables, room } = gathered(alloc, largest.max(defining), first, second)?;
     Ok(Outline {
         clauses,
-        largest: first.largest.max(second.largest),
-        defining: first.defining.max(second.defining),
+        largest,
+        defining,
         variables,
         room,
     })
@@ -225,11 +226,11 @@ fn pairs(alloc: Global, first: Outline, second: Outline) -> Mem<Outline>
             room: FIRST_ROOM,
         });
     }
-    let room = first.room.max(second.room);
-    let Gathered { variables, room } = together(alloc, first.variables, &second.variables, room)?;
+    let largest = first.largest.saturating_add(second.largest).min(OVER_LIMIT);
+    let Together { variables, room } = gathered(alloc, largest.max(defining), first, second)?;
     Ok(Outline {
         clauses,
-        largest: first.largest.saturating_add(second.largest).min(OVER_LIMIT),
+        largest,
         defining,
         variables,
         room,
@@ -255,22 +256,31 @@ fn named(alloc: Global, began: u32, part: Outline) -> Mem<Outline>
 
 /// Variables, and how long their list gets before its repetitions are dropped.
 #[derive(Drop)]
-struct Gathered {
+struct Together {
     variables: Vec<u32>,
     room: usize,
 }
 
-/// The variables of both. Repetitions are dropped where the list is longer than `room`, and it gets room for twice what is left: so a list is
-/// at most about twice as long as there are variables in it, and each is sorted a few times.
-fn together(alloc: Global, first: Vec<u32>, second: &Vec<u32>, room: usize) -> Mem<Gathered>
-    ensures { IfOk result (λ both. AreSame both.variables.items (first.items ++ second.now.items)) }
+/// The variables of both, where the largest clause has that size. Over the limit nothing asks for them, and none are gathered. Repetitions are
+/// dropped where the list is longer than its room, and it gets room for twice what is left: so a list is at most about twice as long as there
+/// are variables in it, and each is sorted a few times.
+fn gathered(alloc: Global, size: u64, first: Outline, second: Outline) -> Mem<Together>
+    ensures { IfOk result (λ both. size ≤ MOST_SYMBOLS
+        → AreSame both.variables.items (first.variables.items ++ second.variables.items)) }
 {
-    let mut variables = first;
-    variables.extend_from_slice(second.as_slice())?;
-    if variables.len() <= room {
-        return Ok(Gathered { variables, room });
+    if size > MOST_SYMBOLS {
+        return Ok(Together {
+            variables: Vec::new(alloc),
+            room: FIRST_ROOM,
+        });
     }
-    let variables = made_in_order(alloc, NO_VARIABLE, &mut variables)?;
+    let room = first.room.max(second.room);
+    let mut variables = first.variables;
+    variables.extend_from_slice(second.variables.as_slice())?;
+    if variables.len() <= room {
+        return Ok(Together { variables, room });
+    }
+    let variables = made_in_order(alloc, OVER_ALL_VARIABLES, &mut variables)?;
     let room = variables.len().saturating_mul(2).max(FIRST_ROOM);
-    Ok(Gathered { variables, room })
+    Ok(Together { variables, room })
 }

@@ -54,7 +54,7 @@ same-order n xs ys l h = agreeing xs ys 0 n h (omega (arith, l))
 pub summed :
     (a b c : Outline) (t u : ClauseOutline)
     → c.clauses ≡ a.clauses + b.clauses → c.largest ≡ max a.largest b.largest → c.defining ≡ max a.defining b.defining
-    → AreSame c.variables.items (a.variables.items ++ b.variables.items)
+    → (max c.largest c.defining ≤ MOST_SYMBOLS → AreSame c.variables.items (a.variables.items ++ b.variables.items))
     → IsOutline a t → IsOutline b u → IsOutline c (sum_outline t u)
 summed a b c t u n l d v h g =
     record {
@@ -63,7 +63,8 @@ summed a b c t u n l d v h g =
       largest = λ q. omega (arith, l, h.largest (omega (arith, q)), g.largest (omega (arith, q)));
       variables = λ q r.
           same-append a.variables.items b.variables.items t.variables u.variables c.variables.items
-          (h.variables (omega (arith, q)) (omega (arith, r))) (g.variables (omega (arith, q)) (omega (arith, r))) v;
+          (h.variables (omega (arith, q)) (omega (arith, r))) (g.variables (omega (arith, q)) (omega (arith, r)))
+          (v (omega (arith, q, r, l, d, h.defining, g.defining, h.largest (omega (arith, q)), g.largest (omega (arith, q)))));
     }
 
 times-same : (a b : Outline) (t u : ClauseOutline) → IsOutline a t → IsOutline b u → a.clauses * b.clauses ≡ t.clauses * u.clauses
@@ -86,7 +87,7 @@ pub paired-some :
     (a b c : Outline) (t u : ClauseOutline) (n : ℕ)
     → n ≡ a.clauses * b.clauses → (n ≡ 0 → ⊥) → c.clauses ≡ n
     → c.largest ≡ min (min (a.largest + b.largest) (2 ^ 64 - 1)) (MOST_SYMBOLS + 1) → c.defining ≡ max a.defining b.defining
-    → AreSame c.variables.items (a.variables.items ++ b.variables.items)
+    → (max c.largest c.defining ≤ MOST_SYMBOLS → AreSame c.variables.items (a.variables.items ++ b.variables.items))
     → IsOutline a t → IsOutline b u → IsOutline c (pairs_outline t u)
 paired-some a b c t u n m z e l d v h g =
     subst (λ s. IsOutline c (pairs_outline_of s t u)) (sym (differs (t.clauses * u.clauses) 0 (λ q. z (m ∙ times-same a b t u h g ∙ q))))
@@ -96,7 +97,8 @@ paired-some a b c t u n m z e l d v h g =
       largest = λ q. omega (arith, l, h.largest (omega (arith, q)), g.largest (omega (arith, q)));
       variables = λ q r.
           same-append a.variables.items b.variables.items t.variables u.variables c.variables.items
-          (h.variables (omega (arith, q)) (omega (arith, r))) (g.variables (omega (arith, q)) (omega (arith, r))) v;
+          (h.variables (omega (arith, q)) (omega (arith, r))) (g.variables (omega (arith, q)) (omega (arith, r)))
+          (v (omega (arith, q, r, l, d, h.defining, g.defining, h.largest (omega (arith, q)), g.largest (omega (arith, q)))));
     })
 
 -- ---- names
