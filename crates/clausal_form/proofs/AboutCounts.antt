@@ -1,5 +1,6 @@
 -- Sizes and faults.
 pub mod CountingLemmas
+pub mod EndLemmas
 pub mod FaultLemmas
 pub mod HeavyLemmas
 pub mod LengthLemmas

@@ -1,12 +1,15 @@
 -- What the program's naming is: the names that were made, and the matrices for which they stand.
-use Rattle.std.specs.Prelude.{◌≡◌, ℕ, List, [], ◌∷◌, map, flat_map}
+use Rattle.std.specs.Prelude.{◌≡◌, ⊤, ℕ, ◌<◌, List, [], ◌∷◌, map, flat_map}
+use Rattle.fol_base.specs.declared.limits.TheConstants.{MOST_SYMBOLS}
 use Rattle.signature.specs.Clausal.{SymbolNumbers, Made, Worked, Literals}
 use Rattle.skolem.specs.Shape.{matrix_tree}
 use Rattle.clausal_form.specs.Written.{written}
-use Rattle.clausal_form.specs.Measure.{measure_of, capped_measured}
+use Rattle.clausal_form.specs.Measure.{measure_of, capped_measured, largest}
 use Rattle.clausal_form.specs.declared.measure.Measure.{Measure}
 use Rattle.clausal_form.specs.declared.naming.Definition.{Definition}
 use Rattle.clausal_form.specs.declared.naming.Naming.{Naming}
+use Rattle.clausal_form.specs.declared.naming.NamingEnd.{NamingEnd}
+use Rattle.clausal_form.specs.declared.naming.NamingEnd.TheVariants.{NoMemory, TooHeavy}
 
 -- the negated atom of the name before each clause
 abbrev pub definition_clauses : Definition → List Literals
@@ -31,3 +34,8 @@ pub record IsWork (s : Naming) (w : Worked) (cs : List Literals) (a : Measure) :
   pub made : naming_made s ≡ w.made
   pub measured : IsMeasured a cs
   pub defining : IsMeasured s.measure (defining_clauses s)
+
+-- why naming ended before it had all of the clauses that define names: want of memory, or one of them is over the limit
+abbrev pub IsEnd : NamingEnd → List Literals → Type 0
+IsEnd NoMemory defining = ⊤
+IsEnd TooHeavy defining = MOST_SYMBOLS < largest defining

@@ -21,7 +21,7 @@ use crate::closing::closing_names;
 use crate::counting::count_skolem_symbols;
 use crate::fault::{FormCause, FormFault, counted_with, expands_too_far, refused};
 use crate::formula::{Named, formula_matrix, write_formula};
-use crate::naming::{Names, Naming, Part, named_matrix};
+use crate::naming::{Names, Naming, NamingEnd, Part, named_matrix};
 use crate::writing::Output;
 use plain_types::{Mem, NoMemory, Text, Texts};
 use signature::Signature;
@@ -104,7 +104,11 @@ fn add_clauses<'a>(
     let skolem = sum_of(form.next, arities.as_slice().len())?;
     let so_far = mem::replace(&mut form.naming.arities, Vec::new(alloc));
     let mut naming = Naming::new(alloc, form.naming.first, so_far);
-    let Part { matrix, measure } = named_matrix(alloc, matrix, &mut naming)?;
+    let Part { matrix, measure } = match named_matrix(alloc, matrix, &mut naming) {
+        Ok(part) => part,
+        Err(NamingEnd::NoMemory) => return Err(FormFault::NoMemory),
+        Err(NamingEnd::TooHeavy) => return Err(refused(alloc, FormCause::TooHeavy, annotated)),
+    };
     let measure = measure.sum(naming.measure)?;
     match counted_with(measure, form.counted, skolem) {
         Err(cause) => Err(refused(alloc, cause, annotated)),

@@ -1,16 +1,17 @@
 // Names for lists of clauses whose products would be large. What is left is a matrix whose products can be written out.
 
-ghost use Rattle.std.specs.Prelude.{◌≡◌, [], ◌∷◌, ◌++◌, ◌+◌, ◌==◌, ◌&&◌, map, length, IfOk};
+ghost use Rattle.std.specs.Prelude.{◌≡◌, [], ◌∷◌, ◌++◌, ◌+◌, ◌==◌, ◌&&◌, map, length, IfOk, IfErr};
 ghost use Rattle.signature.specs.Clausal.{all_pairs, named, product};
 ghost use Rattle.skolem.specs.Matrix.{matrices_of};
 ghost use Rattle.skolem.specs.Shape.{matrix_tree};
 ghost use Rattle.skolem.specs.MatrixClauses.{matrix_clauses, listed_matrices, product_of_matrices};
 ghost use Rattle.clausal_form.specs.Measure.{measure_of, capped_measured};
 ghost use Rattle.clausal_form.specs.Written.{written, all_written, product_written};
-ghost use Rattle.clausal_form.specs.Naming.{IsMeasured, IsWork, defining_clauses, definition_clauses, naming_made, naming_numbers};
+ghost use Rattle.clausal_form.specs.Naming.{IsMeasured, IsWork, IsEnd, defining_clauses, definition_clauses, naming_made, naming_numbers};
 
 use crate::arguments::name_arguments;
 use crate::measure::Measure;
+use fol_base::MOST_SYMBOLS;
 use formula_nnf::is_large;
 use plain_types::{Mem, NoMemory};
 use skolem::{Matrices, Matrix, MatrixLiteral};
@@ -48,6 +49,25 @@ pub(crate) struct Part<'a> {
     pub measure: Measure,
 }
 
+/// Why naming ends early.
+#[derive(Clone, Copy)]
+pub(crate) enum NamingEnd {
+    NoMemory,
+    /// A clause that defines a name has over `MOST_SYMBOLS` symbols, so that the formula is refused whatever else it has.
+    TooHeavy,
+}
+
+impl From<NoMemory> for NamingEnd {
+    ghost use Rattle.std.specs.Prelude.{◌≡◌};
+    ghost use Rattle.clausal_form.specs.declared.naming.NamingEnd.TheVariants.{NoMemory as no_memory};
+
+    ghost from_gives = { λ _ e. e ≡ no_memory };
+
+    fn from(_error: NoMemory) -> NamingEnd {
+        NamingEnd::NoMemory
+    }
+}
+
 impl<'a> Naming<'a> {
     /// No name is made yet in the formula.
     pub(crate) fn new(alloc: Global, first: u32, arities: Vec<u32>) -> Naming<'a>
@@ -71,11 +91,13 @@ pub(crate) fn named_matrix<'a>(
     alloc: Global,
     matrix: Matrix<'a>,
     naming: &mut Naming<'a>,
-) -> Mem<Part<'a>>
+) -> Result<Part<'a>, NamingEnd>
     requires { IsMeasured naming.old.measure (defining_clauses naming.old) }
     ensures work { IfOk result (λ part. IsWork naming.new
         (matrix_clauses (naming_numbers naming.old.first) (matrix_tree matrix.entry) (naming_made naming.old))
         (written (matrix_tree part.matrix)) part.measure) }
+    ensures ended { IfErr result (λ end. IsEnd end
+        (matrix_clauses (naming_numbers naming.old.first) (matrix_tree matrix.entry) (naming_made naming.old)).made.defining) }
     ensures first { IfOk result (λ _. naming.new.first ≡ naming.old.first) }
 {
     match matrix {
@@ -95,11 +117,17 @@ pub(crate) fn named_matrix<'a>(
 
 /// Matrices one after another. Those without clauses are left out.
 #[cycle(named_matrix)]
-fn named_list<'a>(alloc: Global, members: Matrices<'a>, naming: &mut Naming<'a>) -> Mem<Part<'a>>
+fn named_list<'a>(
+    alloc: Global,
+    members: Matrices<'a>,
+    naming: &mut Naming<'a>,
+) -> Result<Part<'a>, NamingEnd>
     requires { IsMeasured naming.old.measure (defining_clauses naming.old) }
     ensures work { IfOk result (λ part. IsWork naming.new
         (listed_matrices (naming_numbers naming.old.first) (matrices_of members.entry) (naming_made naming.old))
         (written (matrix_tree part.matrix)) part.measure) }
+    ensures ended { IfErr result (λ end. IsEnd end
+        (listed_matrices (naming_numbers naming.old.first) (matrices_of members.entry) (naming_made naming.old)).made.defining) }
     ensures first { IfOk result (λ _. naming.new.first ≡ naming.old.first) }
 {
     let mut list = Part {
@@ -152,18 +180,21 @@ fn listed<'a>(alloc: Global, matrix: Matrix<'a>) -> Mem<Matrices<'a>>
     }
 }
 
-/// The product of matrices, from left to right.
+/// The product of matrices, from left to right. The largest clause that defines a name never gets smaller, so the work ends with the first
+/// that is over the limit: each name keeps its arguments, and these can be very many.
 #[cycle(named_matrix)]
 fn named_product<'a>(
     alloc: Global,
     made: u32,
     members: Matrices<'a>,
     naming: &mut Naming<'a>,
-) -> Mem<Part<'a>>
+) -> Result<Part<'a>, NamingEnd>
     requires { IsMeasured naming.old.measure (defining_clauses naming.old) }
     ensures work { IfOk result (λ part. IsWork naming.new
         (product_of_matrices (naming_numbers naming.old.first) made ([] ∷ []) (matrices_of members.entry) (naming_made naming.old))
         (written (matrix_tree part.matrix)) part.measure) }
+    ensures ended { IfErr result (λ end. IsEnd end
+        (product_of_matrices (naming_numbers naming.old.first) made ([] ∷ []) (matrices_of members.entry) (naming_made naming.old)).made.defining) }
     ensures first { IfOk result (λ _. naming.new.first ≡ naming.old.first) }
 {
     let mut product = Part {
@@ -173,6 +204,9 @@ fn named_product<'a>(
     for member in members.into_vec() {
         let part = named_matrix(alloc, member, naming)?;
         product = multiplied(alloc, made, product, part, naming)?;
+        if naming.measure.largest > MOST_SYMBOLS {
+            return Err(NamingEnd::TooHeavy);
+        }
     }
     Ok(product)
 }

@@ -12,6 +12,7 @@ ghost use Rattle.skolem.specs.Skolemized.{skolemized_form, skolemized_symbols, n
 ghost use Rattle.skolem.specs.SkolemizedLaws.{SkolemSymbolsOfMatrixAreCounted, MatrixKeepsClauses, MatrixOfNormalFormKeepsClauses};
 ghost use Rattle.skolem.specs.ProblemLaws.{MatrixOfFormIsThatInProblem, ClausesInProblemAreThoseOfMatrix, NormalFormKeepsKnownSymbols, SkolemSymbolsAreNumberedOn, LaterNamesAreUnused};
 ghost use Rattle.skolem.specs.Literal.{filled, size_under};
+ghost use Rattle.skolem.specs.Outline.{product_outline, told};
 ghost use Rattle.skolem.specs.Examples.{x, y, z, p_of, r_of, f_of, known, p_literal};
 
 /// The matrix of `! [X] : ? [Y] : r(X,Y)` is `r(X0,sk0(X0))`, and sk0 comes after the symbols that are there.
@@ -52,6 +53,28 @@ pub fn clause_examples()
         ≡ (p_literal 0 ∷ p_literal 2 ∷ []) ∷ (p_literal 1 ∷ p_literal 2 ∷ []) ∷ [] }
     ensures before { (skolemized_form known (quantified for_all (x ∷ []) (formula_disjunction (formula_then (p_of x) (formula_then (p_of x) no_formulas))))).matrix
         ≡ disjunction 1 (matrix_then (literal (p_literal 0)) (matrix_then (literal (p_literal 0)) no_matrices)) }
+{}
+
+/// Of a product of more than 64 clauses the longer list is named, and of two of the same length the first: with 8 clauses and 9 the second, whose
+/// variable X1 was made before the work on the product began, with 9 and 9 the first. The name has three symbols with `$true` and the variable.
+/// Without a name 8 and 8 clauses are 64.
+pub fn product_outline_examples()
+    ensures second { product_outline 2 (record { clauses = 8; largest = 5; defining = 0; variables = 0 ∷ [] })
+        (record { clauses = 9; largest = 7; defining = 4; variables = 3 ∷ 1 ∷ [] })
+        ≡ record { clauses = 8; largest = 8; defining = 10; variables = 0 ∷ 1 ∷ [] } }
+    ensures first { product_outline 2 (record { clauses = 9; largest = 5; defining = 0; variables = 0 ∷ [] })
+        (record { clauses = 9; largest = 7; defining = 4; variables = 3 ∷ 1 ∷ [] })
+        ≡ record { clauses = 9; largest = 10; defining = 8; variables = 0 ∷ 3 ∷ 1 ∷ [] } }
+    ensures none { product_outline 2 (record { clauses = 8; largest = 5; defining = 0; variables = 0 ∷ [] })
+        (record { clauses = 8; largest = 7; defining = 4; variables = 3 ∷ 1 ∷ [] })
+        ≡ record { clauses = 64; largest = 12; defining = 4; variables = 0 ∷ 3 ∷ 1 ∷ [] } }
+{}
+
+/// Sizes over 4,000 are not told apart.
+pub fn told_examples()
+    ensures within { told 4000 ≡ 4000 }
+    ensures first_over { told 4001 ≡ 4001 }
+    ensures over { told 5000 ≡ 4001 }
 {}
 
 /// The matrix of a normal form has as many Skolem symbols as are counted.

@@ -166,7 +166,7 @@ abbrev outline_by : ℕ → Bool → Bool → ClauseOutline → ClauseOutline �
 outline_by began large longer t u =
     if large then (if longer then pairs_outline t (named_outline began u) else pairs_outline (named_outline began t) u) else pairs_outline t u
 
-tells-product :
+pub tells-product :
     (n : SymbolNumbers) (began before : ℕ) (t u : ClauseOutline) (cs ds : List Literals) (m : Made)
     → Tells t cs → Tells u ds → largest m.defining ≡ max before (max t.defining u.defining)
     → TellsWork (product_outline began t u) before (product n began cs ds m)
@@ -246,7 +246,7 @@ mutual
         defining = rest.defining;
       }
 
-  tells-products :
+  pub tells-products :
       (n : SymbolNumbers) (began : ℕ) (xs : MatrixTrees) (m : Made) (cs : List Literals) (t : ClauseOutline) (before : ℕ)
       → Tells t cs → largest m.defining ≡ max before t.defining
       → TellsWork (outlines_of false began t xs) before (product_of_matrices n began cs xs m)

@@ -1,6 +1,6 @@
 -- The limits that a formula passes by the literals of its normal form.
-use Rattle.std.proofs.Common.{◌≡◌, ℕ, ◌+◌, ◌<◌, ◌≤◌, Bool, true, false, List, [], ap, sym, subst, ◌∙◌, arith}
-use Rattle.std.specs.Prelude.{max, not, nat_lt, None, Some, Err, if◌then◌else◌}
+use Rattle.std.proofs.Common.{◌≡◌, ℕ, ◌+◌, ◌<◌, ◌≤◌, Bool, true, false, List, [], refl, ap, sym, subst, ◌∙◌, arith}
+use Rattle.std.specs.Prelude.{max, not, flat_map, nat_lt, None, Some, Err, if◌then◌else◌}
 use Rattle.std.proofs.lemmas.Bool.{lt-ltb, le-ltb}
 use Rattle.std.proofs.lemmas.List.Sums.{sum_by-append}
 use Rattle.tptp_tree.specs.Entries.{is_conjecture}
@@ -19,10 +19,12 @@ use Rattle.clausal_form.specs.Fault.{limit_fault, counted_in}
 use Rattle.clausal_form.specs.Formula.{Passes, IsMatrixOrCause}
 use Rattle.clausal_form.specs.Heavy.{heavy_matrix, heavy_form, written_total}
 use Rattle.clausal_form.specs.Measure.{literals_size, symbols_in, largest}
+use Rattle.clausal_form.specs.Naming.{definition_clauses, naming_made, naming_numbers}
+use Rattle.clausal_form.specs.declared.naming.Naming.{Naming}
 use Rattle.clausal_form.specs.declared.fault.FormCause.{FormCause}
 use Rattle.clausal_form.specs.declared.fault.FormCause.TheVariants.{TooHeavy, TotalLimit}
 use Rattle.clausal_form.proofs.AboutCounts.HeavyLemmas.{heavy-largest, form-heavy}
-use Rattle.clausal_form.proofs.AboutCounts.OutlineLemmas.{all-told}
+use Rattle.clausal_form.proofs.AboutCounts.OutlineLemmas.{tells, all-told}
 use Rattle.clausal_form.proofs.AboutCounts.TotalLemmas.{total-so}
 
 too-heavy : (size total : ℕ) → nat_lt MOST_SYMBOLS size ≡ true → limit_fault size total ≡ Some TooHeavy
@@ -41,6 +43,14 @@ pub outline-passes :
     (x : MatrixTree) (size : ℕ) → size ≡ told (max (outline_of x).largest (outline_of x).defining) → MOST_SYMBOLS < size → Passes TooHeavy x
 outline-passes x size t h n m before after cs d e =
     too-heavy (largest cs) (before + counted_in cs + after) (lt-ltb MOST_SYMBOLS (largest cs) (omega (arith, all-told n x m cs d e, t, h)))
+
+-- naming ended with a clause that defines a name and is over the limit
+pub end-passes :
+    (x : MatrixTree) (begun : Naming) → begun.definitions.items ≡ []
+    → MOST_SYMBOLS < largest (matrix_clauses (naming_numbers begun.first) x (naming_made begun)).made.defining → Passes TooHeavy x
+end-passes x begun d h =
+    outline-passes x (told (max (outline_of x).largest (outline_of x).defining)) refl
+    (omega (arith, h, (tells (naming_numbers begun.first) x (naming_made begun)).defining, ap (λ ds. largest (flat_map definition_clauses ds)) d))
 
 -- it isn't, and all literals together are
 pub total-passes :
