@@ -1,6 +1,6 @@
 // What no clause says of written derivations: that the calls succeed where there is memory.
 
-ghost use Rattle.std.specs.Prelude.{◌≡◌, length};
+ghost use Rattle.std.specs.Prelude.{IfOk, ◌≡◌, length};
 ghost use Rattle.kernel_steps.specs.declared.step.Step.TheVariants.{Clausify};
 ghost use Rattle.tstp_writer.specs.Cone.{NeedEarlier};
 
@@ -8,9 +8,8 @@ use clausal_form::clausal;
 use fol_base::{Clause, Literals};
 use kernel_steps::{Derivation, Line, Step};
 use outside::{Files, MemFile, SureLibrary};
-use plain_types::Names;
+use plain_types::{Mem, Names};
 use std::alloc::Global;
-use std::process::Abort;
 use tptp_problem::read_problem;
 use tstp_checker::{Accepted, check};
 use tstp_writer::{cone, write_lines};
@@ -33,22 +32,22 @@ fn leaf(alloc: Global, number: u64) -> Line
 }
 
 /// Three lines that need no other.
-fn leaves(rt: &impl Abort, alloc: Global) -> Derivation
-    ensures length { length result ≡ 3 }
-    ensures earlier { NeedEarlier result }
+fn leaves(alloc: Global) -> Mem<Derivation>
+    ensures length { IfOk result (λ lines. length lines ≡ 3) }
+    ensures earlier { IfOk result (λ lines. NeedEarlier lines) }
 {
     let mut lines = Derivation::new(alloc);
-    lines.push(leaf(alloc, 0)).expect(rt, "memory");
-    lines.push(leaf(alloc, 1)).expect(rt, "memory");
-    lines.push(leaf(alloc, 2)).expect(rt, "memory");
-    lines
+    lines.push(leaf(alloc, 0))?;
+    lines.push(leaf(alloc, 1))?;
+    lines.push(leaf(alloc, 2))?;
+    Ok(lines)
 }
 
 /// Clausify lines that nothing needs are in neither the cone nor the text, and what is written is accepted.
 #[test]
 fn a_leaf_is_written_alone(rt: HostRuntime) {
     let alloc = rt.alloc();
-    let lines = leaves(&rt, alloc);
+    let lines = leaves(alloc).expect(&rt, "memory");
     let needed = cone(alloc, &lines, 1).expect(&rt, "memory");
     assert!(rt; needed.as_slice() == [1u64].as_slice());
     let file = MemFile::new(alloc, FILE, PROBLEM).expect(&rt, "memory");

@@ -1,27 +1,29 @@
 // The canonical forms of clauses.
 
 use fol_base::*;
-use plain_types::Names;
+use plain_types::{Mem, Names};
 use sample_terms::{atom, clause};
 use std::alloc::Global;
-use std::process::Abort;
 
 const P: u32 = 16;
 
 /// The rows are a clause and its canonical form.
 #[test]
 fn variables_are_numbered_by_first_occurrence(rt: HostRuntime) {
-    for (text, form) in [
+    let alloc = rt.alloc();
+    let rows = [
         ("p(X0,X1,X0)", "p(X0,X1,X0)"),
         ("p(X0,X2,X0)", "p(X0,X1,X0)"),
         ("p(X1,X0,X1)", "p(X0,X1,X0)"),
         ("p(X9) | q(X7,X9) = X3", "p(X0) | q(X1,X0) = X2"),
-    ] {
-        let read = clause(rt.alloc(), text).expect(&rt, "memory");
-        let wanted = clause(rt.alloc(), form).expect(&rt, "memory");
-        let made = renumbered(rt.alloc(), &read).expect(&rt, "memory");
-        assert!(rt; same_clause(&made, &wanted), "{text}");
+    ];
+    for (text, form) in rows {
+        let read = clause(alloc, text).expect(&rt, "memory");
+        let wanted = clause(alloc, form).expect(&rt, "memory");
+        let made = renumbered(alloc, &read).expect(&rt, "memory");
+        assert!(rt; same_clause(&made, &wanted));
         assert_eq!(rt; is_canonical(&read), text == form);
+        assert!(rt; is_canonical(&wanted));
     }
 }
 
@@ -40,15 +42,12 @@ fn clauses_are_renamed(rt: HostRuntime) {
 }
 
 /// The clause of one atom of these arguments.
-fn atom_of(rt: &impl Abort, alloc: Global, arguments: Terms) -> Clause {
-    let mut literals = Literals::new(alloc);
-    literals
-        .push(atom(alloc, Term::App(P, arguments)))
-        .expect(rt, "memory");
-    Clause {
-        literals,
+fn atom_of(alloc: Global, arguments: Terms) -> Mem<Clause> {
+    let literals = vec![in alloc; atom(alloc, Term::App(P, arguments))]?;
+    Ok(Clause {
+        literals: Literals::from_vec(literals),
         names: Names::new(alloc),
-    }
+    })
 }
 
 /// More variables than are looked for by a scan, twice each, from the highest number that there is downwards.
@@ -65,8 +64,8 @@ fn many_variables_are_numbered(rt: HostRuntime) {
             numbers.push(Term::Var(number)).expect(&rt, "memory");
         }
     }
-    let read = atom_of(&rt, alloc, arguments);
-    let wanted = atom_of(&rt, alloc, numbers);
+    let read = atom_of(alloc, arguments).expect(&rt, "memory");
+    let wanted = atom_of(alloc, numbers).expect(&rt, "memory");
     let made = renumbered(alloc, &read).expect(&rt, "memory");
     assert!(rt; same_clause(&made, &wanted));
 }

@@ -52,11 +52,11 @@ fn lines_of(alloc: Global, rows: &[Row]) -> Mem<Derivation> {
     Ok(lines)
 }
 
-/// A term for the first variable.
-fn bound_to(rt: &impl Abort, alloc: Global, term: Term) -> Terms {
+/// One constant for the first variable.
+fn bound_to_a(alloc: Global) -> Mem<Terms> {
     let mut terms = Terms::new(alloc);
-    terms.push(term).expect(rt, "memory");
-    terms
+    terms.push(constant(alloc, A))?;
+    Ok(terms)
 }
 
 /// Whether the step concludes this clause.
@@ -88,7 +88,7 @@ fn superposes(rt: HostRuntime) {
         into_side: Side::Left,
         place: Position::new(alloc),
         first_bind: Terms::new(alloc),
-        second_bind: bound_to(&rt, alloc, constant(alloc, A)),
+        second_bind: bound_to_a(alloc).expect(&rt, "memory"),
     };
     assert!(rt; concludes(&rt, alloc, &step, &lines, ("~$ | q(a)", &[-2, -4])));
 }
@@ -118,7 +118,7 @@ fn merges(rt: HostRuntime) {
         parent: 0,
         stays: 0,
         goes: 1,
-        bind: bound_to(&rt, alloc, constant(alloc, A)),
+        bind: bound_to_a(alloc).expect(&rt, "memory"),
     };
     assert!(rt; concludes(&rt, alloc, &step, &lines, ("p(a)", &[])));
 }
@@ -135,7 +135,7 @@ fn factors(rt: HostRuntime) {
             becomes_side: Side::Left,
             other,
             other_side: Side::Left,
-            bind: bound_to(&rt, alloc, constant(alloc, A)),
+            bind: bound_to_a(alloc).expect(&rt, "memory"),
         };
         assert!(rt; concludes(&rt, alloc, &step, &lines, (text, &[])));
     }
@@ -182,18 +182,18 @@ fn chains_names(rt: HostRuntime) {
 }
 
 /// `f(a, .., a)` with so many arguments.
-fn wide(rt: &impl Abort, alloc: Global, count: u64) -> Term {
+fn wide(alloc: Global, count: u64) -> Mem<Term> {
     let mut arguments = Terms::new(alloc);
     for _ in 0..count {
-        arguments.push(constant(alloc, A)).expect(rt, "memory");
+        arguments.push(constant(alloc, A))?;
     }
-    Term::App(F, arguments)
+    Ok(Term::App(F, arguments))
 }
 
 /// What is wrong with the resolution of `p(X0)`, which has none, by a binding of these terms.
-fn fault_of_binding(rt: &impl Abort, alloc: Global, terms: Terms) -> Option<StepFault> {
+fn fault_of_binding(rt: &impl Abort, alloc: Global, terms: Vec<Term>) -> Option<StepFault> {
     let lines = lines_of(alloc, &[("p(X0)", &[])]).expect(rt, "memory");
-    fault(rt, alloc, &resolution(terms), &lines)
+    fault(rt, alloc, &resolution(Terms::from_vec(terms)), &lines)
 }
 
 /// The rows are how many bindings of a constant there are.
@@ -205,13 +205,13 @@ fn finds_faults(rt: HostRuntime) {
         (1, StepFault::Rule),
         (2, StepFault::Binding),
     ] {
-        let mut terms = Terms::new(alloc);
+        let mut terms = Vec::new(alloc);
         for _ in 0..count {
             terms.push(constant(alloc, A)).expect(&rt, "memory");
         }
         assert_eq!(rt; fault_of_binding(&rt, alloc, terms), Some(wanted));
     }
-    let truth = bound_to(&rt, alloc, Term::truth(alloc));
+    let truth = vec![in alloc; Term::truth(alloc)].expect(&rt, "memory");
     assert_eq!(rt;
         fault_of_binding(&rt, alloc, truth),
         Some(StepFault::Binding)
@@ -226,7 +226,8 @@ fn bounds_sizes(rt: HostRuntime) {
         (MOST_BOUND_SYMBOLS - 3, StepFault::Rule),
         (MOST_BOUND_SYMBOLS - 2, StepFault::Binding),
     ] {
-        let terms = bound_to(&rt, alloc, wide(&rt, alloc, count));
+        let term = wide(alloc, count).expect(&rt, "memory");
+        let terms = vec![in alloc; term].expect(&rt, "memory");
         assert_eq!(rt; fault_of_binding(&rt, alloc, terms), Some(wanted));
     }
 }

@@ -5,12 +5,8 @@ ghost use Rattle.std.specs.Bool.{OnTrue};
 ghost use Rattle.lock_tests.specs.declared.notes.Note.{Note};
 
 use std::alloc::Global;
-use std::process::Abort;
 use std::sync::Wait;
 use turn_lock::{Historied, Pass, Turn, TurnLock};
-
-/// The name of the notes, which stays.
-pub const NAME: u64 = 7;
 
 /// What a worker notes down. Its place is its key.
 #[derive(Clone, Copy, Debug, PartialEq, Drop)]
@@ -68,15 +64,6 @@ impl Notes {
             })
             .is_ok()
     }
-}
-
-/// A lock over no notes, and its pass.
-pub fn new_lock<R: Abort>(rt: &R, alloc: Global) -> (TurnLock<Notes>, Pass<Notes>)
-    ensures lock { result.1.lock ≡ result.0 }
-    ensures shares { result.1.shares ≡ 1024 }
-    ensures start { result.1.start ≡ [] }
-{
-    TurnLock::new(alloc, Notes::new(alloc, NAME)).expect(rt, "memory")
 }
 
 /// Adds a note in a turn that changed nothing so far, ends it, and says whether there was memory.

@@ -1,14 +1,14 @@
 // A team of workers that leave notes side by side, each with a pass of its own.
 
-ghost use Rattle.std.specs.Prelude.{◌≡◌, ◌+◌, ◌-◌, ◌<◌, [], All, length};
+ghost use Rattle.std.specs.Prelude.{◌≡◌, ◌+◌, ◌-◌, ◌<◌, [], All, IfSome, length};
 ghost use Rattle.lock_tests.specs.Ready.{IsReady};
 ghost use Rattle.turn_lock.specs.History.{OwnsAdded};
 
-use crate::notes::{Notes, leave_notes, new_lock};
+use crate::notes::{Notes, leave_notes};
 use std::alloc::Global;
-use std::process::Abort;
 use std::snapshot::Snapshot;
 use std::sync::Wait;
+use std::test::Fail;
 use std::thread;
 use std::thread::Threads;
 use turn_lock::{Pass, TurnLock};
@@ -38,18 +38,17 @@ impl Worker {
 }
 
 /// A team, and the pass that is left.
-fn hire<R: Abort>(
-    rt: &R,
+fn hire(
     alloc: Global,
     lock: &TurnLock<Notes>,
     pass: Pass<Notes>,
-) -> (Pass<Notes>, Vec<Worker>)
+) -> Option<(Pass<Notes>, Vec<Worker>)>
     requires lock { pass.lock ≡ lock.now }
     requires shares { pass.shares ≡ 1024 }
-    ensures lock { result.0.lock ≡ lock.now }
-    ensures shares { result.0.shares + length result.1.items ≡ 1024 }
-    ensures start { result.0.start ≡ pass.start }
-    ensures ready { All (λ worker. IsReady lock.now worker.pass) result.1.items }
+    ensures lock { IfSome result (λ hired. hired.0.lock ≡ lock.now) }
+    ensures shares { IfSome result (λ hired. hired.0.shares + length hired.1.items ≡ 1024) }
+    ensures start { IfSome result (λ hired. hired.0.start ≡ pass.start) }
+    ensures ready { IfSome result (λ hired. All (λ worker. IsReady lock.now worker.pass) hired.1.items) }
 {
     let mut pass = pass;
     let mut team = Vec::new(alloc);
@@ -60,9 +59,9 @@ fn hire<R: Abort>(
             number,
             pass: Some(own),
         })
-        .expect(rt, "memory");
+        .ok()?;
     }
-    (pass, team)
+    Some((pass, team))
 }
 
 /// All workers at once.
@@ -100,23 +99,23 @@ fn join_all(lock: &TurnLock<Notes>, pass: Pass<Notes>, team: Vec<Worker>) -> Pas
 }
 
 /// A team leaves notes, its passes are joined, and the lock is closed. The notes stand at the places that the joined pass owns.
-fn leave_by_team<R: Threads + Wait + Abort + Sync>(
+fn leave_by_team<R: Threads + Wait + Sync>(
     rt: &R,
     alloc: Global,
-) -> (Notes, Snapshot<Pass<Notes>>)
-    ensures { OwnsAdded [] result.0.notes.items result.1.value.own }
+) -> Option<(Notes, Snapshot<Pass<Notes>>)>
+    ensures { IfSome result (λ closed. OwnsAdded [] closed.0.notes.items closed.1.value.own) }
 {
-    let (lock, pass) = new_lock(rt, alloc);
-    let (pass, mut team) = hire(rt, alloc, &lock, pass);
+    let (lock, pass) = TurnLock::new(alloc, Notes::new(alloc, 7)).ok()?;
+    let (pass, mut team) = hire(alloc, &lock, pass)?;
     work(rt, &lock, team.as_mut_slice());
     let joined = join_all(&lock, pass, team);
     let known = Snapshot::of(&joined);
-    (lock.close(joined), known)
+    Some((lock.close(joined), known))
 }
 
 #[test]
-fn each_worker_is_noted_once_and_in_order(rt: HostRuntime) {
-    let (closed, _known) = leave_by_team(&rt, rt.alloc());
+fn each_worker_is_noted_once_and_in_order(rt: HostRuntime) -> Result<(), Fail> {
+    let (closed, _known) = leave_by_team(&rt, rt.alloc()).ok_or("no memory")?;
     assert_eq!(rt; closed.notes.len() as u64, TEAM as u64 * EACH);
     for worker in 0..TEAM as u64 {
         let notes = closed.notes.iter().filter(|note| note.worker == worker);
@@ -127,4 +126,5 @@ fn each_worker_is_noted_once_and_in_order(rt: HostRuntime) {
         }
         assert_eq!(rt; next, EACH, "of worker {worker}");
     }
+    Ok(())
 }

@@ -5,7 +5,7 @@ use Rattle.lock_tests.specs.declared.team.Worker.{Worker}
 use Rattle.lock_tests.proofs.team.hire.Goals as goal
 
 pub loop-number-preserved : goal.loop-number-preserved
-loop-number-preserved g c =
+loop-number-preserved c =
     let own = c.split_pass-rest.result.1 in
     let hired : Worker = record { number = c.loop-number.number; pass = Some own } in
     let pushed : c.push.new.self.items ≡ c.loop-number.team.items ++ hired ∷ [] = search rules in

@@ -3,7 +3,7 @@ use Rattle.lock_tests.specs.Ready.{IsReady}
 use Rattle.lock_tests.proofs.team.hire.Given as goal
 
 abbrev pub invariant-loop-number : goal.invariant-loop-number
-invariant-loop-number g l =
+invariant-loop-number l =
     (l.pass.lock ≡ l.lock)
     × (l.pass.shares + l.number ≡ 1024)
     × (length l.team.items ≡ l.number)

@@ -1,4 +1,4 @@
-use Rattle.std.proofs.Common.{rules, ◌≡◌, length, get_or, sym, subst, arith}
+use Rattle.std.proofs.Common.{rules, ◌≡◌, length, sym, subst, arith}
 use Rattle.lock_tests.specs.Ready.{IsReady}
 use Rattle.lock_tests.specs.declared.team.Worker.{Worker}
 use Rattle.lock_tests.proofs.team.work.Goals as goal
@@ -10,4 +10,4 @@ pub returns-clause-ready : goal.returns-clause-ready
 returns-clause-ready g c = λ k d lt.
     let same : length c.for_each_mut.new.s ≡ length c.args.team.now = search rules in
     let called = (c.for_each_mut.ensures k d (omega (arith, lt, same))).1 in
-    subst (λ (w : Worker). IsReady c.args.lock.now w.pass) {y = get_or c.for_each_mut.new.s k d} called.left called.call
+    subst (λ (w : Worker). IsReady c.args.lock.now w.pass) called.left called.call
