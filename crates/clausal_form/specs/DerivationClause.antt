@@ -13,7 +13,7 @@ use Rattle.signature.specs.Symbol.{predicate_symbol, number_of, with_symbol}
 use Rattle.signature.specs.Occurrences.{terms_count, term_symbols, formula_symbols}
 use Rattle.signature.specs.Environment.{Environment, term_names, free_names, different_names, term_under, terms_under}
 use Rattle.signature.specs.Clausal.{atom_literal}
-use Rattle.kernel_steps.specs.Names.{are_sorted}
+use Rattle.kernel_steps.specs.Names.{signed, are_sorted}
 
 -- ---- literals as they are written
 
@@ -50,9 +50,6 @@ name_number names p = position (bytes_eq p) names
 abbrev pub atom_name : List (List ℕ) → FormulaTree → Option ℕ
 atom_name names (predicate p no_terms) = name_number names p
 atom_name names f = None
-
-abbrev pub signed : Bool → ℕ → NameLit
-signed positive n = record { positive = positive; name = n }
 
 -- the signed name that a literal is
 abbrev pub literal_name : List (List ℕ) → FormulaTree → Option NameLit

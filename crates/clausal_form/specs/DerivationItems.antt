@@ -5,13 +5,14 @@ use Rattle.plain_types.specs.declared.sequence.NameLit.{NameLit}
 use Rattle.tptp_tree.specs.Term.{TermTree}
 use Rattle.fol_base.specs.declared.clause.Side.{Side}
 use Rattle.fol_base.specs.declared.clause.Side.TheVariants.{Left, Right}
+use Rattle.kernel_steps.specs.Names.{signed}
 use Rattle.kernel_steps.specs.Parents.{all_there}
 use Rattle.tptp_source.specs.General.{GeneralTree, word, no_trees, list_of_trees}
 use Rattle.tptp_source.specs.TermSources.{items_in}
 use Rattle.tptp_source.specs.Items.{side_in, signed_name_in, all_numbers, term_in}
 use Rattle.tptp_source.specs.declared.items.SideName.{SideName}
 use Rattle.tptp_source.specs.declared.items.SideName.TheVariants.{Left as LeftName, Right as RightName}
-use Rattle.clausal_form.specs.DerivationClause.{name_number, signed}
+use Rattle.clausal_form.specs.DerivationClause.{name_number}
 
 -- ---- words
 

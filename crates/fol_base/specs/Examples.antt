@@ -117,3 +117,13 @@ p_of_a_alone = record {
       ∷ record { symbol = 6; arguments = 0 ∷ []; value = 1 }
       ∷ [];
 }
+
+-- two values, and p is true of both
+abbrev pub p_of_each : Interpretation
+p_of_each = record {
+  size = 2;
+  rows =
+      record { symbol = 6; arguments = 0 ∷ []; value = 1 }
+      ∷ record { symbol = 6; arguments = 1 ∷ []; value = 1 }
+      ∷ [];
+}

@@ -1,11 +1,11 @@
 -- Finite interpretations, and the truth of literals and clauses in one (Tarski 1936; equality is sameness of values).
-use Rattle.std.specs.Prelude.{◌≡◌, ℕ, ◌≤◌, Bool, not, ◌&&◌, ◌==◌, nat_lt, if◌then◌else◌, List, [], ◌∷◌, Some, IsTrue}
+use Rattle.std.specs.Prelude.{◌≡◌, ℕ, ◌≤◌, ◌<◌, Bool, not, ◌&&◌, ◌==◌, nat_lt, if◌then◌else◌, List, [], ◌∷◌, Some, IsTrue}
 use Rattle.std.specs.List.{list_any, list_all}
 use lib.Pointwise.{pointwise}
 use Rattle.fol_base.specs.Tree.{Tree, variable, application, Trees, no_trees, tree_then, true_symbol}
 use Rattle.fol_base.specs.Instance.{Substitution, instance}
 use Rattle.fol_base.specs.Place.{subterm, replaced}
-use Rattle.fol_base.specs.Clause.{TreeLiteral}
+use Rattle.fol_base.specs.Clause.{TreeLiteral, TreeClause}
 use Rattle.fol_base.specs.Ground.{GroundClause, is_ground_clause, literals_instance}
 
 -- one entry of a table: what the symbol gives at these arguments
@@ -63,6 +63,14 @@ literal_true_under i ρ l = sides_true l.positive (tree_value i ρ l.left) (tree
 -- a clause is true where one of its literals is
 abbrev pub literals_true_under : Interpretation → Assignment → List TreeLiteral → Bool
 literals_true_under i ρ ls = list_any (literal_true_under i ρ) ls
+
+-- each variable has a value of the interpretation
+abbrev pub HasValues : Interpretation → Assignment → Type 0
+HasValues i ρ = (v : ℕ) → ρ v < i.size
+
+-- a clause holds where it is true whatever values its variables have
+abbrev pub HoldsIn : Interpretation → TreeClause → Type 0
+HoldsIn i c = (ρ : Assignment) → HasValues i ρ → IsTrue (literals_true_under i ρ c.literals)
 
 -- ground literals and clauses have no variables, so they need no values for them
 abbrev pub no_values : Assignment

@@ -3,11 +3,11 @@ use Rattle.std.specs.Prelude.{◌≡◌, ℕ, ◌<◌, Bool, ◌&&◌, ◌||◌,
 use Rattle.std.specs.List.{AllByRecursion, list_any, list_all}
 use Rattle.tptp_tree.specs.Entries.{is_conjecture}
 use Rattle.tptp_tree.specs.declared.problem.Annotated.{Annotated}
-use Rattle.fol_base.specs.Interpretation.{Interpretation, IsInterpretation, symbol_value}
+use Rattle.fol_base.specs.Interpretation.{Interpretation, IsInterpretation, symbol_value, HoldsIn}
 use Rattle.signature.specs.Occurrences.{problem_symbols}
 use Rattle.signature.specs.Environment.{free_names, closed}
 use Rattle.signature.specs.Form.{clausal_form}
-use Rattle.signature.specs.Truth.{annotated_true, ClauseTrue}
+use Rattle.signature.specs.Truth.{annotated_true}
 use Rattle.clausal_form.specs.FormFunctions.{is_predicate_in}
 
 -- no formula has a free variable, as in every problem that is read
@@ -31,7 +31,7 @@ pub record Extends (fs : List Annotated) (i j : Interpretation) : Type 0 where
 
 -- each clause of the clausal form is true for all values of its variables
 abbrev pub FormTrue : List Annotated → Interpretation → Type 0
-FormTrue fs j = AllByRecursion (ClauseTrue j) (clausal_form fs).clauses
+FormTrue fs j = AllByRecursion (HoldsIn j) (clausal_form fs).clauses
 
 -- ---- consequence
 

@@ -2,7 +2,7 @@
 -- finitely many of its ground instances (Herbrand 1930). A name stands for a part of a clause (Voronkov 2014): it is true where its
 -- body is, whatever values the body's variables have.
 use mathlib.Core.Bool.{beq}
-use Rattle.std.specs.Prelude.{◌≡◌, ◌⊎◌, ℕ, ◌<◌, Bool, ◌||◌, List, [], ◌∷◌, ◌++◌, map, Some, slice_get, All, Contains, if◌then◌else◌, IsTrue, IsFalse}
+use Rattle.std.specs.Prelude.{◌≡◌, ◌⊎◌, ℕ, Bool, ◌||◌, List, [], ◌∷◌, ◌++◌, map, Some, slice_get, All, Contains, if◌then◌else◌, IsTrue, IsFalse}
 use Rattle.std.specs.List.{list_any, list_all}
 use Rattle.plain_types.specs.declared.sequence.NameLit.{NameLit}
 use Rattle.plain_types.specs.Names.{has_name}
@@ -12,7 +12,7 @@ use Rattle.fol_base.specs.Kind.{is_function_term}
 use Rattle.fol_base.specs.Symbols.{FunctionSymbol, FunctionSymbols}
 use Rattle.fol_base.specs.Ground.{is_over, GroundClause, GroundInstance}
 use Rattle.fol_base.specs.GroundForm.{IsGroundForm}
-use Rattle.fol_base.specs.Interpretation.{Interpretation, IsInterpretation, Assignment, literals_true_under}
+use Rattle.fol_base.specs.Interpretation.{Interpretation, IsInterpretation, Assignment, literals_true_under, HasValues, HoldsIn}
 use Rattle.fol_base.specs.Entails.{Entails, IsRefuted}
 use Rattle.fol_base.specs.Covered.{InstanceOf}
 use Rattle.fol_base.specs.Literal.{clause_of}
@@ -47,14 +47,6 @@ abbrev pub BindsFunctionTerms : (ℕ → Bool) → List Line → Type 0
 BindsFunctionTerms is_predicate lines = IsTrue (list_all (λ (l : Line). binds_each (is_function_term is_predicate) l.step) lines)
 
 -- ---- truth
-
--- each variable has a value of the interpretation
-abbrev pub HasValues : Interpretation → Assignment → Type 0
-HasValues i ρ = (v : ℕ) → ρ v < i.size
-
--- a clause is true whatever values its variables have
-abbrev pub HoldsIn : Interpretation → TreeClause → Type 0
-HoldsIn i c = (ρ : Assignment) → HasValues i ρ → IsTrue (literals_true_under i ρ c.literals)
 
 -- a clause is false for some values of its variables
 pub record FailsIn (i : Interpretation) (c : TreeClause) : Type 0 where

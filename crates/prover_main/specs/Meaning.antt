@@ -2,9 +2,9 @@
 use Rattle.std.specs.Prelude.{List, IsTrue, IsFalse}
 use Rattle.std.specs.List.{AllByRecursion}
 use Rattle.tptp_tree.specs.declared.problem.Annotated.{Annotated}
-use Rattle.fol_base.specs.Interpretation.{Interpretation, IsInterpretation}
+use Rattle.fol_base.specs.Interpretation.{Interpretation, IsInterpretation, HoldsIn}
 use Rattle.signature.specs.Form.{ClausalForm}
-use Rattle.signature.specs.Truth.{is_model_of_problem, ClauseTrue}
+use Rattle.signature.specs.Truth.{is_model_of_problem}
 use Rattle.clausal_form.specs.FormFunctions.{is_predicate_in}
 use Rattle.form_truth.specs.Meaning.{InterpretsProblem, Extends, has_conjecture, ConjectureFollows, AxiomsUnsatisfiable}
 
@@ -13,7 +13,7 @@ use Rattle.form_truth.specs.Meaning.{InterpretsProblem, Extends, has_conjecture,
 -- an interpretation of the form's symbols in which each of its clauses is true for all values of its variables
 pub record IsModelOfForm (form : ClausalForm) (j : Interpretation) : Type 0 where
   pub interprets : IsInterpretation (is_predicate_in form.symbols) j
-  pub clauses : AllByRecursion (ClauseTrue j) form.clauses
+  pub clauses : AllByRecursion (HoldsIn j) form.clauses
 
 -- The form means the formulas: an interpretation that makes the axioms true and the conjecture false, or all formulas where there is no
 -- conjecture, can be extended to one that makes the form true; and one that makes the form true does so with the formulas.

@@ -7,5 +7,3 @@ pub mod SignatureLemmas
 pub mod PrefixLemmas
 -- SkolemLemmas: how many Skolem symbols the work on a formula makes.
 pub mod SkolemLemmas
--- TruthLemmas: the truth of one literal for all values below a size.
-pub mod TruthLemmas

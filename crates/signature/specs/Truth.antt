@@ -1,14 +1,13 @@
 -- The truth of a formula in a finite interpretation (Tarski 1936): quantifiers range over the values below the size.
-use Rattle.std.specs.Prelude.{ℕ, ◌<◌, Bool, true, false, not, ◌&&◌, ◌||◌, ◌==◌, if◌then◌else◌, List, [], ◌∷◌, IsTrue, bytes_eq}
+use Rattle.std.specs.Prelude.{ℕ, Bool, true, false, not, ◌&&◌, ◌||◌, ◌==◌, if◌then◌else◌, List, [], ◌∷◌, bytes_eq}
 use mathlib.Core.Bool.{beq}
 use Rattle.std.specs.List.{list_any, list_all}
 use Rattle.tptp_tree.specs.Term.{TermTree, variable, application, TermTrees, no_terms, term_then}
 use Rattle.tptp_tree.specs.Formula.{BinaryConnective, implies, implied, equivalent, different, nor, nand, Quantifier, for_all, exists_some, FormulaTree, truth, falsity, predicate, equation, negation, conjunction, disjunction, connected, quantified, FormulaTrees, no_formulas, formula_then}
 use Rattle.tptp_tree.specs.Entries.{is_conjecture}
 use Rattle.tptp_tree.specs.declared.problem.Annotated.{Annotated}
-use Rattle.fol_base.specs.Clause.{TreeClause}
 use Rattle.fol_base.specs.Canonical.{numbers_from}
-use Rattle.fol_base.specs.Interpretation.{Interpretation, Assignment, symbol_value, sides_true, literals_true_under}
+use Rattle.fol_base.specs.Interpretation.{Interpretation, symbol_value, sides_true}
 use Rattle.signature.specs.declared.symbol.Symbol.{Symbol}
 use Rattle.signature.specs.Symbol.{predicate_symbol, function_symbol, number_of}
 use Rattle.signature.specs.Occurrences.{terms_count, problem_symbols}
@@ -73,11 +72,3 @@ annotated_true known i a = formula_true known i (closed a) []
 -- the conjecture is false, and the other formulas are true; so all are where there is no conjecture
 abbrev pub is_model_of_problem : Interpretation → List Annotated → Bool
 is_model_of_problem i fs = list_all (λ (a : Annotated). beq (annotated_true (problem_symbols fs) i a) (not (is_conjecture a.role))) fs
-
--- each variable has a value below the size
-abbrev pub IsAssignmentOf : Interpretation → Assignment → Type 0
-IsAssignmentOf i ρ = (v : ℕ) → ρ v < i.size
-
--- a clause is true where it is for every such assignment
-abbrev pub ClauseTrue : Interpretation → TreeClause → Type 0
-ClauseTrue i c = (ρ : Assignment) → IsAssignmentOf i ρ → IsTrue (literals_true_under i ρ c.literals)

@@ -1,11 +1,11 @@
 -- The worked examples that don't just compute.
 use Rattle.std.proofs.Common.{◌≡◌, ℕ, zero, suc, ◌<◌, Bool, true, false, ◌&&◌, ◌||◌, not, List, [], ◌∷◌, refl, ap, sym, ◌∙◌, inl, inr, arith, true≢false, get_or}
-use Rattle.std.specs.Prelude.{All, Contains}
+use Rattle.std.specs.Prelude.{All, Contains, IsTrue}
 use Rattle.std.proofs.lemmas.Bool.{and_parts, or_right}
 use Rattle.std.proofs.lemmas.List.Elements.{All-head, All-cons, All-nil}
 use Rattle.fol_base.specs.Clause.{TreeClause}
 use Rattle.fol_base.specs.Ground.{GroundClause, GroundInstance, literals_instance}
-use Rattle.fol_base.specs.Interpretation.{Interpretation, literal_true, clause_true}
+use Rattle.fol_base.specs.Interpretation.{Interpretation, symbol_value, sides_true, literal_true, clause_true, HoldsIn}
 use Rattle.fol_base.specs.Tree.{true_tree}
 use Rattle.fol_base.specs.Entails.{Entails, IsRefuted}
 use Rattle.fol_base.specs.Order.{clause_greater}
@@ -13,7 +13,7 @@ use Rattle.fol_base.specs.Selection.{select_nothing, select_negative}
 use Rattle.fol_base.specs.GroundInference.{GroundSuperposition, GroundResolution, GroundFactoring, GroundConclusion}
 use Rattle.fol_base.specs.Covered.{InstanceOf, Covers}
 use Rattle.fol_base.specs.declared.clause.Side.TheVariants.{Left}
-use Rattle.fol_base.specs.Examples.{x, a, b, f, p, equation, clause, is_predicate, functions, all_a, p_of_a_alone}
+use Rattle.fol_base.specs.Examples.{x, a, b, f, p, equation, clause, is_predicate, functions, all_a, p_of_a_alone, p_of_each}
 use Rattle.fol_base.specs.Rules.{disequation}
 
 -- p(a) is an instance of p(X0), and of itself
@@ -32,6 +32,19 @@ never_both false = refl
 -- p(a) and its negation
 pub contradiction : IsRefuted is_predicate ((p a ∷ []) ∷ (disequation (p a).left true_tree ∷ []) ∷ [])
 contradiction i ok = never_both (literal_true i (p a))
+
+p-of-each : (n : ℕ) → n < 2 → IsTrue (sides_true true (symbol_value p_of_each 6 (n ∷ [])) 1 || false)
+p-of-each zero below = refl
+p-of-each (suc zero) below = refl
+p-of-each (suc (suc n)) below = absurd (omega (arith, below))
+
+-- p(X0) is true where p holds for both values, whatever it has beyond them
+pub p_for_each_value : HoldsIn p_of_each (clause (p (x 0) ∷ []))
+p_for_each_value ρ within = p-of-each (ρ 0) (within 0)
+
+-- and isn't where it holds for 0 alone
+pub p_not_for_each_value : HoldsIn p_of_a_alone (clause (p (x 0) ∷ [])) → ⊥
+p_not_for_each_value for_all = true≢false (sym (for_all (λ n. 1) (λ n. omega arith)))
 
 -- p(a) alone is true in the interpretation
 pub no_contradiction : IsRefuted is_predicate ((p a ∷ []) ∷ []) → ⊥

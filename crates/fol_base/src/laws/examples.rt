@@ -6,14 +6,14 @@ ghost use Rattle.fol_base.specs.Instance.{instance, substitution};
 ghost use Rattle.fol_base.specs.Place.{replaced, subterm};
 ghost use Rattle.fol_base.specs.Canonical.{canonical_clause};
 ghost use Rattle.fol_base.specs.Ground.{ground_over, GroundInstance};
-ghost use Rattle.fol_base.specs.Interpretation.{clause_true, tree_value, no_values, row_in_range, table_value};
+ghost use Rattle.fol_base.specs.Interpretation.{clause_true, tree_value, no_values, row_in_range, table_value, HoldsIn};
 ghost use Rattle.fol_base.specs.Entails.{Entails, IsRefuted};
 ghost use Rattle.fol_base.specs.Multiset.{greater, less, equal, unordered};
 ghost use Rattle.fol_base.specs.Order.{compare_trees, compare_literals, compare_clauses};
 ghost use Rattle.fol_base.specs.Selection.{select_nothing, select_negative, chosen, eligible, eligible_in_instance};
 ghost use Rattle.fol_base.specs.GroundInference.{GroundSuperposition, GroundResolution, GroundFactoring, GroundConclusion};
 ghost use Rattle.fol_base.specs.Covered.{Covers};
-ghost use Rattle.fol_base.specs.Examples.{x, a, b, c, f, f₂, g, p, q, q₂, equation, clause, is_predicate, functions, symbols, row, all_a, all_towers, p_of_a_alone};
+ghost use Rattle.fol_base.specs.Examples.{x, a, b, c, f, f₂, g, p, q, q₂, equation, clause, is_predicate, functions, symbols, row, all_a, all_towers, p_of_a_alone, p_of_each};
 ghost use Rattle.fol_base.specs.Rules.{disequation};
 
 /// Instances, replacement and canonical form.
@@ -69,6 +69,8 @@ pub fn meaning_examples()
     ensures predicate_out_of_range { IsFalse (row_in_range is_predicate 3 (row 6 2)) }
     ensures function_out_of_range { IsFalse (row_in_range is_predicate 1 (row 4 1)) }
     ensures no_row { tree_value p_of_a_alone no_values a ≡ 0 }
+    ensures holds_for_each_value { HoldsIn p_of_each (clause (p (x 0) ∷ [])) }
+    ensures fails_for_one_value { HoldsIn p_of_a_alone (clause (p (x 0) ∷ [])) → ⊥ }
     ensures instance_over_the_list { GroundInstance functions (clause (p (x 0) ∷ [])) (p a ∷ []) }
     ensures rewritten { Entails is_predicate ((equation a b ∷ []) ∷ (equation (f a) c ∷ []) ∷ []) (equation (f b) c ∷ []) }
     ensures other_constant { Entails is_predicate ((p a ∷ []) ∷ []) (p b ∷ []) → ⊥ }

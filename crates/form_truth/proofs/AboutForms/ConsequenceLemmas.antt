@@ -10,14 +10,14 @@ use Rattle.tptp_tree.specs.declared.problem.Annotated.{Annotated}
 use Rattle.fol_base.specs.Clause.{TreeClause}
 use Rattle.fol_base.specs.Covered.{InstanceOf}
 use Rattle.fol_base.specs.Ground.{GroundClause}
-use Rattle.fol_base.specs.Interpretation.{Interpretation, tree_value, no_values, clause_true, clauses_true}
+use Rattle.fol_base.specs.Interpretation.{Interpretation, tree_value, no_values, clause_true, clauses_true, HoldsIn}
 use Rattle.fol_base.proofs.AboutTerms.KindLemmas.{ground_trees_are_function_terms}
 use Rattle.fol_base.proofs.AboutClauses.MeaningLemmas.{truth_of_instances}
 use Rattle.kernel_steps.proofs.AboutSoundness.SoundLemmas.{function_term-value}
 use Rattle.signature.specs.declared.symbol.Symbol.{Symbol}
 use Rattle.signature.specs.Occurrences.{problem_symbols}
 use Rattle.signature.specs.Form.{clausal_form}
-use Rattle.signature.specs.Truth.{annotated_true, is_model_of_problem, ClauseTrue}
+use Rattle.signature.specs.Truth.{annotated_true, is_model_of_problem}
 use Rattle.clausal_form.specs.FormFunctions.{is_predicate_in, IsHerbrandRefuted}
 use Rattle.clausal_form.proofs.AboutDerivations.RefutationLemmas.{accepted_derivations_refute}
 use Rattle.form_truth.specs.Meaning.{InterpretsForm, FormTrue, axioms_true, conjecture_true}
@@ -26,13 +26,13 @@ use Rattle.form_truth.proofs.AboutForms.ExtendedLemmas.{models_extend}
 
 -- ---- ground instances
 
-each-there : (j : Interpretation) (cs : List TreeClause) → AllByRecursion (ClauseTrue j) cs → All (ClauseTrue j) cs
+each-there : (j : Interpretation) (cs : List TreeClause) → AllByRecursion (HoldsIn j) cs → All (HoldsIn j) cs
 each-there j [] h k d within = absurd (omega (arith, within))
 each-there j (c ∷ cs) h zero d within = h.0
 each-there j (c ∷ cs) h (suc k) d within = each-there j cs h.1 k d (omega (arith, within))
 
-clause-there : (j : Interpretation) (cs : List TreeClause) (c : TreeClause) → AllByRecursion (ClauseTrue j) cs → Contains cs c → ClauseTrue j c
-clause-there j cs c h k = subst (ClauseTrue j) k.2 (each-there j cs h k.0 c k.1)
+clause-there : (j : Interpretation) (cs : List TreeClause) (c : TreeClause) → AllByRecursion (HoldsIn j) cs → Contains cs c → HoldsIn j c
+clause-there j cs c h k = subst (HoldsIn j) k.2 (each-there j cs h k.0 c k.1)
 
 -- a form that is true isn't refuted
 not_refuted : (fs : List Annotated) (j : Interpretation) → IsHerbrandRefuted fs → InterpretsForm fs j → FormTrue fs j → ⊥

@@ -8,14 +8,14 @@ use Rattle.tptp_tree.specs.Entries.{is_conjecture}
 use Rattle.tptp_tree.specs.declared.problem.Annotated.{Annotated}
 use Rattle.fol_base.specs.Clause.{TreeClause}
 use Rattle.fol_base.specs.WellFormed.{SymbolUse, are_literals_of}
-use Rattle.fol_base.specs.Interpretation.{Interpretation, Assignment, symbol_value}
+use Rattle.fol_base.specs.Interpretation.{Interpretation, Assignment, symbol_value, HoldsIn}
 use Rattle.signature.specs.declared.symbol.Symbol.{Symbol}
 use Rattle.signature.specs.Symbol.{true_symbol, has_symbol, with_symbol}
 use Rattle.signature.specs.Occurrences.{annotated_symbols, problem_symbols}
 use Rattle.signature.specs.Environment.{free_names, closed}
 use Rattle.signature.specs.Clausal.{SymbolNumbers, Made, begun}
 use Rattle.signature.specs.Form.{symbol_numbers, problem_skolem_count, nothing_made, problem_form, clausal_form}
-use Rattle.signature.specs.Truth.{annotated_true, is_model_of_problem, ClauseTrue}
+use Rattle.signature.specs.Truth.{annotated_true, is_model_of_problem}
 use Rattle.clausal_form.specs.FormFunctions.{is_predicate_in}
 use Rattle.clausal_form.specs.FormLaws.{arity_in, use_of}
 use Rattle.clausal_form.proofs.AboutForms.FunctionLemmas.{first-folded}
@@ -180,7 +180,7 @@ module _ (fs : List Annotated) (i : Interpretation) (closed_all : are_closed fs 
       (cs : List TreeClause)
       → list_all (λ (c : TreeClause). are_literals_of (use_of (clausal_form fs).symbols) c.literals) cs ≡ true
       → ((ρ : Assignment) → HasSize i.size ρ → list_all (λ (c : TreeClause). holds last ρ c.literals) cs ≡ true)
-      → AllByRecursion (ClauseTrue extended) cs
+      → AllByRecursion (HoldsIn extended) cs
   clauses-true [] w h = tt
   clauses-true (c ∷ cs) w h =
       let right =

@@ -11,13 +11,13 @@ use Rattle.fol_base.specs.Tree.{Tree, variable, application, Trees, no_trees, tr
 use Rattle.fol_base.specs.Instance.{Substitution}
 use Rattle.fol_base.specs.Clause.{TreeLiteral, TreeClause, literal_variables, clause_variables}
 use Rattle.fol_base.specs.Canonical.{distinct, place_of, canonical_renaming}
-use Rattle.fol_base.specs.Interpretation.{Row, Interpretation, row_in_range, is_row_of, table_value, symbol_value, Assignment, tree_value, trees_values, sides_true, literals_true_under}
+use Rattle.fol_base.specs.Interpretation.{Row, Interpretation, row_in_range, is_row_of, table_value, symbol_value, Assignment, tree_value, trees_values, sides_true, literals_true_under, HoldsIn}
 use Rattle.signature.specs.Symbol.{true_symbol}
 use Rattle.signature.specs.Occurrences.{annotated_symbols, formula_symbols, problem_symbols}
 use Rattle.signature.specs.Environment.{free_names, closed, term_in_force}
 use Rattle.signature.specs.Clausal.{SymbolNumbers, Made, Worked, Literals, clauses_of, begun, canonical_literals}
 use Rattle.signature.specs.Form.{symbol_numbers, problem_skolem_count, nothing_made, problem_form, clausal_form}
-use Rattle.signature.specs.Truth.{value_in_force, annotated_true, ClauseTrue}
+use Rattle.signature.specs.Truth.{value_in_force, annotated_true}
 use Rattle.signature.proofs.SkolemLemmas.{skolem_symbols_of_problem_are_counted}
 use Rattle.clausal_form.specs.FormFunctions.{is_predicate_in}
 use Rattle.clausal_form.proofs.AboutForms.FunctionLemmas.{first-folded}
@@ -107,7 +107,7 @@ listed-distinct (w ∷ vs) v h =
     by false e g rest = rest e g
 
 raw-hold :
-    (j : Interpretation) (cs : List Literals) → AllByRecursion (ClauseTrue j) (map canonical_literals cs)
+    (j : Interpretation) (cs : List Literals) → AllByRecursion (HoldsIn j) (map canonical_literals cs)
     → (ρ : Assignment) → HasSize j.size ρ → all_hold (structure_of j) ρ cs ≡ true
 raw-hold j [] h ρ has = refl
 raw-hold j (c ∷ cs) h ρ has =
@@ -185,7 +185,7 @@ forms_return fs j closed_all proper h =
     formulas-true (symbol_numbers fs) j base small fs nothing_made
     (each-closed (symbol_numbers fs) fs closed_all (each-known (true_symbol ∷ []) fs)) (omega arith)
     (raw-hold j (raw_clauses (symbol_numbers fs) fs nothing_made)
-    (subst (AllByRecursion (ClauseTrue j)) (formed-raw (symbol_numbers fs) 0 fs nothing_made) h))
+    (subst (AllByRecursion (HoldsIn j)) (formed-raw (symbol_numbers fs) 0 fs nothing_made) h))
   where
     base : Base (symbol_numbers fs) j
     base =

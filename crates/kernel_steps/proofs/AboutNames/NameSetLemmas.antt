@@ -7,8 +7,8 @@ use Rattle.std.proofs.lemmas.Bool.{cond-true, cond-false, true≢false}
 use Rattle.std.proofs.lemmas.List.Folds.{list_any-append}
 use Rattle.plain_types.specs.declared.sequence.NameLit.{NameLit}
 use Rattle.plain_types.specs.Names.{same_name, opposite, has_name, without, can_resolve, resolvent}
-use Rattle.kernel_steps.specs.Names.{with_name, with_names, sorted_names, are_sorted}
-use Rattle.kernel_steps.specs.NameSet.{signed, names_in}
+use Rattle.kernel_steps.specs.Names.{signed, with_name, with_names, sorted_names, are_sorted}
+use Rattle.kernel_steps.specs.NameSet.{names_in}
 use Rattle.kernel_steps.proofs.AboutNames.NameTruth.{list_any-with_name, has_name-sorted_names}
 use Rattle.kernel_steps.proofs.AboutNames.SortedNames.{with_name-sorted}
 use Rattle.kernel_steps.proofs.AboutNames.NameRanks.{same-names, sorted_names-sorted, sorted-same, has_name-without, without-sorted}

@@ -12,13 +12,13 @@ use Rattle.fol_base.specs.Clause.{TreeLiteral, TreeClause}
 use Rattle.fol_base.specs.Kind.{is_function_term, are_function_terms}
 use Rattle.fol_base.specs.Ground.{is_ground_literal, is_ground_clause}
 use Rattle.fol_base.specs.Literal.{clause_of}
-use Rattle.fol_base.specs.Interpretation.{Interpretation, IsInterpretation, Row, row_in_range, is_row_of, table_value, Assignment, tree_value, trees_values, literal_true_under, literals_true_under}
+use Rattle.fol_base.specs.Interpretation.{Interpretation, IsInterpretation, Row, row_in_range, is_row_of, table_value, Assignment, tree_value, trees_values, literal_true_under, literals_true_under, HasValues}
 use Rattle.fol_base.proofs.AboutClauses.MeaningLemmas.{truth_of_ground_clauses}
 use Rattle.fol_base.proofs.WorkedExamples.TestLemmas.{list_all-item}
 use Rattle.kernel_steps.specs.Parents.{Parent}
 use Rattle.kernel_steps.specs.Conclusion.{empty_clause, verdict, concludes}
 use Rattle.kernel_steps.specs.Derivation.{is_clause_step, introduces_name, line_parents, is_component_of, body, complement, IsComponent, IsOpposite, ComesBy, IsDerivation}
-use Rattle.kernel_steps.specs.Soundness.{HasValues, NameTruth, names_true, MeansBody, bindings_of, binds_each, BindsFunctionTerms, DerivationsAreSound}
+use Rattle.kernel_steps.specs.Soundness.{NameTruth, names_true, MeansBody, bindings_of, binds_each, BindsFunctionTerms, DerivationsAreSound}
 use Rattle.kernel_steps.specs.declared.step.Step.{Step}
 use Rattle.kernel_steps.specs.declared.step.Step.TheVariants.{Input, Negate, Clausify, Para, Refl, Factor, Merge, Component, Opposite, Split, Chain}
 use Rattle.kernel_steps.specs.declared.step.Line.{Line}

@@ -1,10 +1,10 @@
-// The truth of formulas, problems and clauses, where p holds for one of two values or for both.
+// The truth of formulas and problems, where p holds for one of two values or for both.
 
 ghost use Rattle.std.specs.Prelude.{[], ◌∷◌, true, false, IsTrue, IsFalse};
 ghost use Rattle.tptp_tree.specs.Term.{variable};
 ghost use Rattle.tptp_tree.specs.Formula.{implies, implied, equivalent, different, nor, nand, for_all, exists_some, truth, falsity, equation, negation, connected, quantified};
-ghost use Rattle.signature.specs.Truth.{formula_true, is_model_of_problem, ClauseTrue};
-ghost use Rattle.signature.specs.Examples.{fof_axiom, cnf_axiom, conjecture, symbols_of, x, y, p, q, p_of, a, b, f_of, all_of, one_of, v, literal, clause, p_of_zero_alone, p_of_both, where_p_holds, where_f_exchanges};
+ghost use Rattle.signature.specs.Truth.{formula_true, is_model_of_problem};
+ghost use Rattle.signature.specs.Examples.{fof_axiom, cnf_axiom, conjecture, symbols_of, x, y, p, q, p_of, a, b, f_of, all_of, one_of, p_of_zero_alone, where_p_holds, where_f_exchanges};
 
 /// `! [X] : p(X) => q` and `! [X] : (p(X) => q)` where p holds for one of two values, and q doesn't hold.
 pub fn formula_truth_examples()
@@ -66,10 +66,4 @@ pub fn problem_truth_examples()
         (fof_axiom (quantified for_all (x ∷ []) (p_of x)) ∷ conjecture (quantified for_all (x ∷ []) (p_of x)) ∷ [])) }
     ensures clause { IsFalse (is_model_of_problem p_of_zero_alone (cnf_axiom (p_of x) ∷ [])) }
     ensures clause_with_negation { IsTrue (is_model_of_problem p_of_zero_alone (cnf_axiom (one_of (p_of x ∷ negation (p_of x) ∷ [])) ∷ [])) }
-{}
-
-/// `p(X0)` is true where p holds for both values, whatever it has beyond them, and isn't where it holds for one.
-pub fn clause_truth_examples()
-    ensures of_both { ClauseTrue p_of_both (clause (literal true 1 (v 0 ∷ []) ∷ [])) }
-    ensures of_one { ClauseTrue p_of_zero_alone (clause (literal true 1 (v 0 ∷ []) ∷ [])) → ⊥ }
 {}

@@ -18,10 +18,10 @@ use Rattle.signature.specs.Symbol.{predicate_symbol, same_symbol, has_symbol, ar
 use Rattle.signature.specs.Prefix.{some_begins_with}
 use Rattle.signature.specs.Environment.{Environment}
 use Rattle.signature.specs.Clausal.{atom_literal}
-use Rattle.kernel_steps.specs.Names.{are_sorted}
+use Rattle.kernel_steps.specs.Names.{signed, are_sorted}
 use Rattle.kernel_steps.specs.Parents.{all_there}
 use Rattle.clausal_form.specs.DerivationItems.{introduced_in}
-use Rattle.clausal_form.specs.DerivationClause.{literals_of, is_literal as is_literal_formula, name_number, signed, literal_name, ordinary_literals, clause_names, names_come_last, is_written_clause, literal_by, clause_by}
+use Rattle.clausal_form.specs.DerivationClause.{literals_of, is_literal as is_literal_formula, name_number, literal_name, ordinary_literals, clause_names, names_come_last, is_written_clause, literal_by, clause_by}
 use Rattle.tstp_writer.specs.Cone.{has_number}
 use Rattle.tstp_writer.specs.ClauseTrees.{symbol_name, term_tree, term_trees, atom_formula, literal_formula, introduced_name, signed_name_formula, one_of, clause_formula}
 use Rattle.tstp_writer.specs.LineTrees.{place_in, pivot_name, pivot_item}
