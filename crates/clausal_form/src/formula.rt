@@ -18,14 +18,14 @@ ghost use Rattle.clausal_form.specs.Written.{written};
 
 use crate::closing::closed_form;
 use crate::fault::FormCause;
-use crate::heavy::{form_weight, is_heavy_matrix};
+use crate::heavy::form_weight;
 use crate::naming::Definition;
 use crate::writing::{Agenda, Output, write_matrix};
 use fol_base::{MOST_FORM_SYMBOLS, MOST_SYMBOLS};
 use formula_nnf::Nnf;
-use plain_types::{Mem, Texts};
+use plain_types::{Mem, NoMemory, Texts};
 use signature::Signature;
-use skolem::{Matrix, Skolemized, largest_clause, skolemize};
+use skolem::{Matrix, MatrixEnd, Skolemized, largest_clause, skolemize};
 use std::alloc::Global;
 use tptp_tree::Annotated;
 
@@ -50,11 +50,11 @@ pub(crate) fn formula_matrix<'a>(
     if weight.symbols > MOST_FORM_SYMBOLS {
         return Ok(Err(cause_over_total(alloc, &form, signature)?));
     }
-    let made = skolemize(alloc, &form, signature)?;
-    if is_heavy_matrix(&made.matrix) {
-        return Ok(Err(FormCause::TooHeavy));
+    match skolemize(alloc, &form, signature) {
+        Ok(made) => Ok(Ok(made)),
+        Err(MatrixEnd::NoMemory) => Err(NoMemory),
+        Err(MatrixEnd::TooHeavy) => Ok(Err(FormCause::TooHeavy)),
     }
-    Ok(Ok(made))
 }
 
 /// Why there can be no form, where the literals have over `MOST_FORM_SYMBOLS` symbols together: which limit is passed first depends on how

@@ -15,9 +15,12 @@ use Rattle.skolem.specs.Matrix.{MatrixTree}
 use Rattle.skolem.specs.MatrixClauses.{matrix_clauses}
 use Rattle.skolem.specs.Skolemized.{skolemized_form, numbers_after}
 use Rattle.skolem.specs.Outline.{outline_of, told}
+use Rattle.skolem.specs.Heavy.{heavy_matrix, IsMatrixEnd}
+use Rattle.skolem.specs.declared.forms.MatrixEnd.{MatrixEnd}
+use Rattle.skolem.specs.declared.forms.MatrixEnd.TheVariants.{TooHeavy as over_limit}
 use Rattle.clausal_form.specs.Fault.{limit_fault, counted_in}
 use Rattle.clausal_form.specs.Formula.{Passes, IsMatrixOrCause}
-use Rattle.clausal_form.specs.Heavy.{heavy_matrix, heavy_form, written_total}
+use Rattle.clausal_form.specs.Heavy.{heavy_form, written_total}
 use Rattle.clausal_form.specs.Measure.{literals_size, symbols_in, largest}
 use Rattle.clausal_form.specs.Naming.{definition_clauses, naming_made, naming_numbers}
 use Rattle.clausal_form.specs.declared.naming.Naming.{Naming}
@@ -83,9 +86,10 @@ heavy-form-of known a f heavy e h t =
     cause-of-form known a f TooHeavy e
     (heavy-passes (skolemized_form known f).matrix (form-heavy (numbers_after known) f [] nothing_made (sym h ∙ t)))
 
-pub heavy-matrix-of :
-    (known : List Symbol) (a : Annotated) (f : FormulaTree) (x : MatrixTree) (heavy : Bool)
-    → f ≡ normal_form (closed a) (not (is_conjecture a.role)) → x ≡ (skolemized_form known f).matrix
-    → heavy ≡ heavy_matrix x → heavy ≡ true → IsMatrixOrCause known a (Err TooHeavy)
-heavy-matrix-of known a f x heavy e m h t =
-    cause-of-form known a f TooHeavy e (subst (λ y. Passes TooHeavy y) m (heavy-passes x (sym h ∙ t)))
+pub heavy-end-of :
+    (known : List Symbol) (a : Annotated) (f : FormulaTree) (end : MatrixEnd)
+    → f ≡ normal_form (closed a) (not (is_conjecture a.role)) → end ≡ over_limit
+    → IsMatrixEnd end true (heavy_matrix (skolemized_form known f).matrix) → IsMatrixOrCause known a (Err TooHeavy)
+heavy-end-of known a f end e t h =
+    cause-of-form known a f TooHeavy e
+    (heavy-passes (skolemized_form known f).matrix (subst (λ k. IsMatrixEnd k true (heavy_matrix (skolemized_form known f).matrix)) t h))

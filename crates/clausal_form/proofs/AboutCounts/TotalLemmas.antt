@@ -14,10 +14,12 @@ use Rattle.signature.specs.Clausal.{SymbolNumbers, Made, Worked, Scope, Literals
 use Rattle.skolem.specs.Matrix.{MatrixTree, truth as true_matrix, falsity as false_matrix, literal, conjunction as all_of, disjunction as some_of, MatrixTrees, no_matrices, matrix_then}
 use Rattle.skolem.specs.MatrixClauses.{matrix_clauses, listed_matrices, product_of_matrices}
 use Rattle.skolem.specs.Skolemized.{Skolemized, skolemized, skolemized_list}
-use Rattle.clausal_form.specs.Heavy.{form_has_clauses, all_forms_have_clauses, written_total, written_totals}
+use Rattle.skolem.specs.Heavy.{form_has_clauses, all_forms_have_clauses}
+use Rattle.clausal_form.specs.Heavy.{written_total, written_totals}
 use Rattle.clausal_form.specs.Measure.{literals_size, symbols_in}
+use Rattle.skolem.proofs.AboutFormulas.HeavyLemmas.{form-has}
 use Rattle.clausal_form.proofs.AboutNaming.OccurringLemmas.{is_some}
-use Rattle.clausal_form.proofs.AboutCounts.HeavyLemmas.{has-clauses, product-some, form-has, written-size, written-sizes}
+use Rattle.clausal_form.proofs.AboutCounts.HeavyLemmas.{has-clauses, product-some, written-size, written-sizes}
 use Rattle.clausal_form.proofs.AboutCounts.MeasureLemmas.{before-symbols, pairs-symbols}
 
 -- the symbols of a work's clauses, and of those that define names

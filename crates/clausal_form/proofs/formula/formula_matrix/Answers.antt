@@ -11,7 +11,7 @@ use Rattle.signature.specs.declared.symbol.Symbol.{Symbol}
 use Rattle.skolem.specs.Skolemized.{AreKnown}
 use Rattle.skolem.proofs.AboutFormulas.ProblemLemmas.{normal_form_keeps_known_symbols}
 use Rattle.clausal_form.proofs.AboutNaming.NameLemmas.{closed-known}
-use Rattle.clausal_form.proofs.AboutCounts.PassingLemmas.{heavy-form-of, heavy-matrix-of}
+use Rattle.clausal_form.proofs.AboutCounts.PassingLemmas.{heavy-form-of, heavy-end-of}
 use Rattle.clausal_form.proofs.formula.formula_matrix.Goals as goal
 
 -- the normal form has known symbols alone
@@ -37,7 +37,7 @@ pub returns-then-weight : goal.returns-then-weight
 returns-then-weight c =
     heavy-form-of c.args.signature.now c.args.annotated.now _ _ c.in_ok-form.ensures c.form_weight-weight.ensures.heavy c.if-weight.true
 
-pub returns-then-is_heavy_matrix : goal.returns-then-is_heavy_matrix
-returns-then-is_heavy_matrix c =
-    heavy-matrix-of c.args.signature.now c.args.annotated.now _ _ _ c.in_ok-form.ensures c.in_ok-made.ensures.matrix c.is_heavy_matrix.ensures
-    c.if-is_heavy_matrix.true
+pub returns-in-Err-TooHeavy : goal.returns-in-Err-TooHeavy
+returns-in-Err-TooHeavy c =
+    heavy-end-of c.args.signature.now c.args.annotated.now _ c.in-Err-TooHeavy.field-0 c.in_ok-form.ensures c.in-Err-TooHeavy.field-0-is
+    c.in-Err-TooHeavy.ensures.ended

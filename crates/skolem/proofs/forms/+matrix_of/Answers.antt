@@ -1,7 +1,9 @@
 use Rattle.std.proofs.Common.{◌++◌, arith, ap, refl, ◌∙◌}
+use Rattle.std.proofs.lemmas.Result.{err_from_is_err_and}
 use Rattle.skolem.specs.Matrix.{matrices_of}
 use Rattle.skolem.proofs.AboutBindings.OccurringLemmas.{form-item-is}
 use Rattle.skolem.proofs.AboutFormulas.FormLemmas.{listed, matrices_left, forms-known}
+use Rattle.skolem.proofs.AboutFormulas.HeavyLemmas.{ended-member, ended-product}
 use Rattle.skolem.proofs.forms.+matrix_of.Goals as goal
 
 pub matrices_of-loop-form-init : goal.matrices_of-loop-form-init
@@ -15,3 +17,10 @@ matrices_of-matrix_of-requires t c = (
   omega (arith, form-item-is _ _ _ c.loop-form-test.true c.form-item.is, c.decreases),
   (forms-known c.args.signature.now _ _ c.form-item.result c.loop-form-test.true c.form-item.is c.loop-form.invariant.1.1.1).0,
 )
+
+pub matrices_of-returns-in_err-matrix-clause-ended : goal.matrices_of-returns-in_err-matrix-clause-ended
+matrices_of-returns-in_err-matrix-clause-ended t c =
+    let p = err_from_is_err_and c.from_residual.result c.from_residual.ensures.1 in
+    rw (p.1, p.2)
+    (ended-member c.args.signature.now c.args.forms.now c.loop-form.form-index c.form-item.result c.loop-form.progress c.loop-form.matrices _ _ c.args.in_clauses
+    c.loop-form-test.true c.form-item.is c.loop-form.invariant.0 c.in_err-matrix.ensures.ended)
