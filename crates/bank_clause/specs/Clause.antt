@@ -1,5 +1,5 @@
 -- Clauses in a bank: what they stand for, and which are of the bank.
-use Rattle.std.specs.Prelude.{◌≡◌, nat_eq, Bool, false, List, [], ◌∷◌, map, flat_map, Some}
+use Rattle.std.specs.Prelude.{◌≡◌, ℕ, ◌+◌, ◌*◌, nat_eq, Bool, false, List, [], ◌∷◌, map, flat_map, Some}
 use Rattle.std.specs.Ordering.{on, eq_of_both}
 use lib.Pointwise.{pointwise}
 use Rattle.std.specs.List.{All}
@@ -7,6 +7,8 @@ use Rattle.std.specs.List.Sorted.{IsStrictlyIncreasing}
 use Rattle.plain_types.specs.declared.sequence.NameLit.{NameLit}
 use Rattle.fol_base.specs.Tree.{Tree}
 use Rattle.fol_base.specs.Clause.{TreeLiteral, TreeClause}
+use Rattle.fol_base.specs.declared.clause.Side.{Side}
+use Rattle.fol_base.specs.declared.clause.Side.TheVariants.{Left, Right}
 use Rattle.term_bank.specs.Bank.{number, tree_at}
 use Rattle.term_bank.specs.Table.{number_in}
 use Rattle.term_bank.specs.Literal.{AreLiteralsOf, same_numbers}
@@ -48,6 +50,11 @@ literal_sides l = l.left ∷ l.right ∷ []
 
 abbrev pub sides : List TreeLiteral → List Tree
 sides ls = flat_map literal_sides ls
+
+-- the left side of literal i of several, or of the unit with number i, has the number 2i, its right side the next one
+abbrev pub side_number : ℕ → Side → ℕ
+side_number i Left = 2 * i
+side_number i Right = 2 * i + 1
 
 -- the references of a literal are those that the table has for its sides
 abbrev pub IsKnown : Table → BankLit → Type 0

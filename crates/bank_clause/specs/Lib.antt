@@ -1,5 +1,6 @@
 pub mod Parts
 pub mod Clause
+pub mod Members
 pub mod Equality
 pub mod Laws
 pub mod Lending

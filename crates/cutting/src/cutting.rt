@@ -16,7 +16,7 @@ use bank_clause::{BankClause, Member};
 use fol_base::{Clause, LendsLiterals, LiteralRef};
 use kernel_steps::Reduced;
 use plain_types::Mem;
-use reduction::{extend, last_number, unreduced};
+use reduction::{extend, last_number, unreduced_copy};
 use std::alloc::Global;
 use term_bank::Bank;
 
@@ -32,7 +32,7 @@ pub fn cut_unit(alloc: Global, bank: &Bank, unit: &Member, clause: &Clause) -> M
     requires { IsMemberOf bank.now unit.now }
     ensures { IfOk result (IsCutUnit unit.now (clause_of clause.now)) }
 {
-    let mut reduced = unreduced(alloc, clause)?;
+    let mut reduced = unreduced_copy(alloc, clause)?;
     if cut_by(alloc, bank, unit, &mut reduced)? {
         Ok(Some(reduced))
     } else {

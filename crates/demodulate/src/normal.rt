@@ -14,7 +14,7 @@ use fol_base::Clause;
 use kernel_steps::Reduced;
 use plain_types::Mem;
 use reduction::laws::moves_extend_reductions;
-use reduction::unreduced;
+use reduction::unreduced_copy;
 use rewriting::{Rewriters, Units, asserted_numbers};
 use std::alloc::Global;
 use term_bank::Bank;
@@ -42,7 +42,7 @@ pub fn normal_form(
         left_out,
     };
     moves_extend_reductions();
-    let mut made = unreduced(alloc, clause)?;
+    let mut made = unreduced_copy(alloc, clause)?;
     'steps: loop {
         let stepped = rewrite_once(alloc, &by, &mut made)?;
         if !stepped {

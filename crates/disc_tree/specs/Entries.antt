@@ -11,6 +11,10 @@ abbrev pub IsIn : {X : Type 0} → X → List X → Type 0
 IsIn x [] = ⊥
 IsIn x (y ∷ ys) = (x ≡ y) ⊎ IsIn x ys
 
+-- each element stays
+abbrev pub KeepsAll : {X : Type 0} → List X → List X → Type 0
+KeepsAll {X} old new = (x : X) → IsIn x old → IsIn x new
+
 -- more is fewer with one element put in at some place
 pub record IsWith {X : Type 0} (x : X) (fewer : List X) (more : List X) : Type 0 where
   pub front : List X

@@ -1,6 +1,6 @@
 -- Equality factoring by two sides of a clause.
 use mathlib.Core.Bool.{beq}
-use Rattle.std.specs.Prelude.{◌≡◌, ℕ, ◌+◌, ◌*◌, Bool, true, false, ◌&&◌, ◌||◌, ◌==◌, not, nat_lt, List, Option, None, Some, slice_get, IsTrue}
+use Rattle.std.specs.Prelude.{◌≡◌, ℕ, Bool, true, false, ◌&&◌, ◌||◌, ◌==◌, not, nat_lt, List, Option, None, Some, slice_get, IsTrue}
 use Rattle.fol_base.specs.Tree.{variable, is_truth}
 use Rattle.fol_base.specs.Clause.{TreeLiteral, TreeClause, clause_variables}
 use Rattle.fol_base.specs.Canonical.{bound_of}
@@ -8,11 +8,10 @@ use Rattle.fol_base.specs.Selection.{SelectionMode, eligible}
 use Rattle.fol_base.specs.Sides.{side_of, other_side_of}
 use Rattle.fol_base.specs.WellFormed.{SymbolUse, are_literals_of}
 use Rattle.fol_base.specs.declared.clause.Side.{Side}
-use Rattle.fol_base.specs.declared.clause.Side.TheVariants.{Left, Right}
 use Rattle.kernel_steps.specs.Inference.{other_side_not_above}
 use Rattle.kernel_steps.specs.declared.key.Key.{Key}
 use Rattle.kernel_steps.specs.declared.key.Key.TheVariants.{Factor}
-use Rattle.bank_clause.specs.Clause.{clause_at}
+use Rattle.bank_clause.specs.Clause.{clause_at, side_number}
 use Rattle.bank_clause.specs.declared.member.Member.{Member}
 use Rattle.unifier.specs.Bindings.{IsUnified}
 use Rattle.unifier.specs.Renaming.{fits}
@@ -23,11 +22,6 @@ use Rattle.eq_rules.specs.declared.inference.Inference.{Inference}
 use Rattle.unifier.specs.SolvedForm.{SolvedForm}
 
 -- ---- sides by numbers
-
--- the left side of literal i has the number 2i, its right side the next one
-abbrev pub side_number : ℕ → Side → ℕ
-side_number i Left = 2 * i
-side_number i Right = 2 * i + 1
 
 abbrev pub number_of : LiteralSide → ℕ
 number_of s = side_number s.literal s.side

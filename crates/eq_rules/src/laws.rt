@@ -13,7 +13,8 @@ ghost use Rattle.kernel_steps.specs.Sized.{IsSizedInference, SizedFactoring, Siz
 ghost use Rattle.kernel_steps.specs.Lines.{key_of, clause_parents};
 ghost use Rattle.eq_rules.specs.Inferences.{IsConcluded, bindings_of, is_factoring, is_resolution};
 ghost use Rattle.eq_rules.specs.Examples.{found_at_four, found_at_three};
-ghost use Rattle.eq_rules.specs.Factoring.{are_alike, factors_before, side_number};
+ghost use Rattle.eq_rules.specs.Factoring.{are_alike, factors_before};
+ghost use Rattle.bank_clause.specs.Clause.{side_number};
 ghost use Rattle.eq_rules.specs.Renumbered.{AreNumberedInOrder};
 
 /// Sizes of inferences: of `X0 != a | p(X0)`, with the conclusion `p(a)`, and of `p(X0) | p(a)`, with `~$true | p(a)`.

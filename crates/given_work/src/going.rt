@@ -46,7 +46,7 @@ fn reduced_member(alloc: Global, by: &Simplifiers<'_>, member: &Member) -> Mem<R
     ensures { IfOk result (IsReducedBy by.now.equations.now by.now.units.now by.now.left_out (clause_at member.now.clause)) }
 {
     let clause = member.clause.to_clause(by.bank)?;
-    let mut reduced = unreduced(alloc, &clause)?;
+    let mut reduced = unreduced(alloc, clause);
     reduce(alloc, by, &mut reduced)?;
     Ok(reduced)
 }

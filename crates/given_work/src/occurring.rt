@@ -7,7 +7,7 @@ ghost use Rattle.fol_base.specs.Order.{tree_greater};
 ghost use Rattle.fol_base.specs.Term.{tree_of};
 ghost use Rattle.fol_base.specs.Tree.{tree_size};
 ghost use Rattle.fol_base.specs.declared.limits.TheConstants.{SIZE_LIMIT};
-ghost use Rattle.partners.specs.Index.{KeepsAll};
+ghost use Rattle.disc_tree.specs.Entries.{KeepsAll};
 ghost use Rattle.given_work.specs.Occurring.{ListsLiterals, ListsSide, ListsTerm, ListsTerms, numbers_with_instances};
 ghost use Rattle.unit_index.specs.Indexed.{KeepsOthers};
 

@@ -63,7 +63,7 @@ fn literals_go_one_after_another(rt: HostRuntime) {
     let alloc = rt.alloc();
     let given = clause(alloc, "p(X0) | ~$ | p(X0)").expect(&rt, "memory");
     let wanted = clause(alloc, "p(X0)").expect(&rt, "memory");
-    let mut reduced = unreduced(alloc, &given).expect(&rt, "memory");
+    let mut reduced = unreduced(alloc, given);
     for is_there in [true, false] {
         let dropped = drop_trivial(alloc, &mut reduced).expect(&rt, "memory");
         assert!(rt; dropped == is_there);

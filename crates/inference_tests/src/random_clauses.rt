@@ -122,7 +122,7 @@ fn sets_agree_with_scans(rt: HostRuntime) {
         let lowest = forward_except(alloc, &bank, &set, &clause, left_out).expect(&rt, "memory");
         let scanned = lowest_by_scan(&rt, alloc, &bank, members.as_slice(), &clause, left_out);
         assert!(rt; lowest == scanned);
-        let mut reduced = unreduced(alloc, &clause).expect(&rt, "memory");
+        let mut reduced = unreduced(alloc, clause);
         let is_cut = units.cut_once(alloc, &bank, Some(left_out), &mut reduced);
         let is_cut = is_cut.expect(&rt, "memory");
         assert!(rt; is_cut == is_cut_by_scan(&rt, alloc, &bank, members.as_slice(), one));

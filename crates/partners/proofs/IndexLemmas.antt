@@ -5,11 +5,11 @@ use Rattle.std.proofs.lemmas.Bool.{true≢false}
 use Rattle.std.proofs.lemmas.Option.{same_Some, slice_get_within}
 use Rattle.fol_base.specs.Tree.{Tree}
 use Rattle.fol_base.specs.Clause.{TreeLiteral}
-use Rattle.disc_tree.specs.Entries.{IsIn, IsWith, numbers_where}
+use Rattle.disc_tree.specs.Entries.{IsIn, IsWith, numbers_where, KeepsAll}
 use Rattle.disc_tree.proofs.AboutPaths.EntryLemmas.{in-with}
 use Rattle.superpose.proofs.AboutLists.ListLemmas.{In}
 use Rattle.partners.specs.declared.index.TheConstants.{MOST_SITES}
-use Rattle.partners.specs.Index.{AreIndexed, KeepsAll, KeepsOthers, site_number}
+use Rattle.partners.specs.Index.{AreIndexed, KeepsOthers, site_number}
 
 -- ---- numbers of sites
 

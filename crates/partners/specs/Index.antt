@@ -18,7 +18,3 @@ AreIndexed {S} term_in ls number sites entries =
 abbrev pub KeepsOthers : ℕ → List (Tree × ℕ) → List (Tree × ℕ) → Type 0
 KeepsOthers number old new =
     (t : Tree) (n i : ℕ) → (n ≡ number → ⊥) → i < MOST_SITES → IsIn (t, site_number n i) old → IsIn (t, site_number n i) new
-
--- all entries stay
-abbrev pub KeepsAll : List (Tree × ℕ) → List (Tree × ℕ) → Type 0
-KeepsAll old new = (e : Tree × ℕ) → IsIn e old → IsIn e new

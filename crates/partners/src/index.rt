@@ -3,8 +3,8 @@
 ghost use Rattle.std.specs.Prelude.{◌≡◌, ◌↔◌, ◌<◌, ◌≤◌, ◌/◌, ◌%◌, ℕ, Contains, length, slice_get, IfOk, Some};
 ghost use Rattle.std.specs.List.Sorted.{IsStrictlyIncreasing};
 ghost use Rattle.fol_base.specs.Tree.{Tree};
-ghost use Rattle.disc_tree.specs.Entries.{IsIn};
-ghost use Rattle.partners.specs.Index.{AreIndexed, KeepsAll, KeepsOthers, site_number};
+ghost use Rattle.disc_tree.specs.Entries.{IsIn, KeepsAll};
+ghost use Rattle.partners.specs.Index.{AreIndexed, KeepsOthers, site_number};
 
 use crate::site::Site;
 use bank_clause::BankLiterals;

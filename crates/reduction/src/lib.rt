@@ -6,6 +6,6 @@ mod reduced;
 
 pub use extending::{extend, last_number};
 pub use kernel_steps::Reduced;
-pub use reduced::{put_used, unreduced};
+pub use reduced::{put_used, unreduced, unreduced_copy};
 
 pub mod laws;

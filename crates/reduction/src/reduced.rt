@@ -11,18 +11,28 @@ use kernel_steps::{Derivation, Reduced};
 use plain_types::{Mem, Numbers};
 use std::alloc::Global;
 
-/// A clause to which nothing was done, as a reduced one: an equal clause, without lines.
-pub fn unreduced(alloc: Global, clause: &Clause) -> Mem<Reduced>
+/// A clause to which nothing was done, as a reduced one: the clause itself, without lines. It takes no memory.
+pub fn unreduced(alloc: Global, clause: Clause) -> Reduced
+    ensures reduced { (is_predicate : ℕ → Bool) (clauses : ℕ → Option TreeClause) → IsReduced is_predicate clauses (clause_of clause) result }
+    ensures same { result.clause ≡ clause }
+    ensures no_lines { result.lines ≡ [] }
+{
+    Reduced {
+        clause,
+        lines: Derivation::new(alloc),
+        used: Numbers::new(alloc),
+    }
+}
+
+/// The same of a copy of the clause, for who doesn't own it.
+pub fn unreduced_copy(alloc: Global, clause: &Clause) -> Mem<Reduced>
     ensures reduced { IfOk result (λ made. (is_predicate : ℕ → Bool) (clauses : ℕ → Option TreeClause)
         → IsReduced is_predicate clauses (clause_of clause.now) made) }
     ensures same { IfOk result (λ made. clause_of made.clause ≡ clause_of clause.now) }
     ensures no_lines { IfOk result (λ made. made.lines ≡ []) }
 {
-    Ok(Reduced {
-        clause: clause.copy(alloc)?,
-        lines: Derivation::new(alloc),
-        used: Numbers::new(alloc),
-    })
+    let copied = clause.copy(alloc)?;
+    Ok(unreduced(alloc, copied))
 }
 
 /// Notes a clause that was used, by its number, unless it is there. After want of memory the list is as before.

@@ -9,7 +9,8 @@ use Rattle.fol_base.specs.declared.clause.Side.{Side}
 use Rattle.unifier.specs.Laws.{are_of_one_kind, AreFunctionPairs}
 use Rattle.unifier.specs.Matching.{by_pairs, are_below}
 use Rattle.rewriting.specs.Redex.{Spot, spot_at, root_spot, inner, IsRedex, HasRedex, IsNormal, IsNormalLiteral}
-use Rattle.rewriting.specs.Units.{side_number, usable}
+use Rattle.rewriting.specs.Units.{usable}
+use Rattle.bank_clause.specs.Clause.{side_number}
 use Rattle.rewriting.specs.declared.searching.Rewrite.{Rewrite}
 use Rattle.rewriting.specs.declared.searching.Found.{Found}
 use Rattle.rewriting.specs.declared.searching.Rewriters.{Rewriters}

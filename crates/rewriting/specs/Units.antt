@@ -1,5 +1,5 @@
 -- Sets of units: what contracts see of one, and what its index has.
-use Rattle.std.specs.Prelude.{◌≡◌, ℕ, ◌+◌, ◌*◌, ◌<◌, ◌^◌, Bool, true, not, ◌&&◌, ◌==◌, List, [], ◌∷◌, Option, None, Some, option_and_then, IsTrue, if◌then◌else◌}
+use Rattle.std.specs.Prelude.{◌≡◌, ℕ, ◌<◌, ◌^◌, Bool, true, not, ◌&&◌, ◌==◌, List, [], ◌∷◌, Option, None, Some, option_and_then, IsTrue, if◌then◌else◌}
 use Rattle.std.specs.Coded.{Coded, codes}
 use Rattle.std.specs.List.{list_any, list_all}
 use Rattle.fol_base.specs.Tree.{Tree, tree_variables}
@@ -12,7 +12,7 @@ use Rattle.fol_base.specs.declared.clause.Side.{Side}
 use Rattle.fol_base.specs.declared.clause.Side.TheVariants.{Left, Right}
 use Rattle.term_bank.specs.Reference.{reference_code}
 use Rattle.term_bank.specs.declared.bank.Bank.{Bank}
-use Rattle.bank_clause.specs.Clause.{clause_at, IsClauseOf}
+use Rattle.bank_clause.specs.Clause.{clause_at, IsClauseOf, side_number}
 use Rattle.bank_clause.specs.declared.clause.BankClause.{BankClause}
 use Rattle.bank_clause.specs.declared.member.Member.{Member}
 use Rattle.disc_tree.specs.Entries.{IsIn}
@@ -62,11 +62,6 @@ has_other_variables s e =
 -- whether it may rewrite by this side: the other one isn't greater, since then none of its instances is smaller
 abbrev pub may_rewrite : Side → TreeLiteral → Bool
 may_rewrite s e = has_other_variables s e && not (tree_greater (other_side_of s e) (side_of s e))
-
--- the number of an entry: of a member's side
-abbrev pub side_number : ℕ → Side → ℕ
-side_number n Left = 2 * n
-side_number n Right = 2 * n + 1
 
 abbrev pub member_of : ℕ × Unit → Member
 member_of e = record { number = e.0; clause = e.1.clause }

@@ -10,9 +10,10 @@ ghost use Rattle.fol_base.specs.Sides.{side_of};
 ghost use Rattle.fol_base.specs.declared.limits.TheConstants.{SIZE_LIMIT};
 ghost use Rattle.fol_base.specs.Lent.{lent_of};
 ghost use Rattle.fol_base.specs.declared.clause.Side.{Side};
-ghost use Rattle.disc_tree.specs.Entries.{IsIn};
-ghost use Rattle.rewriting.specs.Units.{may_rewrite, oriented, side_number};
-ghost use Rattle.rewriting.specs.Index.{KeepsOthers, KeepsAll};
+ghost use Rattle.disc_tree.specs.Entries.{IsIn, KeepsAll};
+ghost use Rattle.rewriting.specs.Units.{may_rewrite, oriented};
+ghost use Rattle.bank_clause.specs.Clause.{side_number};
+ghost use Rattle.rewriting.specs.Index.{KeepsOthers};
 
 use disc_tree::DiscTree;
 use fol_base::{LiteralRef, Side, Term, push_variables};

@@ -4,7 +4,8 @@ ghost use Rattle.std.specs.Prelude.{◌≡◌, [], ◌∷◌, None, Some, IsTrue
 ghost use Rattle.fol_base.specs.Examples.{x, a, b, c, f, p, equation};
 ghost use Rattle.fol_base.specs.Rules.{disequation};
 ghost use Rattle.fol_base.specs.declared.clause.Side.TheVariants.{Left, Right};
-ghost use Rattle.rewriting.specs.Units.{has_other_variables, is_kept, may_rewrite, side_number};
+ghost use Rattle.rewriting.specs.Units.{has_other_variables, is_kept, may_rewrite};
+ghost use Rattle.bank_clause.specs.Clause.{side_number};
 ghost use Rattle.rewriting.specs.Redex.{inner, is_within, root_spot, spot_at};
 ghost use Rattle.rewriting.specs.Laws.{NormalClausesStay, RedexesGive, RedexesRewrite};
 

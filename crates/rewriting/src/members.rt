@@ -5,7 +5,8 @@ ghost use Rattle.fol_base.specs.WellFormed.{SymbolUse};
 ghost use Rattle.bank_clause.specs.Clause.{AreMembersOf, IsMemberOf, clause_at};
 ghost use Rattle.bank_clause.specs.declared.member.Member.{Member};
 ghost use Rattle.rewriting.specs.Units.{IsUnit, clause_numbered};
-ghost use Rattle.rewriting.specs.Rewritable.{AreRewritable, IsFormed, IsRewrittenBy};
+ghost use Rattle.rewriting.specs.Rewritable.{AreRewritable, IsRewrittenBy};
+ghost use Rattle.bank_clause.specs.Members.{IsMemberOfUse};
 
 use crate::searching::Rewriters;
 use crate::units::Units;
@@ -55,7 +56,7 @@ fn is_rewritten(
     requires alone { (n : ℕ) → clause_numbered n units.now ≡ (if unit.now.number == n then Some unit.now.clause else None) }
     requires of_bank { IsMemberOf bank.now unit.now }
     requires member { IsMemberOf bank.now member.now }
-    ensures { IfOk result (λ answer. (usage : SymbolUse) → IsFormed usage unit.now → IsFormed usage member.now
+    ensures { IfOk result (λ answer. (usage : SymbolUse) → IsMemberOfUse usage unit.now → IsMemberOfUse usage member.now
         → MatchBool answer (IsRewrittenBy usage.is_predicate unit.now member.now) (IsRewrittenBy usage.is_predicate unit.now member.now → ⊥)) }
 {
     let is_small = u64::from(member.clause.size()) < SIZE_LIMIT;

@@ -13,7 +13,8 @@ use Rattle.bank_clause.specs.Clause.{clause_at}
 use Rattle.bank_clause.specs.declared.member.Member.{Member}
 use Rattle.reduction.specs.Reduced.{IsReduced}
 use Rattle.rewriting.specs.Units.{is_kept}
-use Rattle.subsume.specs.Searching.{AreMembersOfUse, IsLowest, IsSubsumer}
+use Rattle.subsume.specs.Searching.{IsLowest, IsSubsumer}
+use Rattle.bank_clause.specs.Members.{AreMembersOfUse}
 use Rattle.simplification.specs.Reducing.{IsFurther, IsIrreducibleBySteps}
 use Rattle.simplification.specs.Simplified.{IsSimplified, KeepsForm, LeadsTo}
 use Rattle.simplification.specs.Usable.{AreFormed, AreOfClauses, HasAll, IsAmong, IsMemberWith, without}

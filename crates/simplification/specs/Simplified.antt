@@ -9,7 +9,7 @@ use Rattle.kernel_steps.specs.Inference.{IsIrreducible, is_tautology}
 use Rattle.kernel_steps.specs.Moves.{Move, AreMoves, end_of_moves}
 use Rattle.bank_clause.specs.declared.member.Member.{Member}
 use Rattle.reduction.specs.Reduced.{IsReduced}
-use Rattle.subsume.specs.Searching.{AreMembersOfUse}
+use Rattle.bank_clause.specs.Members.{AreMembersOfUse}
 use Rattle.simplification.specs.Usable.{AreFormed, AreOfClauses, HasAll, IsAmong, without}
 use Rattle.simplification.specs.declared.simplifying.Simplified.{Simplified}
 use Rattle.simplification.specs.declared.simplifying.Simplified.TheVariants.{Tautology, Subsumed, Reduced}

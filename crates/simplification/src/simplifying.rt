@@ -9,7 +9,8 @@ ghost use Rattle.fol_base.specs.declared.limits.TheConstants.{MOST_SYMBOLS};
 ghost use Rattle.kernel_steps.specs.Names.{are_sorted};
 ghost use Rattle.bank_clause.specs.Clause.{AreMembersOf};
 ghost use Rattle.rewriting.specs.Units.{AreClausesOf};
-ghost use Rattle.subsume.specs.Searching.{AreMembersOfUse, IsLowest, IsSubsumer};
+ghost use Rattle.subsume.specs.Searching.{IsLowest, IsSubsumer};
+ghost use Rattle.bank_clause.specs.Members.{AreMembersOfUse};
 ghost use Rattle.simplification.specs.Simplified.{IsSimplified, ResultKeepsForm};
 
 use crate::reducing::{Reduction, reduce};
@@ -18,7 +19,7 @@ use cutting::is_tautology;
 use fol_base::Clause;
 use kernel_steps::Reduced;
 use plain_types::Mem;
-use reduction::unreduced;
+use reduction::unreduced_copy;
 use std::alloc::Global;
 use subsume::{forward, forward_except};
 
@@ -48,7 +49,7 @@ pub fn simplify(alloc: Global, by: &Simplifiers<'_>, clause: &Clause) -> Mem<Sim
     if is_tautology(clause) {
         return Ok(Simplified::Tautology);
     }
-    let mut reduced = unreduced(alloc, clause)?;
+    let mut reduced = unreduced_copy(alloc, clause)?;
     match reduce(alloc, by, &mut reduced)? {
         Reduction::Tautology => Ok(Simplified::Tautology),
         Reduction::Irreducible => match lowest_subsumer(alloc, by, &reduced.clause)? {

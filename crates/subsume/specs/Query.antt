@@ -5,7 +5,8 @@ use Rattle.fol_base.specs.WellFormed.{SymbolUse, are_literals_of}
 use Rattle.bank_clause.specs.declared.member.Member.{Member}
 use Rattle.subsume.specs.Features.{AreFeaturesOf}
 use Rattle.subsume.specs.Target.{IsTargetOf}
-use Rattle.subsume.specs.Searching.{IsMemberOfUse, AreMembersOfUse, IsSubsumer, IsBelow, IsLowestBelow}
+use Rattle.subsume.specs.Searching.{IsSubsumer, IsBelow, IsLowestBelow}
+use Rattle.bank_clause.specs.Members.{IsMemberOfUse, AreMembersOfUse}
 use Rattle.subsume.specs.declared.lowest.Query.{Query}
 
 -- the query is for what subsumes the clause, which is well-formed

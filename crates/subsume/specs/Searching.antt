@@ -1,18 +1,11 @@
 -- What searches of a set of members answer.
-use Rattle.std.specs.Prelude.{◌≡◌, ◌↔◌, ◌⊎◌, ℕ, ◌<◌, ◌≤◌, List, [], ◌∷◌, ◌++◌, Option, None, Some, All, Contains, IsTrue, ⊤}
-use Rattle.std.specs.List.Sorted.{IsStrictlyIncreasing}
+use Rattle.std.specs.Prelude.{◌≡◌, ◌⊎◌, ℕ, ◌<◌, ◌≤◌, List, [], ◌∷◌, ◌++◌, Option, None, Some, Contains, ⊤}
 use Rattle.fol_base.specs.Clause.{TreeClause}
 use Rattle.fol_base.specs.Subsumption.{Subsumes}
-use Rattle.fol_base.specs.WellFormed.{SymbolUse, are_literals_of}
+use Rattle.fol_base.specs.WellFormed.{SymbolUse}
 use Rattle.bank_clause.specs.Clause.{clause_at}
+use Rattle.bank_clause.specs.Members.{IsMemberOfUse, AreMembersOfUse, SomeMember}
 use Rattle.bank_clause.specs.declared.member.Member.{Member}
-
--- the member's clause is well-formed under a use of the symbols
-abbrev pub IsMemberOfUse : SymbolUse → Member → Type 0
-IsMemberOfUse usage m = IsTrue (are_literals_of usage (clause_at m.clause).literals)
-
-abbrev pub AreMembersOfUse : SymbolUse → List Member → Type 0
-AreMembersOfUse usage ms = All (IsMemberOfUse usage) ms
 
 -- a member other than the one that is left out, if one is, whose clause subsumes the clause
 pub record IsSubsumer (usage : SymbolUse) (except : Option ℕ) (d : TreeClause) (m : Member) : Type 0 where
@@ -24,22 +17,10 @@ pub record IsSubsumedBy (usage : SymbolUse) (by : Member) (m : Member) : Type 0 
   pub other : by.number ≡ m.number → ⊥
   pub subsumed : Subsumes usage.is_predicate (clause_at by.clause) (clause_at m.clause)
 
--- a member that does it, with this number
-pub record SomeMember (Does : Member → Type 0) (ms : List Member) (n : ℕ) : Type 0 where
-  pub member : Member
-  pub there : Contains ms member
-  pub does : Does member
-  pub number : member.number ≡ n
-
 -- the lowest number of a member that does it; none where no member does
 abbrev pub IsLowest : (Member → Type 0) → List Member → Option ℕ → Type 0
 IsLowest Does ms None = (m : Member) → Contains ms m → Does m → ⊥
 IsLowest Does ms (Some n) = SomeMember Does ms n × ((m : Member) → Contains ms m → Does m → n ≤ m.number)
-
--- the numbers of exactly the members that do it, rising
-pub record AreNumbersOf (Does : Member → Type 0) (ms : List Member) (ns : List ℕ) : Type 0 where
-  pub rise : IsStrictlyIncreasing ns
-  pub exact : (n : ℕ) → Contains ns n ↔ SomeMember Does ms n
 
 -- below a bound, if there is one
 abbrev pub IsBelow : ℕ → Option ℕ → Type 0

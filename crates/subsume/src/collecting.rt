@@ -4,7 +4,8 @@ ghost use Rattle.std.specs.Prelude.{◌≡◌, ◌↔◌, IfOk, IsTrue, All};
 ghost use Rattle.fol_base.specs.WellFormed.{SymbolUse};
 ghost use Rattle.bank_clause.specs.Clause.{AreMembersOf, IsMemberOf, clause_at};
 ghost use Rattle.subsume.specs.Features.{AreFeaturesOf};
-ghost use Rattle.subsume.specs.Searching.{AddsSubsumed, IsMemberOfUse, IsSubsumedBy};
+ghost use Rattle.subsume.specs.Searching.{AddsSubsumed, IsSubsumedBy};
+ghost use Rattle.bank_clause.specs.Members.{IsMemberOfUse};
 ghost use Rattle.subsume.specs.Tree.{IsEntry, members_of};
 
 use crate::entry::Entry;

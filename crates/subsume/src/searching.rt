@@ -4,7 +4,8 @@ ghost use Rattle.std.specs.Prelude.{◌≡◌, IfOk, IsTrue, None, Some};
 ghost use Rattle.fol_base.specs.Literal.{clause_of};
 ghost use Rattle.fol_base.specs.WellFormed.{SymbolUse, are_literals_of};
 ghost use Rattle.bank_clause.specs.Clause.{AreMembersOf, IsMemberOf};
-ghost use Rattle.subsume.specs.Searching.{AreMembersOfUse, AreNumbersOf, IsLowest, IsMemberOfUse, IsSubsumedBy, IsSubsumer};
+ghost use Rattle.subsume.specs.Searching.{IsLowest, IsSubsumedBy, IsSubsumer};
+ghost use Rattle.bank_clause.specs.Members.{AreMembersOfUse, AreNumbersOf, IsMemberOfUse};
 
 use crate::lowest::Query;
 use crate::subsumers::Subsumers;

@@ -21,7 +21,7 @@ use Rattle.kernel_steps.specs.declared.step.Reduced.{Reduced}
 use Rattle.cutting.specs.CutSteps.{CutsNone, CutsOrNot, IsCutStep}
 use Rattle.fol_base.specs.Literal.{clause_of}
 use Rattle.fol_base.specs.WellFormed.{SymbolUse}
-use Rattle.rewriting.specs.Rewritable.{IsFormed}
+use Rattle.bank_clause.specs.Members.{IsMemberOfUse}
 use Rattle.unit_index.specs.Indexed.{HasCandidates, may_cover, numbered}
 use Rattle.unit_index.specs.Cuts.{CutsNoneAt, SignedCutsNone, IsCutOrNotBy, NoneCuts}
 use Rattle.unit_index.specs.Cuttable.{IsCutBy}
@@ -117,7 +117,7 @@ by-sign units out positive n u c has there signed other v l v_there alone sign k
 -- and what it does to another member
 pub decided :
     (usage : SymbolUse) (unit m : Member) → (m.number ≡ unit.number → ⊥) → (answer : Bool) → CutsOrNot unit (clause_at m.clause) answer
-    → IsFormed usage unit → IsFormed usage m
+    → IsMemberOfUse usage unit → IsMemberOfUse usage m
     → MatchBool answer (IsCutBy usage.is_predicate unit m) (IsCutBy usage.is_predicate unit m → ⊥)
 decided usage unit m another true h of_unit of_member =
     record { another = another; cut = h usage (record { first = of_unit; second = of_member }) }

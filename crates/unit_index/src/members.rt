@@ -3,7 +3,7 @@
 ghost use Rattle.std.specs.Prelude.{IfOk, MatchBool};
 ghost use Rattle.fol_base.specs.WellFormed.{SymbolUse};
 ghost use Rattle.bank_clause.specs.Clause.{AreMembersOf, IsMemberOf};
-ghost use Rattle.rewriting.specs.Rewritable.{IsFormed};
+ghost use Rattle.bank_clause.specs.Members.{IsMemberOfUse};
 ghost use Rattle.unit_index.specs.Cuttable.{AreCuttable, IsCutBy};
 
 use bank_clause::{Member, Members};
@@ -34,7 +34,7 @@ pub fn cuttable(alloc: Global, bank: &Bank, unit: &Member, clauses: &Members) ->
 fn is_cut(alloc: Global, bank: &Bank, unit: &Member, member: &Member) -> Mem<bool>
     requires unit { IsMemberOf bank.now unit.now }
     requires member { IsMemberOf bank.now member.now }
-    ensures { IfOk result (λ answer. (usage : SymbolUse) → IsFormed usage unit.now → IsFormed usage member.now
+    ensures { IfOk result (λ answer. (usage : SymbolUse) → IsMemberOfUse usage unit.now → IsMemberOfUse usage member.now
         → MatchBool answer (IsCutBy usage.is_predicate unit.now member.now) (IsCutBy usage.is_predicate unit.now member.now → ⊥)) }
 {
     if member.number == unit.number {

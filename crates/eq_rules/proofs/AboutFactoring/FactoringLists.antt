@@ -10,10 +10,10 @@ use Rattle.fol_base.specs.declared.clause.Side.TheVariants.{Left, Right}
 use Rattle.kernel_steps.specs.Named.{IsInference}
 use Rattle.kernel_steps.specs.declared.key.Key.{Key}
 use Rattle.kernel_steps.specs.declared.key.Key.TheVariants.{Para, Refl, Factor, Replaced}
-use Rattle.bank_clause.specs.Clause.{clause_at}
+use Rattle.bank_clause.specs.Clause.{clause_at, side_number}
 use Rattle.bank_clause.specs.declared.member.Member.{Member}
 use Rattle.eq_rules.specs.Inferences.{AreInferences, IsMade, alone, is_factoring}
-use Rattle.eq_rules.specs.Factoring.{side_number, number_of, factor_key, factors_before}
+use Rattle.eq_rules.specs.Factoring.{number_of, factor_key, factors_before}
 use Rattle.eq_rules.specs.Trying.{IsTried}
 use Rattle.eq_rules.specs.declared.concluding.FactorPlace.{FactorPlace}
 use Rattle.eq_rules.specs.declared.concluding.LiteralSide.{LiteralSide}

@@ -23,7 +23,8 @@ use Rattle.rewriting.specs.Units.{is_kept}
 use Rattle.calculus.specs.Lifting.{among, IsMember}
 use Rattle.reduction.specs.Reduced.{IsReduced, last_clause, with_number}
 use Rattle.reduction.proofs.ExtendingLemmas.{noted-all, with_number-has, with_number-keeps}
-use Rattle.subsume.specs.Searching.{AreMembersOfUse, IsLowest, IsMemberOfUse, IsSubsumer}
+use Rattle.subsume.specs.Searching.{IsLowest, IsSubsumer}
+use Rattle.bank_clause.specs.Members.{AreMembersOfUse, IsMemberOfUse}
 use Rattle.simplification.specs.Reducing.{IsFurther, IsIrreducibleBySteps, IsReduction}
 use Rattle.simplification.specs.declared.reducing.Reduction.{Reduction}
 use Rattle.simplification.specs.declared.reducing.Reduction.TheVariants as ended

@@ -16,7 +16,8 @@ use Rattle.kernel_steps.specs.declared.step.TheConstants.{CLAUSE_NUMBERS}
 use Rattle.bank_clause.specs.Clause.{clause_at}
 use Rattle.bank_clause.specs.declared.member.Member.{Member}
 use Rattle.calculus.specs.Lifting.{IsMember}
-use Rattle.subsume.specs.Searching.{AreMembersOfUse, AreNumbersOf, IsMemberOfUse, IsSubsumedBy}
+use Rattle.subsume.specs.Searching.{IsSubsumedBy}
+use Rattle.bank_clause.specs.Members.{AreMembersOfUse, AreNumbersOf, IsMemberOfUse}
 use Rattle.pool_core.specs.Record.{GivenJob}
 use Rattle.pool_core.specs.Reduction.{Lookup}
 use Rattle.pool_core.specs.Batches.{IsReducedBeside, Simplifies, is_told, is_told_beside}

@@ -25,11 +25,10 @@ use Rattle.kbo_order.proofs.AboutReading.HeadLemmas.{low_head-not_greater, small
 use Rattle.fol_base.proofs.AboutTerms.TreeLemmas.{list_of-trees_of, tree_size-positive}
 use Rattle.bank_clause.specs.Clause.{clause_at}
 use Rattle.bank_clause.specs.declared.member.Member.{Member}
-use Rattle.disc_tree.specs.Entries.{IsIn, IsWith}
+use Rattle.disc_tree.specs.Entries.{IsIn, IsWith, KeepsAll}
 use Rattle.disc_tree.proofs.AboutPaths.EntryLemmas.{in-with}
 use Rattle.disc_tree.proofs.AboutQueries.UnifierLemmas.{instance-compatible}
 use Rattle.superpose.proofs.AboutLists.ListLemmas.{In, In-contained, In-left, In-right}
-use Rattle.partners.specs.Index.{KeepsAll}
 use Rattle.partners.proofs.IndexLemmas.{in-found}
 use Rattle.given_work.specs.Occurring.{ListsLiterals, ListsMembers, ListsSide, ListsTerm, ListsTerms, numbers_of_instances, numbers_with_instances}
 use Rattle.unit_index.specs.Indexed.{KeepsOthers}

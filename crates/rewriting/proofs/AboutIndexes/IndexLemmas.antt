@@ -7,7 +7,7 @@ use Rattle.fol_base.specs.declared.clause.Side.{Side}
 use Rattle.fol_base.specs.declared.clause.Side.TheVariants.{Left, Right}
 use Rattle.disc_tree.specs.Entries.{IsIn, IsWith, numbers_where}
 use Rattle.disc_tree.proofs.AboutChanges.EditLemmas.{is_in-append}
-use Rattle.rewriting.specs.Units.{side_number}
+use Rattle.bank_clause.specs.Clause.{side_number}
 use Rattle.rewriting.specs.Index.{KeepsOthers}
 
 pub in-left : {X : Type 0} (x : X) (xs ys : List X) → IsIn x xs → IsIn x (xs ++ ys)

@@ -6,10 +6,10 @@ use Rattle.fol_base.specs.Tree.{Tree}
 use Rattle.fol_base.specs.Clause.{TreeLiteral}
 use Rattle.fol_base.specs.Sides.{side_of}
 use Rattle.fol_base.specs.Compatible.{compatible_generalisation}
-use Rattle.bank_clause.specs.Clause.{clause_at}
+use Rattle.bank_clause.specs.Clause.{clause_at, side_number}
 use Rattle.bank_clause.specs.declared.clause.BankClause.{BankClause}
 use Rattle.disc_tree.specs.Entries.{IsIn, numbers_where}
-use Rattle.rewriting.specs.Units.{clause_numbered, member_of, oriented, IsUnit, side_number, may_rewrite, HasCandidates, IsRecorded, IsUnitAt}
+use Rattle.rewriting.specs.Units.{clause_numbered, member_of, oriented, IsUnit, may_rewrite, HasCandidates, IsRecorded, IsUnitAt}
 use Rattle.rewriting.specs.Index.{KeepsOthers}
 use Rattle.rewriting.specs.declared.index.Orientation.{Orientation}
 use Rattle.fol_base.specs.declared.clause.Side.{Side}

@@ -1,9 +1,8 @@
 -- From the search of a member to whether a unit rewrites it.
 use Rattle.std.proofs.Common.{◌≡◌, ◌⊎◌, ℕ, Bool, true, false, not, ◌&&◌, ◌==◌, List, [], ◌∷◌, ◌++◌, refl, ap, sym, ◌∙◌, subst, inl, inr, ⊎_elim, ◌<◌, length, get_or, eqb, arith}
-use Rattle.std.specs.Prelude.{Option, None, Some, option_and_then, IsTrue, All, if◌then◌else◌, MatchOption, MatchBool, is_some}
+use Rattle.std.specs.Prelude.{Option, None, Some, option_and_then, IsTrue, All, if◌then◌else◌, MatchOption, MatchBool, is_some, Contains}
 use Rattle.std.proofs.lemmas.Bool.{true≢false, cases_Bool, cond-true, cond-false, eqb-true, eq-eqb, and_from, and_parts, false_from_ne_true}
 use Rattle.std.proofs.lemmas.Option.{none-some, same_Some}
-use Rattle.std.specs.Prelude.{Contains}
 use Rattle.std.specs.List.{dedup}
 use Rattle.std.specs.List.Sorted.{IsPermutation, IsSorted, IsStrictlyIncreasing}
 use Rattle.std.specs.Ordering.{nat_cmp}
@@ -21,7 +20,8 @@ use Rattle.rewriting.specs.Units.{clause_numbered, is_kept, usable, usable_claus
 use Rattle.rewriting.specs.Redex.{AreNormal}
 use Rattle.rewriting.specs.Searching.{IsFoundOf}
 use Rattle.rewriting.specs.Laws.{AreWellFormed, MayRewrite}
-use Rattle.rewriting.specs.Rewritable.{IsFormed, IsRewrittenBy, SomeMember, AreNumbersOf}
+use Rattle.rewriting.specs.Rewritable.{IsRewrittenBy}
+use Rattle.bank_clause.specs.Members.{IsMemberOfUse, SomeMember, AreNumbersOf}
 use Rattle.rewriting.specs.declared.searching.Found.{Found}
 use Rattle.rewriting.proofs.AboutSearches.TryLemmas.{numbers-asserted}
 use Rattle.rewriting.proofs.AboutRedexes.LawLemmas.{normal_clauses_stay, redexes_rewrite, redexes_give}
@@ -79,7 +79,7 @@ usable-there ms unit out asserted alone another among =
     among)
 
 formed :
-    (usage : SymbolUse) (ms : List Member) (unit m : Member) (asserted : List ℕ) → IsAlone ms unit → IsFormed usage unit → IsFormed usage m
+    (usage : SymbolUse) (ms : List Member) (unit m : Member) (asserted : List ℕ) → IsAlone ms unit → IsMemberOfUse usage unit → IsMemberOfUse usage m
     → AreWellFormed usage (usable ms (Some m.number) asserted) (clause_at m.clause)
 formed usage ms unit m asserted alone of_unit of_member = (
   of_member,
@@ -92,7 +92,7 @@ own-assertions m = numbers-asserted m.clause.names
 
 pub found-rewritten :
     (usage : SymbolUse) (ms : List Member) (unit m : Member) (asserted : List ℕ) (f : Found)
-    → IsAlone ms unit → asserted ≡ m.clause.names → IsFormed usage unit → IsFormed usage m
+    → IsAlone ms unit → asserted ≡ m.clause.names → IsMemberOfUse usage unit → IsMemberOfUse usage m
     → IsFoundOf (usable ms (Some m.number) asserted) (clause_at m.clause).literals f
     → IsRewrittenBy usage.is_predicate unit m
 found-rewritten usage ms unit m asserted f alone own of_unit of_member found =
@@ -113,7 +113,7 @@ found-rewritten usage ms unit m asserted f alone own of_unit of_member found =
 
 pub normal-stays :
     (usage : SymbolUse) (ms : List Member) (unit m : Member) (asserted : List ℕ)
-    → IsAlone ms unit → asserted ≡ m.clause.names → IsFormed usage unit → IsFormed usage m
+    → IsAlone ms unit → asserted ≡ m.clause.names → IsMemberOfUse usage unit → IsMemberOfUse usage m
     → AreNormal (usable ms (Some m.number) asserted) (clause_at m.clause).literals
     → IsRewrittenBy usage.is_predicate unit m → ⊥
 normal-stays usage ms unit m asserted alone own of_unit of_member normal r =
@@ -173,7 +173,7 @@ later : {X : Type 0} (x : X) (xs : List X) (y : X) → Contains xs y → Contain
 later x xs y h = Contains-append_right (x ∷ []) xs y h
 
 one-later : (Holds : Member → Type 0) (m : Member) (ms : List Member) (n : ℕ) → SomeMember Holds ms n → SomeMember Holds (m ∷ ms) n
-one-later Holds m ms n s = record { member = s.member; there = later m ms s.member s.there; holds = s.holds; number = s.number }
+one-later Holds m ms n s = record { member = s.member; there = later m ms s.member s.there; does = s.does; number = s.number }
 
 told : (Holds : Member → Type 0) (ms : List Member) (ns : List ℕ) → AreListed Holds ms ns → (n : ℕ) → Contains ns n → SomeMember Holds ms n
 told Holds [] [] h n there = absurd (empty n there)
@@ -184,7 +184,7 @@ told Holds (m ∷ ms) (k ∷ ns) h n there =
     (λ a. one-later Holds m ms n (told Holds ms (k ∷ ns) a.1 n there))
     (λ b.
     ⊎_elim
-    (λ e. record { member = m; there = first m ms; holds = b.0; number = sym b.1 ∙ e })
+    (λ e. record { member = m; there = first m ms; does = b.0; number = sym b.1 ∙ e })
     (λ e. one-later Holds m ms n (told Holds ms ns b.2 n e))
     (first-or-later k ns n there))
     h
@@ -226,7 +226,7 @@ numbers-rising Holds ms ns sorted made h p s is = record {
     λ one.
         subst (λ ks. Contains ks n) (sym is)
         (Contains-dedup_nat sorted n
-        (Contains-permutation ns sorted n p (subst (Contains ns) one.number (listed Holds ms ns h one.member one.there one.holds)))),
+        (Contains-permutation ns sorted n p (subst (Contains ns) one.number (listed Holds ms ns h one.member one.there one.does)))),
   );
 }
 
@@ -236,7 +236,7 @@ pub answer-is :
     (usage : SymbolUse) (ms : List Member) (unit m : Member) (asserted : List ℕ) (ls : List TreeLiteral) (o : Option Found) (answer : Bool)
     → IsAlone ms unit → asserted ≡ m.clause.names → ls ≡ (clause_at m.clause).literals
     → MatchOption o (AreNormal (usable ms (Some m.number) asserted) ls) (IsFoundOf (usable ms (Some m.number) asserted) ls)
-    → answer ≡ is_some o → IsFormed usage unit → IsFormed usage m
+    → answer ≡ is_some o → IsMemberOfUse usage unit → IsMemberOfUse usage m
     → MatchBool answer (IsRewrittenBy usage.is_predicate unit m) (IsRewrittenBy usage.is_predicate unit m → ⊥)
 answer-is usage ms unit m asserted ls None answer alone own same found told of_unit of_member =
     subst (λ b. MatchBool b (IsRewrittenBy usage.is_predicate unit m) (IsRewrittenBy usage.is_predicate unit m → ⊥)) (sym told)
@@ -253,6 +253,6 @@ pub one-told :
 one-told Holds ms old new m true h told is = subst (λ ns. AreListed Holds (ms ++ m ∷ []) ns) (sym is) (one-more Holds ms old m h told)
 one-told Holds ms old new m false h told is = subst (λ ns. AreListed Holds (ms ++ m ∷ []) ns) (sym is) (one-not Holds ms old m h told)
 
-pub member-formed : (usage : SymbolUse) (ms read : List Member) (i : ℕ) (m : Member) → read ≡ ms → i < length read → m ≡ get_or read i m → All (IsFormed usage) ms → IsFormed usage m
+pub member-formed : (usage : SymbolUse) (ms read : List Member) (i : ℕ) (m : Member) → read ≡ ms → i < length read → m ≡ get_or read i m → All (IsMemberOfUse usage) ms → IsMemberOfUse usage m
 member-formed usage ms read i m same less is all =
-    All-contains (IsFormed usage) read m (subst (λ xs. All (IsFormed usage) xs) (sym same) all) (i, less, sym is)
+    All-contains (IsMemberOfUse usage) read m (subst (λ xs. All (IsMemberOfUse usage) xs) (sym same) all) (i, less, sym is)

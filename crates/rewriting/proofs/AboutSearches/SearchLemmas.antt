@@ -15,13 +15,13 @@ use Rattle.fol_base.proofs.AboutTerms.TreeLemmas.{tree_size-positive, list_of-tr
 use Rattle.kbo_order.proofs.AboutReading.HeadLemmas.{smaller-not_greater, low_head-not_greater}
 use Rattle.disc_tree.specs.Entries.{IsIn}
 use Rattle.disc_tree.proofs.AboutChanges.EditLemmas.{is_in-append}
-use Rattle.bank_clause.specs.Clause.{clause_at}
+use Rattle.bank_clause.specs.Clause.{clause_at, side_number}
 use Rattle.bank_clause.specs.declared.clause.BankClause.{BankClause}
 use Rattle.bank_clause.specs.declared.member.Member.{Member}
 use Rattle.fol_base.specs.Subsumption.{assertions, is_among}
 use Rattle.disc_tree.proofs.AboutQueries.UnifierLemmas.{generalisation-compatible}
 use Rattle.rewriting.proofs.AboutSearches.TryLemmas.{redex-may}
-use Rattle.rewriting.specs.Units.{HasCandidates, usable, usable_clause, clause_numbered, side_number, is_kept}
+use Rattle.rewriting.specs.Units.{HasCandidates, usable, usable_clause, clause_numbered, is_kept}
 use Rattle.rewriting.specs.Redex.{Spot, spot_at, inner, root_spot, HasRedex, IsNormal, IsNormalLiteral}
 use Rattle.rewriting.specs.Searching.{IsPlaced, IsFoundIn, IsFoundInSome, IsFoundAt, IsFoundAtSide, IsFoundOf, IsFoundOfLiteral, IsFoundOfSide, IsRewrite, NotBy}
 use Rattle.rewriting.specs.declared.searching.Rewrite.{Rewrite}

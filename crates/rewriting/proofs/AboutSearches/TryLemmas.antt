@@ -3,7 +3,7 @@ use Rattle.std.proofs.Common.{◌≡◌, ℕ, ◌<◌, ◌≤◌, ◌+◌, ◌*�
 use Rattle.std.specs.Prelude.{filter, sum_by, Option, None, Some, IsTrue, IfSome, MatchOption, slice_get, option_map, option_and_then, if◌then◌else◌}
 use Rattle.plain_types.specs.declared.sequence.NameLit.{NameLit}
 use Rattle.fol_base.specs.Subsumption.{assertions, is_among}
-use Rattle.bank_clause.specs.Clause.{clause_at}
+use Rattle.bank_clause.specs.Clause.{clause_at, side_number}
 use Rattle.bank_clause.specs.Parts.{assertion}
 use Rattle.bank_clause.specs.declared.member.Member.{Member}
 use Rattle.rewriting.specs.declared.units.Unit.{Unit}
@@ -22,7 +22,7 @@ use Rattle.kbo_order.proofs.AboutLaws.StableLemmas.{trees_stable}
 use Rattle.kbo_order.proofs.AboutReading.HeadLemmas.{smaller-not_greater}
 use Rattle.unifier.specs.Laws.{are_of_one_kind, AreFunctionPairs}
 use Rattle.unifier.specs.Matching.{by_pairs, are_below, IsMatched, NoMatcher}
-use Rattle.rewriting.specs.Units.{has_other_variables, may_rewrite, side_number, usable, usable_clause, is_kept, clause_numbered}
+use Rattle.rewriting.specs.Units.{has_other_variables, may_rewrite, usable, usable_clause, is_kept, clause_numbered}
 use Rattle.rewriting.specs.Redex.{Spot, IsRedex, is_within}
 use Rattle.rewriting.specs.Searching.{IsMatchedBy, NotBy}
 use Rattle.rewriting.proofs.AboutIndexes.IndexLemmas.{side_number-unit, side_number-side}

@@ -10,7 +10,8 @@ use Rattle.bank_clause.specs.Clause.{clause_at}
 use Rattle.bank_clause.specs.declared.member.Member.{Member}
 use Rattle.subsume.specs.declared.vector.TheConstants.{MEASURES}
 use Rattle.subsume.specs.Features.{slot, AreFeaturesOf}
-use Rattle.subsume.specs.Searching.{IsLowest, IsMemberOfUse, IsSubsumedBy, AddsSubsumed, IsBelow, IsLowestBelow, IsSubsumer, SomeMember, AreNumbersWhere}
+use Rattle.subsume.specs.Searching.{IsLowest, IsSubsumedBy, AddsSubsumed, IsBelow, IsLowestBelow, IsSubsumer, AreNumbersWhere}
+use Rattle.bank_clause.specs.Members.{IsMemberOfUse, SomeMember}
 use Rattle.subsume.specs.Tree.{feature, member_feature, IsEntry}
 use Rattle.subsume.specs.Query.{IsQueryFor, IsLowering, IsLowestSubsumer}
 use Rattle.subsume.specs.declared.lowest.Query.{Query}

@@ -10,7 +10,8 @@ use Rattle.std.proofs.lemmas.List.Sorted.{IsPermutation-sym, Contains-permutatio
 use Rattle.fol_base.specs.Subsumption.{all_different}
 use Rattle.bank_clause.specs.declared.member.Member.{Member}
 use Rattle.subsume.specs.Members.{numbers_of}
-use Rattle.subsume.specs.Searching.{AreNumbersOf, AreNumbersWhere, SomeMember}
+use Rattle.subsume.specs.Searching.{AreNumbersWhere}
+use Rattle.bank_clause.specs.Members.{AreNumbersOf, SomeMember}
 use Rattle.subsume.proofs.AboutSearch.ChoosingLemmas.{different-permutation}
 
 empty : {X : Type 0} (x : X) → Contains [] x → ⊥

@@ -1,7 +1,7 @@
 use Rattle.std.proofs.Common.{◌+◌, ◌*◌, map}
 use Rattle.fol_base.specs.Tree.{tree_size, trees_size, trees_of}
 use Rattle.fol_base.specs.Term.{tree_of}
-use Rattle.partners.specs.Index.{KeepsAll}
+use Rattle.disc_tree.specs.Entries.{KeepsAll}
 use Rattle.given_work.proofs.AboutMeeting.OccurringLemmas.{ListsBelow}
 use Rattle.given_work.proofs.occurring.+put_term.Given as goal
 

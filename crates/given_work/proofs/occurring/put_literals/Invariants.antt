@@ -1,4 +1,4 @@
-use Rattle.partners.specs.Index.{KeepsAll}
+use Rattle.disc_tree.specs.Entries.{KeepsAll}
 use Rattle.given_work.proofs.AboutMeeting.OccurringLemmas.{ListsLiteralsBelow}
 use Rattle.given_work.proofs.occurring.put_literals.Given as goal
 

@@ -1,4 +1,4 @@
-use Rattle.partners.specs.Index.{KeepsAll}
+use Rattle.disc_tree.specs.Entries.{KeepsAll}
 use Rattle.partners.proofs.IndexLemmas.{AreIndexedBelow}
 use Rattle.partners.proofs.index.put_sites.Given as goal
 

@@ -4,7 +4,8 @@ use Rattle.fol_base.specs.Lent.{lent_of}
 use Rattle.fol_base.specs.declared.clause.Side.{Side}
 use Rattle.fol_base.specs.declared.clause.Side.TheVariants.{Left, Right}
 use Rattle.disc_tree.specs.Entries.{IsIn}
-use Rattle.rewriting.specs.Units.{oriented, side_number}
+use Rattle.rewriting.specs.Units.{oriented}
+use Rattle.bank_clause.specs.Clause.{side_number}
 use Rattle.rewriting.proofs.index.put_sides.Goals as goal
 
 by_side : (P : Side → Type 0) → P Left → P Right → (s : Side) → P s

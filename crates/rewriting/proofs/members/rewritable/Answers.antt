@@ -3,7 +3,8 @@ use Rattle.std.proofs.lemmas.List.{take_all}
 use Rattle.std.proofs.lemmas.List.Filters.{dedup_is}
 use Rattle.fol_base.proofs.ListLemmas.{take_more_item}
 use Rattle.bank_clause.specs.declared.member.Member.{Member}
-use Rattle.rewriting.specs.Rewritable.{AreNumbersOf, IsRewrittenBy}
+use Rattle.rewriting.specs.Rewritable.{IsRewrittenBy}
+use Rattle.bank_clause.specs.Members.{AreNumbersOf}
 use Rattle.rewriting.proofs.AboutRedexes.RewritableLemmas.{AreListed, one-told, member-formed, numbers-rising}
 use Rattle.rewriting.proofs.members.rewritable.Goals as goal
 

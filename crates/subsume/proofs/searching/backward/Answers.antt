@@ -1,6 +1,7 @@
 use Rattle.std.proofs.Common.{◌≡◌, ◌++◌, List, ℕ, sym, ◌∙◌, ap, subst}
 use Rattle.std.specs.Prelude.{IsPermutation}
-use Rattle.subsume.specs.Searching.{AreMembersOfUse, AreNumbersOf, IsSubsumedBy}
+use Rattle.subsume.specs.Searching.{IsSubsumedBy}
+use Rattle.bank_clause.specs.Members.{AreMembersOfUse, AreNumbersOf}
 use Rattle.subsume.proofs.AboutTree.NumberLemmas.{numbers-sorted}
 use Rattle.subsume.proofs.searching.backward.Goals as goal
 

@@ -2,7 +2,8 @@ use Rattle.std.proofs.Common.{sym, ◌∙◌, ap, subst}
 use Rattle.std.proofs.lemmas.Result.{IfOk-weaker}
 use Rattle.fol_base.specs.Literal.{clause_of}
 use Rattle.fol_base.specs.Subsumption.{assertions}
-use Rattle.subsume.specs.Searching.{AreMembersOfUse, IsLowest, IsSubsumer}
+use Rattle.subsume.specs.Searching.{IsLowest, IsSubsumer}
+use Rattle.bank_clause.specs.Members.{AreMembersOfUse}
 use Rattle.subsume.proofs.AboutSearch.SearchLemmas.{lowest-of-all}
 use Rattle.subsume.proofs.searching.lowest_subsumer.Goals as goal
 

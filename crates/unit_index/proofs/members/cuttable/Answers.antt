@@ -5,7 +5,7 @@ use Rattle.std.proofs.lemmas.List.{take_all}
 use Rattle.std.proofs.lemmas.List.Filters.{dedup_is}
 use Rattle.fol_base.proofs.ListLemmas.{take_more_item}
 use Rattle.bank_clause.specs.declared.member.Member.{Member}
-use Rattle.rewriting.specs.Rewritable.{AreNumbersOf}
+use Rattle.bank_clause.specs.Members.{AreNumbersOf}
 use Rattle.rewriting.proofs.AboutRedexes.RewritableLemmas.{AreListed, member-formed, numbers-rising, one-told}
 use Rattle.unit_index.specs.Cuttable.{IsCutBy}
 use Rattle.unit_index.proofs.members.cuttable.Goals as goal

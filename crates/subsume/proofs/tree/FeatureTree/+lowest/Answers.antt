@@ -4,7 +4,8 @@ use Rattle.bank_clause.specs.Clause.{AreMembersOf, IsMemberOf}
 use Rattle.bank_clause.specs.declared.member.Member.{Member}
 use Rattle.subsume.specs.declared.tree.Division.{Division}
 use Rattle.subsume.specs.Tree.{content, IsSound, IsDivision, feature}
-use Rattle.subsume.specs.Searching.{IsLowestBelow, IsSubsumer, IsMemberOfUse, AreMembersOfUse}
+use Rattle.subsume.specs.Searching.{IsLowestBelow, IsSubsumer}
+use Rattle.bank_clause.specs.Members.{IsMemberOfUse, AreMembersOfUse}
 use Rattle.subsume.proofs.AboutSearch.SearchLemmas.{lowest-append, more-stays, All-front, All-back}
 use Rattle.subsume.proofs.tree.FeatureTree.+lowest.Goals as goal
 
