@@ -7,12 +7,12 @@ ghost use Rattle.signature.specs.Occurrences.{formula_symbols};
 ghost use Rattle.signature.specs.Clausal.{canonical_literals};
 ghost use Rattle.signature.specs.Environment.{closed, under_for_all};
 ghost use Rattle.skolem.specs.Shape.{matrix_tree};
+ghost use Rattle.skolem.specs.Heavy.{matrix_total};
 ghost use Rattle.formula_nnf.specs.Shape.{nnf_tree};
 ghost use Rattle.skolem.specs.Skolemized.{AreKnown, skolemized_form};
 ghost use Rattle.fol_base.specs.declared.limits.TheConstants.{MOST_FORM_SYMBOLS};
 ghost use Rattle.clausal_form.specs.Agenda.{placed};
 ghost use Rattle.clausal_form.specs.Formula.{IsMatrixOrCause, Passes, definitions_clauses};
-ghost use Rattle.clausal_form.specs.Heavy.{written_total};
 ghost use Rattle.clausal_form.specs.Naming.{definition_clauses};
 ghost use Rattle.clausal_form.specs.Written.{written};
 
@@ -54,6 +54,7 @@ pub(crate) fn formula_matrix<'a>(
         Ok(made) => Ok(Ok(made)),
         Err(MatrixEnd::NoMemory) => Err(NoMemory),
         Err(MatrixEnd::TooHeavy) => Ok(Err(FormCause::TooHeavy)),
+        Err(MatrixEnd::TotalLimit) => Ok(Err(cause_over_total(alloc, &form, signature)?)),
     }
 }
 
@@ -61,7 +62,7 @@ pub(crate) fn formula_matrix<'a>(
 /// many arguments names have.
 fn cause_over_total<'a>(alloc: Global, form: &Nnf<'a>, signature: &'a Signature) -> Mem<FormCause>
     requires known { AreKnown signature.now (formula_symbols (nnf_tree form.now)) }
-    requires over { MOST_FORM_SYMBOLS < written_total (nnf_tree form.now) }
+    requires over { MOST_FORM_SYMBOLS < matrix_total (skolemized_form signature.now (nnf_tree form.now)).matrix }
     ensures { IfOk result (λ cause. Passes cause (skolemized_form signature.now (nnf_tree form.now)).matrix) }
 {
     if largest_clause(alloc, form, signature)? > MOST_SYMBOLS {

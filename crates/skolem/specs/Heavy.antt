@@ -1,13 +1,13 @@
--- Which parts of a normal form have clauses, and of its matrix; and literals of over MOST_SYMBOLS symbols in a matrix's clauses. A product with a
--- member that has no clauses has none itself, and so no such literal.
-use Rattle.std.specs.Prelude.{◌≡◌, ⊤, nat_lt, Bool, true, false, ◌&&◌, ◌||◌}
+-- Which parts of a normal form have clauses, and of its matrix; literals of over MOST_SYMBOLS symbols in a matrix's clauses; and the symbols of its
+-- literals together. A product with a member that has no clauses has none itself, and so no literal.
+use Rattle.std.specs.Prelude.{◌≡◌, ⊤, ℕ, ◌+◌, ◌<◌, nat_lt, Bool, true, false, ◌&&◌, ◌||◌, if◌then◌else◌}
 use Rattle.tptp_tree.specs.Formula.{FormulaTree, truth, falsity, predicate, equation, negation, conjunction, disjunction, connected, quantified, FormulaTrees, no_formulas, formula_then}
 use Rattle.fol_base.specs.Clause.{literal_size}
-use Rattle.fol_base.specs.declared.limits.TheConstants.{MOST_SYMBOLS}
+use Rattle.fol_base.specs.declared.limits.TheConstants.{MOST_SYMBOLS, MOST_FORM_SYMBOLS}
 use Rattle.skolem.specs.Matrix.{MatrixTree, truth as true_matrix, falsity as false_matrix, literal, conjunction as all_of, disjunction as some_of, MatrixTrees, no_matrices, matrix_then}
 use Rattle.skolem.specs.SkolemizedLaws.{is_predicate}
 use Rattle.skolem.specs.declared.forms.MatrixEnd.{MatrixEnd}
-use Rattle.skolem.specs.declared.forms.MatrixEnd.TheVariants.{NoMemory, TooHeavy}
+use Rattle.skolem.specs.declared.forms.MatrixEnd.TheVariants.{NoMemory, TooHeavy, TotalLimit}
 
 abbrev mutual
   pub has_clauses : MatrixTree → Bool
@@ -37,6 +37,19 @@ abbrev mutual
   some_heavy no_matrices = false
   some_heavy (matrix_then m ms) = heavy_matrix m || some_heavy ms
 
+-- the symbols of the literals in a matrix's clauses, each literal counted once
+abbrev mutual
+  pub matrix_total : MatrixTree → ℕ
+  matrix_total true_matrix = 0
+  matrix_total false_matrix = 0
+  matrix_total (literal l) = literal_size l
+  matrix_total (all_of ms) = matrix_totals ms
+  matrix_total (some_of made ms) = if all_have_clauses ms then matrix_totals ms else 0
+
+  pub matrix_totals : MatrixTrees → ℕ
+  matrix_totals no_matrices = 0
+  matrix_totals (matrix_then m ms) = matrix_total m + matrix_totals ms
+
 -- ---- normal forms, where negation stands before predicates alone
 
 abbrev mutual
@@ -59,7 +72,13 @@ abbrev mutual
   all_forms_have_clauses no_formulas = true
   all_forms_have_clauses (formula_then f fs) = form_has_clauses f && all_forms_have_clauses fs
 
--- Nothing is said of want of memory. Else what is looked at stands in clauses, and a literal in its own is too heavy.
-abbrev pub IsMatrixEnd : MatrixEnd → Bool → Bool → Type 0
-IsMatrixEnd NoMemory in_clauses heavy = ⊤
-IsMatrixEnd TooHeavy in_clauses heavy = (in_clauses && heavy) ≡ true
+-- what is counted of a part, which may stand in clauses
+abbrev pub total_in : Bool → ℕ → ℕ
+total_in in_clauses total = if in_clauses then total else 0
+
+-- Nothing is said of want of memory. Else what is looked at stands in clauses, and a literal in its own is too heavy; or its literals together are,
+-- with the symbols that were counted before.
+abbrev pub IsMatrixEnd : MatrixEnd → Bool → ℕ → Bool → ℕ → Type 0
+IsMatrixEnd NoMemory in_clauses counted heavy total = ⊤
+IsMatrixEnd TooHeavy in_clauses counted heavy total = (in_clauses && heavy) ≡ true
+IsMatrixEnd TotalLimit in_clauses counted heavy total = MOST_FORM_SYMBOLS < counted + total_in in_clauses total

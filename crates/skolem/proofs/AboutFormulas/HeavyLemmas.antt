@@ -1,5 +1,6 @@
--- Which parts have clauses, and a literal that is too heavy in one of them: what is found in a member is found in the whole.
-use Rattle.std.proofs.Common.{◌≡◌, ℕ, ◌+◌, ◌<◌, ◌≤◌, ◌⊎◌, inl, inr, Bool, true, false, ◌&&◌, ◌||◌, List, [], ◌∷◌, ◌++◌, length, map, drop, get_or, refl, ap, sym, ◌∙◌}
+-- Which parts have clauses, and literals that are too heavy in these, alone or together: what is found in a member is found in the whole.
+use Rattle.std.proofs.Common.{◌≡◌, ℕ, ◌+◌, ◌<◌, ◌≤◌, ◌⊎◌, inl, inr, Bool, true, false, ◌&&◌, ◌||◌, List, [], ◌∷◌, ◌++◌, length, map, drop, get_or, refl, ap, sym, ◌∙◌, arith}
+use Rattle.std.specs.Prelude.{if◌then◌else◌}
 use Rattle.std.proofs.lemmas.Bool.{and_parts}
 use Rattle.tptp_tree.specs.Formula.{FormulaTree, truth, falsity, predicate, equation, negation, conjunction, disjunction, connected, quantified, FormulaTrees, no_formulas, formula_then, formulas_of}
 use Rattle.signature.specs.declared.symbol.Symbol.{Symbol}
@@ -11,11 +12,11 @@ use Rattle.formula_nnf.specs.Shape.{nnf_tree}
 use Rattle.skolem.specs.Matrix.{MatrixTree, disjunction as some_of, MatrixTrees, matrices_of, list_of_matrices}
 use Rattle.skolem.specs.Skolemized.{Skolemized, SkolemizedList, skolemized, skolemized_list}
 use Rattle.skolem.specs.SkolemizedLaws.{is_predicate}
-use Rattle.skolem.specs.Heavy.{has_clauses, some_have_clauses, all_have_clauses, heavy_matrix, some_heavy, form_has_clauses, some_form_has_clauses, all_forms_have_clauses, IsMatrixEnd}
+use Rattle.skolem.specs.Heavy.{has_clauses, some_have_clauses, all_have_clauses, heavy_matrix, some_heavy, matrix_total, matrix_totals, total_in, form_has_clauses, some_form_has_clauses, all_forms_have_clauses, IsMatrixEnd}
 use Rattle.skolem.specs.declared.forms.MatrixEnd.{MatrixEnd}
-use Rattle.skolem.specs.declared.forms.MatrixEnd.TheVariants.{NoMemory, TooHeavy}
+use Rattle.skolem.specs.declared.forms.MatrixEnd.TheVariants.{NoMemory, TooHeavy, TotalLimit}
 use Rattle.skolem.specs.declared.progress.Progress.{Progress}
-use Rattle.skolem.proofs.AboutFormulas.FormLemmas.{matrices_left, left-then, one}
+use Rattle.skolem.proofs.AboutFormulas.FormLemmas.{list_left, matrices_left, left-then, rest-same, one}
 
 pub or-first : (t u : Bool) → t ≡ true → (t || u) ≡ true
 or-first true u h = refl
@@ -91,31 +92,84 @@ heavy-among : (us vs : List MatrixTree) (m : MatrixTree) → heavy_matrix m ≡ 
 heavy-among [] vs m h = or-first (heavy_matrix m) (some_heavy (matrices_of vs)) h
 heavy-among (u ∷ us) vs m h = or-second (heavy_matrix u) (some_heavy (matrices_of (us ++ m ∷ vs))) (heavy-among us vs m h)
 
+-- the symbols of one more
+left-total :
+    (known : List Symbol) (fs : List Nnf) (i : ℕ) (f : Nnf) (p : Progress) (inside : Bool)
+    → i < length fs → f ≡ get_or fs i f
+    → total_in inside (matrix_totals (list_left known fs i p).matrices)
+    ≡ total_in inside (matrix_total (one known f p).matrix)
+    + total_in inside
+    (matrix_totals
+    (skolemized_list (numbers_after known) (formulas_of (map nnf_tree (drop (i + 1) fs))) (environment_of p.bindings) (one known f p).made).matrices)
+left-total known fs i f p inside h e =
+    ap (λ (s : SkolemizedList). total_in inside (matrix_totals s.matrices)) (left-then known fs i f p h e) ∙ both inside _ _
+  where
+    both : (t : Bool) (a b : ℕ) → total_in t (a + b) ≡ total_in t a + total_in t b
+    both true a b = refl
+    both false a b = refl
+
+pub counted-then :
+    (known : List Symbol) (fs : List Nnf) (i : ℕ) (f : Nnf) (p q : Progress) (inside : Bool) (counted new all : ℕ)
+    → i < length fs → f ≡ get_or fs i f → made_of q ≡ (one known f p).made → q.bindings ≡ p.bindings
+    → new ≤ counted + total_in inside (matrix_total (one known f p).matrix)
+    → counted + total_in inside (matrix_totals (list_left known fs i p).matrices) ≤ all
+    → new + total_in inside (matrix_totals (list_left known fs (i + 1) q).matrices) ≤ all
+counted-then known fs i f p q inside counted new all h e g b k m =
+    omega (
+      arith,
+      k,
+      m,
+      left-total known fs i f p inside h e,
+      ap (λ (s : SkolemizedList). total_in inside (matrix_totals s.matrices)) (rest-same known fs i f p q g b),
+    )
+
 pub ended-member :
     (known : List Symbol) (fs : List Nnf) (i : ℕ) (f : Nnf) (p : Progress) (made : List MatrixTree) (all : MatrixTrees) (end : MatrixEnd) (inside : Bool)
+    (counted begun : ℕ)
     → i < length fs → f ≡ get_or fs i f
     → matrices_of (made ++ matrices_left known fs i p) ≡ all
-    → IsMatrixEnd end inside (heavy_matrix (one known f p).matrix) → IsMatrixEnd end inside (some_heavy all)
-ended-member known fs i f p made all NoMemory inside h e m g = tt
-ended-member known fs i f p made all TooHeavy inside h e m g =
+    → counted + total_in inside (matrix_totals (list_left known fs i p).matrices) ≤ begun + total_in inside (matrix_totals all)
+    → IsMatrixEnd end inside counted (heavy_matrix (one known f p).matrix) (matrix_total (one known f p).matrix)
+    → IsMatrixEnd end inside begun (some_heavy all) (matrix_totals all)
+ended-member known fs i f p made all NoMemory inside counted begun h e m k g = tt
+ended-member known fs i f p made all TooHeavy inside counted begun h e m k g =
     let parts : (inside ≡ true) × (heavy_matrix (one known f p).matrix ≡ true) = and_parts inside (heavy_matrix (one known f p).matrix) g in
     and-both inside (some_heavy all) parts.0
     (ap some_heavy (sym m)
     ∙ ap (λ (s : SkolemizedList). some_heavy (matrices_of (made ++ list_of_matrices s.matrices))) (left-then known fs i f p h e)
     ∙ heavy-among made _ (one known f p).matrix parts.1)
+ended-member known fs i f p made all TotalLimit inside counted begun h e m k g = omega (arith, g, k, left-total known fs i f p inside h e)
 
 -- in a product, whose members stand in clauses
-pub ended-product :
-    (n : SymbolNumbers) (fs : FormulaTrees) (env : Environment) (m : Made) (began : ℕ) (end : MatrixEnd) (in_clauses inside : Bool)
+pub counted-product :
+    (n : SymbolNumbers) (fs : FormulaTrees) (env : Environment) (m : Made) (began : ℕ) (in_clauses inside : Bool)
     → inside ≡ (in_clauses && all_forms_have_clauses fs)
-    → IsMatrixEnd end inside (some_heavy (skolemized_list n fs env m).matrices)
-    → IsMatrixEnd end in_clauses (heavy_matrix (some_of began (skolemized_list n fs env m).matrices))
-ended-product n fs env m began NoMemory in_clauses inside e g = tt
-ended-product n fs env m began TooHeavy in_clauses inside e g =
+    → total_in inside (matrix_totals (skolemized_list n fs env m).matrices)
+    ≤ total_in in_clauses (matrix_total (some_of began (skolemized_list n fs env m).matrices))
+counted-product n fs env m began in_clauses false e = omega arith
+counted-product n fs env m began in_clauses true e =
+    let both : (in_clauses ≡ true) × (all_forms_have_clauses fs ≡ true) = and_parts in_clauses (all_forms_have_clauses fs) (sym e) in
+    counted in_clauses (all_have_clauses (skolemized_list n fs env m).matrices) (matrix_totals (skolemized_list n fs env m).matrices)
+    both.0 (all-forms-have n fs env m both.1)
+  where
+    counted : (t u : Bool) (total : ℕ) → t ≡ true → u ≡ true → total ≤ total_in t (if u then total else 0)
+    counted true true total p q = omega arith
+    counted true false total p q = cc
+    counted false u total p q = cc
+
+pub ended-product :
+    (n : SymbolNumbers) (fs : FormulaTrees) (env : Environment) (m : Made) (began counted : ℕ) (end : MatrixEnd) (in_clauses inside : Bool)
+    → inside ≡ (in_clauses && all_forms_have_clauses fs)
+    → IsMatrixEnd end inside counted (some_heavy (skolemized_list n fs env m).matrices) (matrix_totals (skolemized_list n fs env m).matrices)
+    → IsMatrixEnd end in_clauses counted (heavy_matrix (some_of began (skolemized_list n fs env m).matrices))
+    (matrix_total (some_of began (skolemized_list n fs env m).matrices))
+ended-product n fs env m began counted NoMemory in_clauses inside e g = tt
+ended-product n fs env m began counted TooHeavy in_clauses inside e g =
     let parts : (inside ≡ true) × (some_heavy (skolemized_list n fs env m).matrices ≡ true) = and_parts inside (some_heavy (skolemized_list n fs env m).matrices) g in
     let both : (in_clauses ≡ true) × (all_forms_have_clauses fs ≡ true) = and_parts in_clauses (all_forms_have_clauses fs) (sym e ∙ parts.0) in
     and-both in_clauses (all_have_clauses (skolemized_list n fs env m).matrices && some_heavy (skolemized_list n fs env m).matrices) both.0
     (and-both (all_have_clauses (skolemized_list n fs env m).matrices) (some_heavy (skolemized_list n fs env m).matrices) (all-forms-have n fs env m both.1) parts.1)
+ended-product n fs env m began counted TotalLimit in_clauses inside e g = omega (arith, g, counted-product n fs env m began in_clauses inside e)
 
 -- ---- forms that are looked through for clauses
 

@@ -9,13 +9,13 @@ use Rattle.skolem.proofs.forms.+matrix_of.Goals as goal
 pub matrices_of-loop-form-init : goal.matrices_of-loop-form-init
 matrices_of-loop-form-init t c = (
   ap (λ us. matrices_of (us ++ matrices_left c.args.signature.now c.args.forms.now 0 c.args.progress.now)) c.new-matrices.ensures ∙ listed _,
-  (refl, (refl, c.requires.known)),
+  (refl, (refl, (c.requires.known, omega arith))),
 )
 
 pub matrices_of-matrix_of-requires : goal.matrices_of-matrix_of-requires
 matrices_of-matrix_of-requires t c = (
   omega (arith, form-item-is _ _ _ c.loop-form-test.true c.form-item.is, c.decreases),
-  (forms-known c.args.signature.now _ _ c.form-item.result c.loop-form-test.true c.form-item.is c.loop-form.invariant.1.1.1).0,
+  (forms-known c.args.signature.now _ _ c.form-item.result c.loop-form-test.true c.form-item.is c.loop-form.invariant.1.1.1.0).0,
 )
 
 pub matrices_of-returns-in_err-matrix-clause-ended : goal.matrices_of-returns-in_err-matrix-clause-ended
@@ -23,4 +23,5 @@ matrices_of-returns-in_err-matrix-clause-ended t c =
     let p = err_from_is_err_and c.from_residual.result c.from_residual.ensures.1 in
     rw (p.1, p.2)
     (ended-member c.args.signature.now c.args.forms.now c.loop-form.form-index c.form-item.result c.loop-form.progress c.loop-form.matrices _ _ c.args.in_clauses
-    c.loop-form-test.true c.form-item.is c.loop-form.invariant.0 c.in_err-matrix.ensures.ended)
+    c.loop-form.counted c.args.counted.now c.loop-form-test.true c.form-item.is c.loop-form.invariant.0 c.loop-form.invariant.1.1.1.1
+    c.in_err-matrix.ensures.ended)
