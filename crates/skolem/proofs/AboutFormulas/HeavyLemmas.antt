@@ -1,5 +1,5 @@
 -- Which parts have clauses, and a literal that is too heavy in one of them: what is found in a member is found in the whole.
-use Rattle.std.proofs.Common.{◌≡◌, ℕ, ◌+◌, ◌<◌, ◌≤◌, ◌⊎◌, inl, inr, Bool, true, false, ◌&&◌, ◌||◌, List, [], ◌∷◌, ◌++◌, length, map, drop, get_or, refl, ap, sym, ◌∙◌}
+use Rattle.std.proofs.Common.{◌≡◌, ℕ, ◌+◌, ◌<◌, ◌≤◌, ◌⊎◌, inl, inr, Bool, true, false, ◌&&◌, ◌||◌, List, [], ◌∷◌, ◌++◌, length, map, drop, get_or, refl, ap, sym, subst, ◌∙◌}
 use Rattle.std.proofs.lemmas.Bool.{and_parts}
 use Rattle.tptp_tree.specs.Formula.{FormulaTree, truth, falsity, predicate, equation, negation, conjunction, disjunction, connected, quantified, FormulaTrees, no_formulas, formula_then, formulas_of}
 use Rattle.signature.specs.declared.symbol.Symbol.{Symbol}
@@ -105,17 +105,27 @@ ended-member known fs i f p made all TooHeavy inside h e m g =
     ∙ heavy-among made _ (one known f p).matrix parts.1)
 
 -- in a product, whose members stand in clauses
-pub ended-product :
-    (n : SymbolNumbers) (fs : FormulaTrees) (env : Environment) (m : Made) (began : ℕ) (end : MatrixEnd) (in_clauses inside : Bool)
+ended-members :
+    (n : SymbolNumbers) (fs : FormulaTrees) (env : Environment) (m : Made) (end : MatrixEnd) (in_clauses inside : Bool)
     → inside ≡ (in_clauses && all_forms_have_clauses fs)
     → IsMatrixEnd end inside (some_heavy (skolemized_list n fs env m).matrices)
-    → IsMatrixEnd end in_clauses (heavy_matrix (some_of began (skolemized_list n fs env m).matrices))
-ended-product n fs env m began NoMemory in_clauses inside e g = tt
-ended-product n fs env m began TooHeavy in_clauses inside e g =
+    → IsMatrixEnd end in_clauses (heavy_matrix (skolemized n (disjunction fs) env m).matrix)
+ended-members n fs env m NoMemory in_clauses inside e g = tt
+ended-members n fs env m TooHeavy in_clauses inside e g =
     let parts : (inside ≡ true) × (some_heavy (skolemized_list n fs env m).matrices ≡ true) = and_parts inside (some_heavy (skolemized_list n fs env m).matrices) g in
     let both : (in_clauses ≡ true) × (all_forms_have_clauses fs ≡ true) = and_parts in_clauses (all_forms_have_clauses fs) (sym e ∙ parts.0) in
     and-both in_clauses (all_have_clauses (skolemized_list n fs env m).matrices && some_heavy (skolemized_list n fs env m).matrices) both.0
     (and-both (all_have_clauses (skolemized_list n fs env m).matrices) (some_heavy (skolemized_list n fs env m).matrices) (all-forms-have n fs env m both.1) parts.1)
+
+pub ended-product :
+    (n : SymbolNumbers) (f : FormulaTree) (us vs : List FormulaTree) (env : Environment) (m : Made) (end : MatrixEnd) (in_clauses inside : Bool)
+    → f ≡ disjunction (formulas_of us) → vs ≡ us
+    → inside ≡ (in_clauses && all_forms_have_clauses (formulas_of vs))
+    → IsMatrixEnd end inside (some_heavy (skolemized_list n (formulas_of vs) env m).matrices)
+    → IsMatrixEnd end in_clauses (heavy_matrix (skolemized n f env m).matrix)
+ended-product n f us vs env m end in_clauses inside e s k g =
+    subst (λ h. IsMatrixEnd end in_clauses (heavy_matrix (skolemized n h env m).matrix)) (sym (e ∙ ap (λ ws. disjunction (formulas_of ws)) (sym s)))
+    (ended-members n (formulas_of vs) env m end in_clauses inside k g)
 
 -- ---- forms that are looked through for clauses
 
