@@ -17,6 +17,6 @@ pub use prefixes::{prefix_examples, prefix_is_least};
 pub use problem_examples::{entry_examples, names_of_problem_examples};
 pub use skolem_counts::skolem_symbols_are_counted;
 pub use truth_examples::{
-    clause_truth_examples, connective_truth_examples, equation_truth_examples,
-    formula_truth_examples, hidden_truth_examples, problem_truth_examples,
+    connective_truth_examples, equation_truth_examples, formula_truth_examples,
+    hidden_truth_examples, problem_truth_examples,
 };

@@ -1,5 +1,5 @@
 -- Which parts have clauses, and literals that are too heavy in these, alone or together: what is found in a member is found in the whole.
-use Rattle.std.proofs.Common.{◌≡◌, ℕ, ◌+◌, ◌<◌, ◌≤◌, ◌⊎◌, inl, inr, Bool, true, false, ◌&&◌, ◌||◌, List, [], ◌∷◌, ◌++◌, length, map, drop, get_or, refl, ap, sym, ◌∙◌, arith}
+use Rattle.std.proofs.Common.{◌≡◌, ℕ, ◌+◌, ◌<◌, ◌≤◌, ◌⊎◌, inl, inr, Bool, true, false, ◌&&◌, ◌||◌, List, [], ◌∷◌, ◌++◌, length, map, drop, get_or, refl, ap, sym, subst, ◌∙◌, arith}
 use Rattle.std.specs.Prelude.{if◌then◌else◌}
 use Rattle.std.proofs.lemmas.Bool.{and_parts}
 use Rattle.tptp_tree.specs.Formula.{FormulaTree, truth, falsity, predicate, equation, negation, conjunction, disjunction, connected, quantified, FormulaTrees, no_formulas, formula_then, formulas_of}
@@ -9,7 +9,7 @@ use Rattle.signature.specs.Clausal.{SymbolNumbers, Made, Scope, scope_of, makes_
 use Rattle.signature.proofs.OccurrenceLemmas.{drop-item, drop-end}
 use Rattle.formula_nnf.specs.declared.form.Nnf.{Nnf}
 use Rattle.formula_nnf.specs.Shape.{nnf_tree}
-use Rattle.skolem.specs.Matrix.{MatrixTree, disjunction as some_of, MatrixTrees, matrices_of, list_of_matrices}
+use Rattle.skolem.specs.Matrix.{MatrixTree, MatrixTrees, matrices_of, list_of_matrices}
 use Rattle.skolem.specs.Skolemized.{Skolemized, SkolemizedList, skolemized, skolemized_list}
 use Rattle.skolem.specs.SkolemizedLaws.{is_predicate}
 use Rattle.skolem.specs.Heavy.{has_clauses, some_have_clauses, all_have_clauses, heavy_matrix, some_heavy, matrix_total, matrix_totals, total_in, form_has_clauses, some_form_has_clauses, all_forms_have_clauses, IsMatrixEnd}
@@ -141,13 +141,12 @@ ended-member known fs i f p made all TooHeavy inside counted begun h e m k g =
 ended-member known fs i f p made all TotalLimit inside counted begun h e m k g = omega (arith, g, k, left-total known fs i f p inside h e)
 
 -- in a product, whose members stand in clauses
-pub counted-product :
-    (n : SymbolNumbers) (fs : FormulaTrees) (env : Environment) (m : Made) (began : ℕ) (in_clauses inside : Bool)
+counted-members :
+    (n : SymbolNumbers) (fs : FormulaTrees) (env : Environment) (m : Made) (in_clauses inside : Bool)
     → inside ≡ (in_clauses && all_forms_have_clauses fs)
-    → total_in inside (matrix_totals (skolemized_list n fs env m).matrices)
-    ≤ total_in in_clauses (matrix_total (some_of began (skolemized_list n fs env m).matrices))
-counted-product n fs env m began in_clauses false e = omega arith
-counted-product n fs env m began in_clauses true e =
+    → total_in inside (matrix_totals (skolemized_list n fs env m).matrices) ≤ total_in in_clauses (matrix_total (skolemized n (disjunction fs) env m).matrix)
+counted-members n fs env m in_clauses false e = omega arith
+counted-members n fs env m in_clauses true e =
     let both : (in_clauses ≡ true) × (all_forms_have_clauses fs ≡ true) = and_parts in_clauses (all_forms_have_clauses fs) (sym e) in
     counted in_clauses (all_have_clauses (skolemized_list n fs env m).matrices) (matrix_totals (skolemized_list n fs env m).matrices)
     both.0 (all-forms-have n fs env m both.1)
@@ -157,19 +156,37 @@ counted-product n fs env m began in_clauses true e =
     counted true false total p q = cc
     counted false u total p q = cc
 
-pub ended-product :
-    (n : SymbolNumbers) (fs : FormulaTrees) (env : Environment) (m : Made) (began counted : ℕ) (end : MatrixEnd) (in_clauses inside : Bool)
+ended-members :
+    (n : SymbolNumbers) (fs : FormulaTrees) (env : Environment) (m : Made) (counted : ℕ) (end : MatrixEnd) (in_clauses inside : Bool)
     → inside ≡ (in_clauses && all_forms_have_clauses fs)
     → IsMatrixEnd end inside counted (some_heavy (skolemized_list n fs env m).matrices) (matrix_totals (skolemized_list n fs env m).matrices)
-    → IsMatrixEnd end in_clauses counted (heavy_matrix (some_of began (skolemized_list n fs env m).matrices))
-    (matrix_total (some_of began (skolemized_list n fs env m).matrices))
-ended-product n fs env m began counted NoMemory in_clauses inside e g = tt
-ended-product n fs env m began counted TooHeavy in_clauses inside e g =
+    → IsMatrixEnd end in_clauses counted (heavy_matrix (skolemized n (disjunction fs) env m).matrix) (matrix_total (skolemized n (disjunction fs) env m).matrix)
+ended-members n fs env m counted NoMemory in_clauses inside e g = tt
+ended-members n fs env m counted TooHeavy in_clauses inside e g =
     let parts : (inside ≡ true) × (some_heavy (skolemized_list n fs env m).matrices ≡ true) = and_parts inside (some_heavy (skolemized_list n fs env m).matrices) g in
     let both : (in_clauses ≡ true) × (all_forms_have_clauses fs ≡ true) = and_parts in_clauses (all_forms_have_clauses fs) (sym e ∙ parts.0) in
     and-both in_clauses (all_have_clauses (skolemized_list n fs env m).matrices && some_heavy (skolemized_list n fs env m).matrices) both.0
     (and-both (all_have_clauses (skolemized_list n fs env m).matrices) (some_heavy (skolemized_list n fs env m).matrices) (all-forms-have n fs env m both.1) parts.1)
-ended-product n fs env m began counted TotalLimit in_clauses inside e g = omega (arith, g, counted-product n fs env m began in_clauses inside e)
+ended-members n fs env m counted TotalLimit in_clauses inside e g = omega (arith, g, counted-members n fs env m in_clauses inside e)
+
+pub counted-product :
+    (n : SymbolNumbers) (f : FormulaTree) (us vs : List FormulaTree) (env : Environment) (m : Made) (counted new : ℕ) (in_clauses inside : Bool)
+    → f ≡ disjunction (formulas_of us) → vs ≡ us → inside ≡ (in_clauses && all_forms_have_clauses (formulas_of vs))
+    → new ≤ counted + total_in inside (matrix_totals (skolemized_list n (formulas_of vs) env m).matrices)
+    → new ≤ counted + total_in in_clauses (matrix_total (skolemized n f env m).matrix)
+counted-product n f us vs env m counted new in_clauses inside e s k g =
+    subst (λ h. new ≤ counted + total_in in_clauses (matrix_total (skolemized n h env m).matrix)) (sym (e ∙ ap (λ ws. disjunction (formulas_of ws)) (sym s)))
+    (omega (arith, g, counted-members n (formulas_of vs) env m in_clauses inside k))
+
+pub ended-product :
+    (n : SymbolNumbers) (f : FormulaTree) (us vs : List FormulaTree) (env : Environment) (m : Made) (counted : ℕ) (end : MatrixEnd) (in_clauses inside : Bool)
+    → f ≡ disjunction (formulas_of us) → vs ≡ us → inside ≡ (in_clauses && all_forms_have_clauses (formulas_of vs))
+    → IsMatrixEnd end inside counted (some_heavy (skolemized_list n (formulas_of vs) env m).matrices) (matrix_totals (skolemized_list n (formulas_of vs) env m).matrices)
+    → IsMatrixEnd end in_clauses counted (heavy_matrix (skolemized n f env m).matrix) (matrix_total (skolemized n f env m).matrix)
+ended-product n f us vs env m counted end in_clauses inside e s k g =
+    subst (λ h. IsMatrixEnd end in_clauses counted (heavy_matrix (skolemized n h env m).matrix) (matrix_total (skolemized n h env m).matrix))
+    (sym (e ∙ ap (λ ws. disjunction (formulas_of ws)) (sym s)))
+    (ended-members n (formulas_of vs) env m counted end in_clauses inside k g)
 
 -- ---- forms that are looked through for clauses
 
