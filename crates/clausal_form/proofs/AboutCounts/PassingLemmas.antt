@@ -105,4 +105,7 @@ pub over-end-of :
     (known : List Symbol) (f : FormulaTree) (end : MatrixEnd)
     → end ≡ over_total → IsMatrixEnd end true 0 (heavy_matrix (skolemized_form known f).matrix) (matrix_total (skolemized_form known f).matrix)
     → MOST_FORM_SYMBOLS < matrix_total (skolemized_form known f).matrix
-over-end-of known f end t h = subst (λ k. IsMatrixEnd k true 0 (heavy_matrix (skolemized_form known f).matrix) (matrix_total (skolemized_form known f).matrix)) t h
+over-end-of known f end t h =
+    let over : IsMatrixEnd over_total true 0 (heavy_matrix (skolemized_form known f).matrix) (matrix_total (skolemized_form known f).matrix) =
+    subst (λ k. IsMatrixEnd k true 0 (heavy_matrix (skolemized_form known f).matrix) (matrix_total (skolemized_form known f).matrix)) t h in
+    omega (arith, over)
