@@ -10,7 +10,8 @@ use Rattle.signature.proofs.OccurrenceLemmas.{drop-item, drop-end}
 use Rattle.formula_nnf.specs.declared.form.Nnf.{Nnf}
 use Rattle.formula_nnf.specs.Shape.{nnf_tree}
 use Rattle.skolem.specs.Matrix.{MatrixTree, MatrixTrees, matrices_of, list_of_matrices}
-use Rattle.skolem.specs.Skolemized.{Skolemized, SkolemizedList, skolemized, skolemized_list}
+use Rattle.skolem.specs.Skolemized.{Skolemized, SkolemizedList, skolemized, skolemized_list, numbers_after}
+use Rattle.skolem.specs.Progress.{environment_of, made_of}
 use Rattle.skolem.specs.SkolemizedLaws.{is_predicate}
 use Rattle.skolem.specs.Heavy.{has_clauses, some_have_clauses, all_have_clauses, heavy_matrix, some_heavy, matrix_total, matrix_totals, total_in, form_has_clauses, some_form_has_clauses, all_forms_have_clauses, IsMatrixEnd}
 use Rattle.skolem.specs.declared.forms.MatrixEnd.{MatrixEnd}

@@ -6,7 +6,7 @@ use Rattle.skolem.specs.Skolemized.{numbers_after}
 use Rattle.skolem.specs.Progress.{environment_of, made_of}
 use Rattle.skolem.proofs.AboutBindings.OccurringLemmas.{form-item-is}
 use Rattle.skolem.proofs.AboutFormulas.FormLemmas.{listed, matrices_left, forms-known}
-use Rattle.skolem.proofs.AboutFormulas.HeavyLemmas.{ended-member, ended-product}
+use Rattle.skolem.proofs.AboutFormulas.HeavyLemmas.{ended-member, counted-product, ended-product}
 use Rattle.skolem.proofs.forms.+matrix_of.Goals as goal
 
 pub matrices_of-loop-form-init : goal.matrices_of-loop-form-init
@@ -36,3 +36,9 @@ matrix_of-returns-in_err-members-in-Or-clause-ended t c =
     (ended-product (numbers_after c.args.signature.now) (nnf_tree c.args.form.now) _ _ (environment_of c.args.progress.now.bindings) (made_of c.args.progress.now)
     c.args.counted.now _ c.args.in_clauses c.are_in_clauses-inside.result (ap nnf_tree c.in-Or.is) c.as_slice-forms-in-Or.ensures
     c.are_in_clauses-inside.ensures c.in_err-members-in-Or.ensures.ended)
+
+pub matrix_of-returns-in_ok-members-in-Or-clause-counted : goal.matrix_of-returns-in_ok-members-in-Or-clause-counted
+matrix_of-returns-in_ok-members-in-Or-clause-counted t c =
+    counted-product (numbers_after c.args.signature.now) (nnf_tree c.args.form.now) _ _ (environment_of c.args.progress.now.bindings) (made_of c.args.progress.now)
+    c.args.counted.now _ c.args.in_clauses c.are_in_clauses-inside.result (ap nnf_tree c.in-Or.is) c.as_slice-forms-in-Or.ensures
+    c.are_in_clauses-inside.ensures c.in_ok-members-in-Or.ensures.counted
