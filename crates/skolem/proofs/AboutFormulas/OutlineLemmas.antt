@@ -1,14 +1,15 @@
 -- The outlines of clauses, as a walk over a form works them off.
-use Rattle.std.proofs.Common.{◌≡◌, ℕ, zero, suc, ◌+◌, ◌-◌, ◌*◌, ◌^◌, ◌<◌, ◌≤◌, ◌⊎◌, inl, inr, ◌==◌, min, Bool, ◌||◌, List, [], ◌∷◌, ◌++◌, length, map, drop, get_or, refl, ap, sym, subst, ◌∙◌, arith, eq-eqb}
+use Rattle.std.proofs.Common.{◌≡◌, ℕ, zero, suc, ◌+◌, ◌-◌, ◌*◌, ◌^◌, ◌<◌, ◌≤◌, ◌⊎◌, inl, inr, ◌==◌, min, Bool, true, false, ◌||◌, List, [], ◌∷◌, ◌++◌, length, map, drop, get_or, refl, ap, sym, subst, ◌∙◌, arith, eq-eqb}
 use Rattle.std.specs.Prelude.{max, filter, nat_lt, if◌then◌else◌}
 use Rattle.std.specs.List.{list_any}
 use Rattle.std.proofs.lemmas.Bool.{cases_lt}
 use Rattle.std.proofs.lemmas.List.Folds.{list_any-append}
 use Rattle.fol_base.specs.Canonical.{numbers_from}
 use Rattle.fol_base.specs.declared.limits.TheConstants.{MOST_SYMBOLS}
-use Rattle.tptp_tree.specs.Formula.{formulas_of}
+use Rattle.tptp_tree.specs.Formula.{FormulaTree, formulas_of}
 use Rattle.signature.specs.declared.symbol.Symbol.{Symbol}
 use Rattle.signature.specs.Clausal.{made_in_order, is_large_count}
+use Rattle.signature.specs.Form.{nothing_made}
 use Rattle.signature.proofs.OccurrenceLemmas.{drop-end}
 use Rattle.formula_nnf.specs.declared.form.Nnf.{Nnf}
 use Rattle.formula_nnf.specs.Shape.{nnf_tree}
@@ -17,7 +18,7 @@ use Rattle.skolem.specs.declared.progress.Progress.{Progress}
 use Rattle.skolem.specs.declared.outline.OutlineEnd.{OutlineEnd}
 use Rattle.skolem.specs.declared.outline.OutlineEnd.TheVariants.{NoMemory, TooHeavy}
 use Rattle.skolem.specs.Matrix.{MatrixTrees, no_matrices, matrix_then}
-use Rattle.skolem.specs.Skolemized.{SkolemizedList, skolemized_list, numbers_after}
+use Rattle.skolem.specs.Skolemized.{SkolemizedList, skolemized, skolemized_list, numbers_after, skolemized_form}
 use Rattle.skolem.specs.Progress.{environment_of, made_of}
 use Rattle.skolem.specs.Outline.{ClauseOutline, sum_outline, pairs_outline_of, pairs_outline, named_outline, product_outline, joined_outline, outline_of, outlines_of, AreSame, told, IsOutline, IsOutlineEnd}
 use Rattle.skolem.proofs.AboutBindings.OccurringLemmas.{any-filter}
@@ -260,5 +261,13 @@ outline-over known fs i p listed began a all h o =
     )
 
 pub ended-told :
-    (t : ClauseOutline) (end : OutlineEnd) (size : ℕ) → size ≡ MOST_SYMBOLS + 1 → end ≡ TooHeavy → IsOutlineEnd end t → size ≡ told (max t.largest t.defining)
-ended-told t end size e k h = let over : IsOutlineEnd TooHeavy t = subst (λ u. IsOutlineEnd u t) k h in omega (arith, e, over)
+    (known : List Symbol) (f : FormulaTree) (p : Progress) (end : OutlineEnd) (size : ℕ)
+    → p.bindings ≡ [] → made_of p ≡ nothing_made → size ≡ MOST_SYMBOLS + 1 → end ≡ TooHeavy
+    → IsOutlineEnd end (outline_of (skolemized (numbers_after known) f (environment_of p.bindings) (made_of p)).matrix)
+    → size ≡ told (max (outline_of (skolemized_form known f).matrix).largest (outline_of (skolemized_form known f).matrix).defining)
+ended-told known f p end size b m e k h =
+    let over : IsOutlineEnd TooHeavy (outline_of (skolemized_form known f).matrix) =
+    subst (λ u. IsOutlineEnd u (outline_of (skolemized_form known f).matrix)) k
+    (subst (λ bs. IsOutlineEnd end (outline_of (skolemized (numbers_after known) f (environment_of bs) nothing_made).matrix)) b
+    (subst (λ o. IsOutlineEnd end (outline_of (skolemized (numbers_after known) f (environment_of p.bindings) o).matrix)) m h)) in
+    omega (arith, e, over)

@@ -1,4 +1,4 @@
-use Rattle.std.proofs.Common.{◌∙◌, arith}
+use Rattle.std.proofs.Common.{◌+◌, ◌∙◌, arith}
 use Rattle.std.proofs.lemmas.Result.{err_from_is_err_and}
 use Rattle.skolem.proofs.AboutBindings.OccurringLemmas.{form-item-is}
 use Rattle.skolem.proofs.AboutFormulas.FormLemmas.{forms-known, made-then}
