@@ -13,7 +13,7 @@ ghost use Rattle.skolem.specs.SkolemizedLaws.{SkolemSymbolsOfMatrixAreCounted, M
 ghost use Rattle.skolem.specs.ProblemLaws.{MatrixOfFormIsThatInProblem, ClausesInProblemAreThoseOfMatrix, NormalFormKeepsKnownSymbols, SkolemSymbolsAreNumberedOn, LaterNamesAreUnused};
 ghost use Rattle.skolem.specs.Literal.{filled, size_under};
 ghost use Rattle.skolem.specs.Outline.{product_outline, told};
-ghost use Rattle.skolem.specs.Heavy.{form_has_clauses, heavy_matrix};
+ghost use Rattle.skolem.specs.Heavy.{form_has_clauses, heavy_matrix, matrix_total};
 ghost use Rattle.skolem.specs.Examples.{x, y, z, p_of, r_of, f_of, known, p_literal};
 
 /// The matrix of `! [X] : ? [Y] : r(X,Y)` is `r(X0,sk0(X0))`, and sk0 comes after the symbols that are there.
@@ -56,11 +56,14 @@ pub fn clause_examples()
         ≡ disjunction 1 (matrix_then (literal (p_literal 0)) (matrix_then (literal (p_literal 0)) no_matrices)) }
 {}
 
-/// `$true | p(X)` has no clauses, and so no heavy literal, however large p(X) is; `$true & p(X)` has one.
+/// `$true | p(X)` has no clauses, and so no heavy literal, however large p(X) is, and no symbols; `$true & p(X)` has one. A literal p(X0) has three
+/// symbols with `$true`.
 pub fn clauses_of_parts_examples()
     ensures product { form_has_clauses (formula_disjunction (formula_then true_formula (formula_then (p_of x) no_formulas))) ≡ false }
     ensures list { form_has_clauses (formula_conjunction (formula_then true_formula (formula_then (p_of x) no_formulas))) ≡ true }
     ensures light { heavy_matrix (disjunction 1 (matrix_then truth (matrix_then (literal (p_literal 0)) no_matrices))) ≡ false }
+    ensures none { matrix_total (disjunction 1 (matrix_then truth (matrix_then (literal (p_literal 0)) no_matrices))) ≡ 0 }
+    ensures total { matrix_total (conjunction (matrix_then truth (matrix_then (literal (p_literal 0)) (matrix_then (literal (p_literal 0)) no_matrices)))) ≡ 6 }
 {}
 
 /// Of a product of more than 64 clauses the longer list is named, and of two of the same length the first: with 8 clauses and 9 the second, whose
