@@ -1,7 +1,7 @@
 -- Literals of over MOST_SYMBOLS symbols in the clauses of a normal form, as it is written; and the symbols of its literals together. Negation
 -- stands before predicates alone, and a variable counts as one symbol. A product with a member that has no clauses has none itself, and so no
 -- such literal.
-use Rattle.std.specs.Prelude.{ℕ, ◌+◌, nat_lt, min, Bool, true, false, ◌&&◌, ◌||◌, if◌then◌else◌}
+use Rattle.std.specs.Prelude.{ℕ, ◌+◌, nat_lt, min, Bool, false, ◌&&◌, ◌||◌, if◌then◌else◌}
 use Rattle.tptp_tree.specs.Term.{term_size, terms_size}
 use Rattle.tptp_tree.specs.Formula.{FormulaTree, truth, falsity, predicate, equation, negation, conjunction, disjunction, connected, quantified, FormulaTrees, no_formulas, formula_then}
 use Rattle.fol_base.specs.declared.limits.TheConstants.{MOST_SYMBOLS}

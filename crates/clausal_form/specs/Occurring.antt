@@ -1,5 +1,5 @@
 -- The variables of a matrix's clauses, found without writing the clauses: a product with a member that has no clauses has none itself.
-use Rattle.std.specs.Prelude.{ℕ, Bool, true, false, ◌&&◌, ◌||◌, List, [], ◌++◌, flat_map, if◌then◌else◌}
+use Rattle.std.specs.Prelude.{ℕ, List, [], ◌++◌, flat_map, if◌then◌else◌}
 use Rattle.fol_base.specs.Clause.{literal_variables}
 use Rattle.signature.specs.Clausal.{Literals}
 use Rattle.skolem.specs.Heavy.{all_have_clauses}

@@ -18,10 +18,10 @@ use Rattle.skolem.specs.Matrix.{MatrixTree, truth as true_matrix, falsity as fal
 use Rattle.skolem.specs.MatrixClauses.{matrix_clauses, listed_matrices, product_of_matrices}
 use Rattle.skolem.specs.Skolemized.{Skolemized, skolemized, skolemized_list}
 use Rattle.skolem.specs.SkolemizedLaws.{is_predicate}
-use Rattle.skolem.specs.Heavy.{has_clauses, some_have_clauses, all_have_clauses, heavy_matrix, some_heavy, form_has_clauses, some_form_has_clauses, all_forms_have_clauses}
+use Rattle.skolem.specs.Heavy.{has_clauses, some_have_clauses, all_have_clauses, heavy_matrix, some_heavy, all_forms_have_clauses}
 use Rattle.clausal_form.specs.Heavy.{heavy_form, some_heavy_form}
 use Rattle.clausal_form.specs.Measure.{literals_size, largest}
-use Rattle.skolem.proofs.AboutFormulas.HeavyLemmas.{or-first, or-second, or-either, form-has, all-forms-have}
+use Rattle.skolem.proofs.AboutFormulas.HeavyLemmas.{or-first, or-second, or-either, all-forms-have}
 use Rattle.clausal_form.proofs.AboutNaming.OccurringLemmas.{is_some, some-append, some-pairs}
 
 -- ---- heavy clauses

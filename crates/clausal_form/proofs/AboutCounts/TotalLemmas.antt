@@ -4,17 +4,13 @@ use Rattle.std.proofs.Common.{◌≡◌, ℕ, zero, suc, ◌+◌, ◌*◌, ◌�
 use Rattle.std.specs.Prelude.{nat_lt, if◌then◌else◌}
 use Rattle.std.proofs.lemmas.Bool.{and_parts, true≢false}
 use Rattle.std.proofs.lemmas.List.Sums.{sum_by-append, sum_by-cons}
-use Rattle.tptp_tree.specs.Term.{TermTrees}
 use Rattle.tptp_tree.specs.Formula.{FormulaTree, truth, falsity, predicate, equation, negation, conjunction, disjunction, connected, quantified, FormulaTrees, no_formulas, formula_then}
 use Rattle.fol_base.specs.Clause.{TreeLiteral, literal_size}
-use Rattle.fol_base.specs.Tree.{application}
-use Rattle.signature.specs.Symbol.{predicate_symbol, number_of}
-use Rattle.signature.specs.Occurrences.{terms_count}
-use Rattle.signature.specs.Environment.{Environment, term_under, terms_under}
-use Rattle.signature.specs.Clausal.{SymbolNumbers, Made, Worked, Scope, Literals, all_pairs, is_large, named, product, atom_literal, scope_of, makes_variables}
+use Rattle.signature.specs.Environment.{Environment}
+use Rattle.signature.specs.Clausal.{SymbolNumbers, Made, Worked, Scope, Literals, all_pairs, is_large, named, product, scope_of, makes_variables}
 use Rattle.skolem.specs.Matrix.{MatrixTree, truth as true_matrix, falsity as false_matrix, literal, conjunction as all_of, disjunction as some_of, MatrixTrees, no_matrices, matrix_then}
 use Rattle.skolem.specs.MatrixClauses.{matrix_clauses, listed_matrices, product_of_matrices}
-use Rattle.skolem.specs.Skolemized.{Skolemized, skolemized, skolemized_list}
+use Rattle.skolem.specs.Skolemized.{skolemized, skolemized_list}
 use Rattle.skolem.specs.Heavy.{has_clauses, all_have_clauses, matrix_total, matrix_totals, all_forms_have_clauses}
 use Rattle.clausal_form.specs.Heavy.{written_total, written_totals}
 use Rattle.clausal_form.specs.Measure.{literals_size, symbols_in}
