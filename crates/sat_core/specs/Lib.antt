@@ -9,4 +9,5 @@ pub mod Known
 pub mod Trimming
 pub mod Conflict
 pub mod Search
+pub mod Copies
 pub mod Solver

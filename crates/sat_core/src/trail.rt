@@ -1,9 +1,8 @@
 // The trail: the names that have a value, in the order in which they got it.
 
-ghost use Rattle.std.specs.Prelude.{◌≡◌, ℕ, ◌+◌, ◌-◌, ◌<◌, ◌≤◌, [], ◌∷◌, ◌++◌, length, take, slice_set, IfOk};
+ghost use Rattle.std.specs.Prelude.{◌≡◌, ℕ, ◌+◌, ◌-◌, ◌<◌, ◌≤◌, [], ◌∷◌, ◌++◌, length, take, slice_set, IfOk, IsTrue};
 ghost use Rattle.sat_core.specs.Trail.{IsTrail, IsNewTrail, is_true, is_false, place_of, slot_of, slot_at, cut_slot, Cuts};
 
-use crate::values::Values;
 use plain_types::{Mem, NameLit};
 use std::alloc::Global;
 
@@ -29,8 +28,6 @@ pub struct Slot {
 pub struct Trail {
     pub entries: Vec<Assigned>,
     pub slots: Vec<Slot>,
-    /// The same by literal, a hint.
-    pub values: Values,
 }
 
 impl Trail {
@@ -46,7 +43,6 @@ impl Trail {
         Ok(Trail {
             entries: Vec::new(alloc),
             slots,
-            values: Values::new(alloc, names)?,
         })
     }
 
@@ -76,6 +72,22 @@ impl Trail {
         slot.place > 0 && slot.positive != literal.positive
     }
 
+    /// Whether the literal is true; false where there is no slot for its name. A hint.
+    pub fn seems_true(&self, literal: NameLit) -> bool {
+        match self.slots.get(literal.name as usize) {
+            Some(slot) => slot.place > 0 && slot.positive == literal.positive,
+            None => false,
+        }
+    }
+
+    /// Whether the literal is false. Where there is no slot for its name, it isn't.
+    pub fn is_surely_false(&self, literal: NameLit) -> bool
+        ensures { IsTrue result → IsTrue (is_false self.now.slots.items literal) }
+    {
+        let name = literal.name as usize;
+        name < self.slots.len() && self.is_false(literal)
+    }
+
     /// Makes a literal without a value true.
     pub fn push(&mut self, entry: Assigned) -> Mem<()>
         requires trail { IsTrail self.old.entries.items self.old.slots.items }
@@ -91,7 +103,6 @@ impl Trail {
             place: self.entries.len(),
             positive: entry.literal.positive,
         };
-        self.values.make_true(entry.literal);
         Ok(())
     }
 
@@ -103,7 +114,6 @@ impl Trail {
     {
         if let Some(entry) = self.entries.pop() {
             self.slots[entry.literal.name as usize].place = 0;
-            self.values.take_back(entry.literal);
         }
     }
 
