@@ -53,6 +53,7 @@ mod order;
 mod solver;
 mod trail;
 mod trimming;
+mod values;
 mod watches;
 
 pub use answer::{Answer, Chain, Link, Links, Log, PropClauses, Truths, names_are_below};

@@ -2,7 +2,9 @@
 
 ghost use Rattle.std.specs.Prelude.{◌≡◌, ℕ, ◌+◌, ◌-◌, ◌<◌, ◌≤◌, [], ◌∷◌, ◌++◌, length, take, slice_set, IfOk, IsTrue};
 ghost use Rattle.sat_core.specs.Trail.{IsTrail, IsNewTrail, is_true, is_false, place_of, slot_of, slot_at, cut_slot, Cuts};
+ghost use Rattle.sat_core.specs.Values.{AreSlotValues};
 
+use crate::values::Values;
 use plain_types::{Mem, NameLit};
 use std::alloc::Global;
 
@@ -28,6 +30,9 @@ pub struct Slot {
 pub struct Trail {
     pub entries: Vec<Assigned>,
     pub slots: Vec<Slot>,
+    /// The same by literal.
+    pub values: Values,
+    ghost agree: { AreSlotValues values.by_code.items slots.items },
 }
 
 impl Trail {
@@ -43,6 +48,7 @@ impl Trail {
         Ok(Trail {
             entries: Vec::new(alloc),
             slots,
+            values: Values::new(alloc, names)?,
         })
     }
 
@@ -74,18 +80,14 @@ impl Trail {
 
     /// Whether the literal is true; false where there is no slot for its name. A hint.
     pub fn seems_true(&self, literal: NameLit) -> bool {
-        match self.slots.get(literal.name as usize) {
-            Some(slot) => slot.place > 0 && slot.positive == literal.positive,
-            None => false,
-        }
+        self.values.is_true(literal)
     }
 
     /// Whether the literal is false. Where there is no slot for its name, it isn't.
     pub fn is_surely_false(&self, literal: NameLit) -> bool
         ensures { IsTrue result → IsTrue (is_false self.now.slots.items literal) }
     {
-        let name = literal.name as usize;
-        name < self.slots.len() && self.is_false(literal)
+        self.values.is_false(literal)
     }
 
     /// Makes a literal without a value true.
@@ -103,6 +105,7 @@ impl Trail {
             place: self.entries.len(),
             positive: entry.literal.positive,
         };
+        self.values.make_true(entry.literal);
         Ok(())
     }
 
@@ -114,6 +117,7 @@ impl Trail {
     {
         if let Some(entry) = self.entries.pop() {
             self.slots[entry.literal.name as usize].place = 0;
+            self.values.take_back(entry.literal);
         }
     }
 
