@@ -4,5 +4,6 @@ pub mod TruthLemmas
 pub mod TrailLemmas
 pub mod PropagationLemmas
 pub mod CopyLemmas
+pub mod CodeLemmas
 pub mod ValueLemmas
 pub mod MeasureLemmas

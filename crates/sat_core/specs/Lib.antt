@@ -3,6 +3,7 @@ pub mod Resolution
 pub mod Answer
 pub mod Examples
 pub mod Trail
+pub mod Literals
 pub mod Values
 pub mod State
 pub mod Spans

@@ -1,14 +1,11 @@
 -- The values of literals by their codes.
-use Rattle.std.specs.Prelude.{◌≡◌, ℕ, ◌+◌, ◌*◌, List, slice_index_or, IsTrue, if◌then◌else◌}
+use Rattle.std.specs.Prelude.{◌≡◌, ℕ, List, slice_index_or, IsTrue}
 use Rattle.plain_types.specs.declared.sequence.NameLit.{NameLit}
 use Rattle.sat_core.specs.declared.trail.Slot.{Slot}
 use Rattle.sat_core.specs.declared.values.Value.{Value}
 use Rattle.sat_core.specs.declared.values.Value.TheVariants as value
 use Rattle.sat_core.specs.Trail.{is_false}
-
--- a number of its own for each literal
-abbrev pub code_of : NameLit → ℕ
-code_of l = 2 * l.name + (if l.positive then 1 else 0)
+use Rattle.sat_core.specs.Literals.{code_of}
 
 -- the value at a code; where there is none, it is open
 abbrev pub value_at : List Value → ℕ → Value

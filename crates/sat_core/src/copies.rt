@@ -6,6 +6,7 @@ ghost use Rattle.sat_core.specs.State.{SameLiterals};
 ghost use Rattle.sat_core.specs.Search.{OthersFalse};
 ghost use Rattle.sat_core.specs.Copies.{IsLook};
 
+use crate::literals::CodedLiteral;
 use crate::trail::Trail;
 use crate::watches::Pair;
 use plain_types::{Mem, NameLit};
@@ -16,17 +17,17 @@ use std::marker::Model;
 #[derive(Clone, Copy)]
 pub enum Look {
     /// This watched literal is true.
-    True(NameLit),
+    True(CodedLiteral),
     /// The clause is watched by the second literal, which isn't false, in place of the false one; the first is the other.
-    Moved(NameLit, NameLit),
+    Moved(CodedLiteral, CodedLiteral),
     /// All literals but this one, which isn't true, are false.
-    Closed(NameLit),
+    Closed(CodedLiteral),
 }
 
 /// The literals of a clause, in an order of their own. Contracts see the list.
 #[derive(Drop)]
 pub struct ClauseCopy {
-    literals: Vec<NameLit>,
+    literals: Vec<CodedLiteral>,
 }
 
 impl Model for ClauseCopy {
@@ -43,7 +44,9 @@ impl ClauseCopy {
         ensures { IfOk result (λ copy. copy ≡ literals.now) }
     {
         let mut copy = Vec::with_capacity(alloc, literals.len())?;
-        copy.extend_from_slice(literals)?;
+        for literal in literals {
+            copy.push(CodedLiteral::of(*literal))?;
+        }
         Ok(ClauseCopy { literals: copy })
     }
 
@@ -55,11 +58,11 @@ impl ClauseCopy {
     {
         let Pair { first, second } = pair;
         let mut copy = Vec::with_capacity(alloc, literals.len())?;
-        copy.push(literals[first])?;
-        copy.push(literals[second])?;
+        copy.push(CodedLiteral::of(literals[first]))?;
+        copy.push(CodedLiteral::of(literals[second]))?;
         for (index, literal) in literals.iter().enumerate() {
             if index != first && index != second {
-                copy.push(*literal)?;
+                copy.push(CodedLiteral::of(*literal))?;
             }
         }
         Ok(ClauseCopy { literals: copy })
@@ -67,19 +70,19 @@ impl ClauseCopy {
 
     /// Exchanges the first two literals where the first is the given one. Both are written in any case, since a branch here would be
     /// a toss of a coin.
-    fn put_second(&mut self, given: NameLit)
+    fn put_second(&mut self, given: CodedLiteral)
         requires { 2 ≤ length self.old }
         ensures same { SameLiterals self.new self.old }
         ensures count { length self.new ≡ length self.old }
     {
         let (first, second) = (self.literals[0], self.literals[1]);
-        let is_first = first == given;
+        let is_first = first.is(given);
         self.literals[0] = if is_first { second } else { first };
         self.literals[1] = if is_first { first } else { second };
     }
 
     /// Looks for a literal that isn't false, where a watched one has become so.
-    pub fn look(&mut self, trail: &Trail, falsified: NameLit) -> Look
+    pub fn look(&mut self, trail: &Trail, falsified: CodedLiteral) -> Look
         ensures same { SameLiterals self.new self.old }
         ensures look { IsLook trail.now.slots.items self.old result }
     {
@@ -100,7 +103,7 @@ impl ClauseCopy {
 }
 
 /// The index of a literal that isn't false and differs from the first one, which a clause may have twice.
-fn open_index(literals: &[NameLit], trail: &Trail, first: NameLit) -> Option<usize>
+fn open_index(literals: &[CodedLiteral], trail: &Trail, first: CodedLiteral) -> Option<usize>
     requires some { 0 < length literals.now }
     requires first { first ≡ slice_index_or literals.now 0 first }
     ensures some { IfSome result (λ i. i < length literals.now) }
@@ -108,7 +111,7 @@ fn open_index(literals: &[NameLit], trail: &Trail, first: NameLit) -> Option<usi
 {
     for index in 1..literals.len() {
         let literal = literals[index];
-        if !trail.is_surely_false(literal) && first != literal {
+        if !trail.is_surely_false(literal) && !first.is(literal) {
             return Some(index);
         }
     }

@@ -4,6 +4,7 @@ ghost use Rattle.std.specs.Prelude.{◌≡◌, ℕ, ◌+◌, ◌-◌, ◌<◌, �
 ghost use Rattle.sat_core.specs.Trail.{IsTrail, IsNewTrail, is_true, is_false, place_of, slot_of, slot_at, cut_slot, Cuts};
 ghost use Rattle.sat_core.specs.Values.{AreSlotValues};
 
+use crate::literals::CodedLiteral;
 use crate::values::Values;
 use plain_types::{Mem, NameLit};
 use std::alloc::Global;
@@ -78,13 +79,13 @@ impl Trail {
         slot.place > 0 && slot.positive != literal.positive
     }
 
-    /// Whether the literal is true; false where there is no slot for its name. A hint.
-    pub fn seems_true(&self, literal: NameLit) -> bool {
+    /// Whether the literal is true by its value; false where it has none. A hint.
+    pub fn seems_true(&self, literal: CodedLiteral) -> bool {
         self.values.is_true(literal)
     }
 
-    /// Whether the literal is false. Where there is no slot for its name, it isn't.
-    pub fn is_surely_false(&self, literal: NameLit) -> bool
+    /// Whether the literal is false by its value; where it has none, it isn't.
+    pub fn is_surely_false(&self, literal: CodedLiteral) -> bool
         ensures { IsTrue result → IsTrue (is_false self.now.slots.items literal) }
     {
         self.values.is_false(literal)

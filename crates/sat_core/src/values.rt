@@ -4,9 +4,10 @@
 ghost use Rattle.std.specs.Prelude.{◌≡◌, ℕ, replicate, slice_set, IfOk, IsTrue};
 ghost use Rattle.plain_types.specs.Names.{opposite};
 ghost use Rattle.sat_core.specs.declared.values.Value.TheVariants.{Open, True, False};
-ghost use Rattle.sat_core.specs.Values.{code_of, value_at};
+ghost use Rattle.sat_core.specs.Literals.{code_of};
+ghost use Rattle.sat_core.specs.Values.{value_at};
 
-use crate::literals::{code, opposite};
+use crate::literals::{CodedLiteral, code, opposite};
 use plain_types::{Mem, NameLit};
 use std::alloc::Global;
 
@@ -35,15 +36,15 @@ impl Values {
     }
 
     /// Whether the literal is true.
-    pub fn is_true(&self, literal: NameLit) -> bool {
-        matches!(self.by_code.get(code(literal)), Some(Value::True))
+    pub fn is_true(&self, literal: CodedLiteral) -> bool {
+        matches!(self.by_code.get(literal.index()), Some(Value::True))
     }
 
     /// Whether it is false.
-    pub fn is_false(&self, literal: NameLit) -> bool
+    pub fn is_false(&self, literal: CodedLiteral) -> bool
         ensures { IsTrue result → value_at self.now.by_code.items (code_of literal) ≡ False }
     {
-        matches!(self.by_code.get(code(literal)), Some(Value::False))
+        matches!(self.by_code.get(literal.index()), Some(Value::False))
     }
 
     /// A literal has become true.

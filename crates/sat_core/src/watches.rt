@@ -14,7 +14,7 @@ ghost use Rattle.sat_core.specs.Copies.{IsAlone, IsAloneAt, IsVisit};
 use crate::clauses::Clauses;
 use crate::copies::{ClauseCopy, Look};
 use crate::forgetting::is_kept;
-use crate::literals::{code, opposite};
+use crate::literals::{CodedLiteral, code, opposite};
 use crate::trail::{Assigned, Trail};
 use plain_types::{Mem, NameLit};
 use std::alloc::Global;
@@ -44,7 +44,7 @@ pub struct Closed {
     /// The clause's number.
     pub number: usize,
     /// The literal.
-    pub other: NameLit,
+    pub other: CodedLiteral,
 }
 
 /// An entry of the list of a literal that watches a clause.
@@ -52,7 +52,7 @@ pub struct Closed {
 pub struct Watch {
     /// A literal of the clause: where it is true, the clause needs no look. The other watched one, but where that has been changed
     /// since.
-    pub other: NameLit,
+    pub other: CodedLiteral,
     /// The clause's number.
     pub number: usize,
 }
@@ -124,9 +124,9 @@ impl Watches {
             .push(ClauseCopy::watched(alloc, literals, pair)?)?;
         let first = literals[pair.first];
         let second = literals[pair.second];
-        let other = second;
+        let other = CodedLiteral::of(second);
         self.lists[code(first)].push(Watch { other, number })?;
-        let other = first;
+        let other = CodedLiteral::of(first);
         self.lists[code(second)].push(Watch { other, number })?;
         Ok(())
     }
@@ -143,12 +143,12 @@ impl Watches {
     }
 
     /// Moves an entry of the list that is gone through to the list of a literal.
-    fn move_watch(&mut self, index: usize, literal: NameLit, watch: Watch) -> Mem<()>
+    fn move_watch(&mut self, index: usize, literal: CodedLiteral, watch: Watch) -> Mem<()>
         ensures lists { IfOk result (λ _. length self.new.lists.items ≡ length self.old.lists.items) }
         ensures copies { IfOk result (λ _. self.new.copies.items ≡ self.old.copies.items) }
         ensures seen { IfOk result (λ _. self.new.seen ≡ self.old.seen) }
     {
-        let list = code(literal);
+        let list = literal.index();
         if index < self.visited.len() && list < self.lists.len() {
             self.visited.swap_remove(index);
             self.lists[list].push(watch)?;
@@ -160,7 +160,7 @@ impl Watches {
     fn visit(
         &mut self,
         trail: &Trail,
-        falsified: NameLit,
+        falsified: CodedLiteral,
         index: usize,
         watch: Watch,
     ) -> Mem<Visited>
@@ -191,7 +191,7 @@ impl Watches {
         &mut self,
         clauses: &Clauses<'_>,
         trail: &mut Trail,
-        falsified: NameLit,
+        falsified: CodedLiteral,
     ) -> Mem<Option<usize>>
         requires sound { IsSound (known clauses.now) trail.old.entries.items trail.old.slots.items }
         requires copies { SameClauses self.old.copies.items (known clauses.now) }
@@ -243,7 +243,7 @@ impl Watches {
     {
         let list = code(falsified);
         mem::swap(&mut self.lists[list], &mut self.visited);
-        let conflict = self.visit_all(clauses, trail, falsified)?;
+        let conflict = self.visit_all(clauses, trail, CodedLiteral::of(falsified))?;
         mem::swap(&mut self.lists[list], &mut self.visited);
         Ok(conflict)
     }
@@ -374,6 +374,7 @@ fn settle_unit(clauses: &Clauses<'_>, trail: &mut Trail, number: usize) -> Mem<O
     if !is_alone(trail, literals, other) {
         return Ok(None);
     }
+    let other = CodedLiteral::of(other);
     settle(clauses, trail, Closed { number, other })
 }
 
@@ -386,6 +387,7 @@ fn settle(clauses: &Clauses<'_>, trail: &mut Trail, closed: Closed) -> Mem<Optio
     ensures conflict { IfOk result (λ found. IfSome found (IsConflict (known clauses.now) trail.new.slots.items)) }
 {
     let Closed { number, other } = closed;
+    let other = other.literal();
     if trail.place(other) == 0 {
         let (literal, reason) = (other, Some(number));
         trail.push(Assigned { literal, reason })?;

@@ -10,7 +10,8 @@ use Rattle.sat_core.specs.declared.trail.Slot.{Slot}
 use Rattle.sat_core.specs.declared.values.Value.{Value}
 use Rattle.sat_core.specs.declared.values.Value.TheVariants.{Open, True, False}
 use Rattle.sat_core.specs.Trail.{slot_at, place_of, has_place, is_false}
-use Rattle.sat_core.specs.Values.{code_of, value_at, AreSlotValues}
+use Rattle.sat_core.specs.Literals.{code_of}
+use Rattle.sat_core.specs.Values.{value_at, AreSlotValues}
 
 -- the code tells the literal
 same_code : (k l : NameLit) → code_of k ≡ code_of l → k ≡ l

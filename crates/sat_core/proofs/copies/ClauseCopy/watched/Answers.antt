@@ -1,5 +1,6 @@
-use Rattle.std.proofs.Common.{ℕ, ◌∷◌, get_or, ap, inl, inr, ◌∙◌, arith}
+use Rattle.std.proofs.Common.{ℕ, [], ◌∷◌, ◌++◌, get_or, ap, inl, inr, ◌∙◌, arith}
 use Rattle.std.proofs.lemmas.List.{get_or_default, take_all}
+use Rattle.plain_types.specs.declared.sequence.NameLit.{NameLit}
 use Rattle.plain_types.specs.Names.{has_name}
 use Rattle.sat_core.proofs.AboutConflicts.AnalysisLemmas.{no_literal, has_name_at}
 use Rattle.sat_core.proofs.AboutTrails.CopyLemmas.{same_front, front_more, front_skips}
@@ -18,7 +19,8 @@ loop-index-preserved c =
     let read = get_or_default xs i no_literal _ within in
     elim c.if-index-first.branch [
       | then-index-first+then-index-second+in_ok-push-3 w ↦ rw w.copy-is
-          (front_more _ _ xs i f s x within read w.in_ok-push-3.ensures.items c.loop-index.invariant)
+          (front_more _ _ xs i f s x within read
+          (w.in_ok-push-3.ensures.items ∙ ap (λ (k : NameLit). c.loop-index.copy.items ++ k ∷ []) w.of-then-index-second.ensures) c.loop-index.invariant)
       | else-index-first w ↦ rw w.copy-is (elim w.else-index-first.branch [
           | else-index-first-via-then-index-first+else-index-second w' ↦
               front_skips _ xs i f s x within read (inr (ap (λ (n : ℕ). get_or xs n no_literal) (omega (arith, w'.if-index-second.false)))) c.loop-index.invariant
