@@ -4,6 +4,5 @@ pub mod TruthLemmas
 pub mod TrailLemmas
 pub mod PropagationLemmas
 pub mod CopyLemmas
-pub mod CodeLemmas
 pub mod ValueLemmas
 pub mod MeasureLemmas

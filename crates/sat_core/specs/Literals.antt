@@ -1,7 +1,6 @@
 -- Literals as numbers.
 use Rattle.std.proofs.Common.{zero, suc, Bool, cond, refl, ap, arith, ⊎_elim}
 use Rattle.std.proofs.lemmas.Bool.{cases_eq, eq-eqb, ne_eqb}
-
 use Rattle.std.specs.Prelude.{◌≡◌, ℕ, ◌+◌, ◌*◌, ◌/◌, ◌%◌, ◌<◌, ◌==◌, if◌then◌else◌}
 use Rattle.plain_types.specs.declared.sequence.NameLit.{NameLit}
 

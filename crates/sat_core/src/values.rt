@@ -1,7 +1,7 @@
 // The values of literals by their codes, so that a look at one is a look at one place. The slots of the trail have them too; that
 // a literal is true by its value is a hint, and that it is false is believed.
 
-ghost use Rattle.std.specs.Prelude.{◌≡◌, ℕ, replicate, slice_set, IfOk, IsTrue};
+ghost use Rattle.std.specs.Prelude.{◌≡◌, ℕ, slice_set, IfOk, IsTrue};
 ghost use Rattle.plain_types.specs.Names.{opposite};
 ghost use Rattle.sat_core.specs.declared.values.Value.TheVariants.{Open, True, False};
 ghost use Rattle.sat_core.specs.Literals.{code_of};

@@ -107,13 +107,7 @@ impl Watches {
     }
 
     /// Watches a clause by the literals at two indices.
-    fn watch(
-        &mut self,
-        alloc: Global,
-        number: usize,
-        literals: &[NameLit],
-        pair: Pair,
-    ) -> Mem<()>
+    fn watch(&mut self, alloc: Global, number: usize, literals: &[NameLit], pair: Pair) -> Mem<()>
         requires lists { HaveLists (length self.old.lists.items) literals.now }
         requires first { pair.first < length literals.now }
         requires second { pair.second < length literals.now }

@@ -10,7 +10,6 @@ use Rattle.plain_types.specs.Names.{same_name, has_name}
 use Rattle.sat_core.specs.declared.trail.Slot.{Slot}
 use Rattle.sat_core.specs.Clause.{PropClause}
 use Rattle.sat_core.specs.State.{SameLiterals, SameClauses, clause_at}
-use Rattle.sat_core.specs.Search.{OthersFalse}
 use Rattle.sat_core.specs.Copies.{IsAlone, IsAloneAt}
 use Rattle.sat_core.proofs.AboutTrails.LiteralLemmas.{same_name-true, has_name-append}
 use Rattle.sat_core.proofs.AboutConflicts.AnalysisLemmas.{has_name_more}
@@ -18,10 +17,7 @@ use Rattle.sat_core.proofs.AboutConflicts.AnalysisLemmas.{has_name_more}
 pub same_moved : (xs ys : PropClause) → IsPermutation xs ys → SameLiterals ys xs
 same_moved xs ys h l = sym (list_any-IsPermutation (same_name l) xs ys h)
 
-pub same_then : (xs ys zs : PropClause) → SameLiterals xs ys → SameLiterals ys zs → SameLiterals xs zs
-same_then xs ys zs first second l = first l ∙ second l
-
-pub alone_same : (slots : List Slot) (c d : PropClause) (l : NameLit) → SameLiterals c d → IsAlone slots c l → IsAlone slots d l
+alone_same : (slots : List Slot) (c d : PropClause) (l : NameLit) → SameLiterals c d → IsAlone slots c l → IsAlone slots d l
 alone_same slots c d l same alone = record {
   member = sym (same l) ∙ alone.member;
   others = λ k h o. alone.others k (same k ∙ h) o;

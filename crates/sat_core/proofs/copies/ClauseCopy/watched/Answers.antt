@@ -22,11 +22,11 @@ loop-index-preserved c =
           (front_more _ _ xs i f s x within read
           (w.in_ok-push-3.ensures.items ∙ ap (λ (k : NameLit). c.loop-index.copy.items ++ k ∷ []) w.of-then-index-second.ensures) c.loop-index.invariant)
       | else-index-first w ↦ rw w.copy-is (elim w.else-index-first.branch [
-          | else-index-first-via-then-index-first+else-index-second w' ↦
-              front_skips _ xs i f s x within read (inr (ap (λ (n : ℕ). get_or xs n no_literal) (omega (arith, w'.if-index-second.false)))) c.loop-index.invariant
-          | else-index-first-via-else-index-first w' ↦
-              front_skips _ xs i f s x within read (inl (ap (λ (n : ℕ). get_or xs n no_literal) (omega (arith, w'.if-index-first.false)))) c.loop-index.invariant
-        ])
+        | else-index-first-via-then-index-first+else-index-second w' ↦
+            front_skips _ xs i f s x within read (inr (ap (λ (n : ℕ). get_or xs n no_literal) (omega (arith, w'.if-index-second.false)))) c.loop-index.invariant
+        | else-index-first-via-else-index-first w' ↦
+            front_skips _ xs i f s x within read (inl (ap (λ (n : ℕ). get_or xs n no_literal) (omega (arith, w'.if-index-first.false)))) c.loop-index.invariant
+      ])
     ]
 
 pub returns : goal.returns
