@@ -4,7 +4,7 @@
 use formula_nnf::{Nnf, nnf};
 use plain_types::{Mem, NoMemory, Text, Texts};
 use signature::{Signature, Symbol, SymbolKind};
-use skolem::skolemize;
+use skolem::{MatrixEnd, skolemize};
 use std::alloc::Global;
 use std::io;
 use std::time::Instant;
@@ -136,7 +136,7 @@ fn symbols(alloc: Global) -> Mem<Signature> {
     Ok(signature)
 }
 
-fn worked(alloc: Global, form: &Nnf<'_>) -> Mem<usize> {
+fn worked(alloc: Global, form: &Nnf<'_>) -> Result<usize, MatrixEnd> {
     let signature = symbols(alloc)?;
     let made = skolemize(alloc, form, &signature)?;
     Ok(made.arities.len())
@@ -157,7 +157,7 @@ fn time(rt: &HostRuntime, what: &str, formula: Mem<Formula>) -> io::Result<()> {
     let time = start.elapsed(rt)?.as_micros();
     match number {
         Ok(number) => println!(rt; "{what}: {number} symbols, {time} microseconds")?,
-        Err(_) => println!(rt; "{what}: no memory")?,
+        Err(_) => println!(rt; "{what}: no matrix")?,
     }
     Ok(())
 }

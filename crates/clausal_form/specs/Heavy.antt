@@ -1,47 +1,12 @@
--- Literals of over MOST_SYMBOLS symbols in the clauses of a matrix, and of a normal form as it is written; and the symbols of a normal form's
--- literals together. A product with a member that has no clauses has none itself, and so no such literal.
-use Rattle.std.specs.Prelude.{ℕ, ◌+◌, nat_lt, min, Bool, true, false, ◌&&◌, ◌||◌, if◌then◌else◌}
+-- Literals of over MOST_SYMBOLS symbols in the clauses of a normal form, as it is written; and the symbols of its literals together. Negation
+-- stands before predicates alone, and a variable counts as one symbol. A product with a member that has no clauses has none itself, and so no
+-- such literal.
+use Rattle.std.specs.Prelude.{ℕ, ◌+◌, nat_lt, min, Bool, false, ◌&&◌, ◌||◌, if◌then◌else◌}
 use Rattle.tptp_tree.specs.Term.{term_size, terms_size}
 use Rattle.tptp_tree.specs.Formula.{FormulaTree, truth, falsity, predicate, equation, negation, conjunction, disjunction, connected, quantified, FormulaTrees, no_formulas, formula_then}
-use Rattle.fol_base.specs.Clause.{literal_size}
 use Rattle.fol_base.specs.declared.limits.TheConstants.{MOST_SYMBOLS}
-use Rattle.skolem.specs.Matrix.{MatrixTree, truth as true_matrix, falsity as false_matrix, literal, conjunction as all_of, disjunction as some_of, MatrixTrees, no_matrices, matrix_then}
 use Rattle.skolem.specs.SkolemizedLaws.{is_predicate}
-use Rattle.clausal_form.specs.Occurring.{all_have_clauses}
-
-abbrev mutual
-  pub heavy_matrix : MatrixTree → Bool
-  heavy_matrix true_matrix = false
-  heavy_matrix false_matrix = false
-  heavy_matrix (literal l) = nat_lt MOST_SYMBOLS (literal_size l)
-  heavy_matrix (all_of ms) = some_heavy ms
-  heavy_matrix (some_of made ms) = all_have_clauses ms && some_heavy ms
-
-  pub some_heavy : MatrixTrees → Bool
-  some_heavy no_matrices = false
-  some_heavy (matrix_then m ms) = heavy_matrix m || some_heavy ms
-
--- ---- normal forms, where negation stands before predicates alone, and a variable counts as one symbol
-
-abbrev mutual
-  pub form_has_clauses : FormulaTree → Bool
-  form_has_clauses truth = false
-  form_has_clauses falsity = true
-  form_has_clauses (predicate p ts) = true
-  form_has_clauses (equation positive s t) = true
-  form_has_clauses (negation f) = is_predicate f
-  form_has_clauses (conjunction fs) = some_form_has_clauses fs
-  form_has_clauses (disjunction fs) = all_forms_have_clauses fs
-  form_has_clauses (connected c f g) = false
-  form_has_clauses (quantified q xs f) = form_has_clauses f
-
-  pub some_form_has_clauses : FormulaTrees → Bool
-  some_form_has_clauses no_formulas = false
-  some_form_has_clauses (formula_then f fs) = form_has_clauses f || some_form_has_clauses fs
-
-  pub all_forms_have_clauses : FormulaTrees → Bool
-  all_forms_have_clauses no_formulas = true
-  all_forms_have_clauses (formula_then f fs) = form_has_clauses f && all_forms_have_clauses fs
+use Rattle.skolem.specs.Heavy.{all_forms_have_clauses}
 
 abbrev mutual
   pub heavy_form : FormulaTree → Bool

@@ -1,28 +1,13 @@
 -- The variables of a matrix's clauses, found without writing the clauses: a product with a member that has no clauses has none itself.
-use Rattle.std.specs.Prelude.{ℕ, Bool, true, false, ◌&&◌, ◌||◌, List, [], ◌++◌, flat_map, if◌then◌else◌}
+use Rattle.std.specs.Prelude.{ℕ, List, [], ◌++◌, flat_map, if◌then◌else◌}
 use Rattle.fol_base.specs.Clause.{literal_variables}
 use Rattle.signature.specs.Clausal.{Literals}
+use Rattle.skolem.specs.Heavy.{all_have_clauses}
 use Rattle.skolem.specs.Matrix.{MatrixTree, truth, falsity, literal, conjunction, disjunction, MatrixTrees, no_matrices, matrix_then}
 
 -- the variables of clauses, with repetitions
 abbrev pub clauses_variables : List Literals → List ℕ
 clauses_variables cs = flat_map (λ c. flat_map literal_variables c) cs
-
-abbrev mutual
-  pub has_clauses : MatrixTree → Bool
-  has_clauses truth = false
-  has_clauses falsity = true
-  has_clauses (literal l) = true
-  has_clauses (conjunction ms) = some_have_clauses ms
-  has_clauses (disjunction made ms) = all_have_clauses ms
-
-  pub some_have_clauses : MatrixTrees → Bool
-  some_have_clauses no_matrices = false
-  some_have_clauses (matrix_then m ms) = has_clauses m || some_have_clauses ms
-
-  pub all_have_clauses : MatrixTrees → Bool
-  all_have_clauses no_matrices = true
-  all_have_clauses (matrix_then m ms) = has_clauses m && all_have_clauses ms
 
 -- the occurrences of variables in the parts that have clauses
 abbrev mutual

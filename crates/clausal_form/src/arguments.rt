@@ -4,7 +4,8 @@ ghost use Rattle.std.specs.Prelude.{◌≡◌, ◌++◌, [], map, IfOk, if◌the
 ghost use Rattle.signature.specs.Clausal.{made_in_order};
 ghost use Rattle.skolem.specs.Matrix.{matrices_of};
 ghost use Rattle.skolem.specs.Shape.{matrix_tree};
-ghost use Rattle.clausal_form.specs.Occurring.{clauses_variables, has_clauses, some_have_clauses, all_have_clauses, matrix_variables, matrices_variables};
+ghost use Rattle.skolem.specs.Heavy.{has_clauses, some_have_clauses, all_have_clauses};
+ghost use Rattle.clausal_form.specs.Occurring.{clauses_variables, matrix_variables, matrices_variables};
 ghost use Rattle.clausal_form.specs.Written.{written};
 
 use plain_types::Mem;

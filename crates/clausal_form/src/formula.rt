@@ -7,25 +7,25 @@ ghost use Rattle.signature.specs.Occurrences.{formula_symbols};
 ghost use Rattle.signature.specs.Clausal.{canonical_literals};
 ghost use Rattle.signature.specs.Environment.{closed, under_for_all};
 ghost use Rattle.skolem.specs.Shape.{matrix_tree};
+ghost use Rattle.skolem.specs.Heavy.{matrix_total};
 ghost use Rattle.formula_nnf.specs.Shape.{nnf_tree};
 ghost use Rattle.skolem.specs.Skolemized.{AreKnown, skolemized_form};
 ghost use Rattle.fol_base.specs.declared.limits.TheConstants.{MOST_FORM_SYMBOLS};
 ghost use Rattle.clausal_form.specs.Agenda.{placed};
 ghost use Rattle.clausal_form.specs.Formula.{IsMatrixOrCause, Passes, definitions_clauses};
-ghost use Rattle.clausal_form.specs.Heavy.{written_total};
 ghost use Rattle.clausal_form.specs.Naming.{definition_clauses};
 ghost use Rattle.clausal_form.specs.Written.{written};
 
 use crate::closing::closed_form;
 use crate::fault::FormCause;
-use crate::heavy::{form_weight, is_heavy_matrix};
+use crate::heavy::form_weight;
 use crate::naming::Definition;
 use crate::writing::{Agenda, Output, write_matrix};
 use fol_base::{MOST_FORM_SYMBOLS, MOST_SYMBOLS};
 use formula_nnf::Nnf;
-use plain_types::{Mem, Texts};
+use plain_types::{Mem, NoMemory, Texts};
 use signature::Signature;
-use skolem::{Matrix, Skolemized, largest_clause, skolemize};
+use skolem::{Matrix, MatrixEnd, Skolemized, largest_clause, skolemize};
 use std::alloc::Global;
 use tptp_tree::Annotated;
 
@@ -50,18 +50,19 @@ pub(crate) fn formula_matrix<'a>(
     if weight.symbols > MOST_FORM_SYMBOLS {
         return Ok(Err(cause_over_total(alloc, &form, signature)?));
     }
-    let made = skolemize(alloc, &form, signature)?;
-    if is_heavy_matrix(&made.matrix) {
-        return Ok(Err(FormCause::TooHeavy));
+    match skolemize(alloc, &form, signature) {
+        Ok(made) => Ok(Ok(made)),
+        Err(MatrixEnd::NoMemory) => Err(NoMemory),
+        Err(MatrixEnd::TooHeavy) => Ok(Err(FormCause::TooHeavy)),
+        Err(MatrixEnd::TotalLimit) => Ok(Err(cause_over_total(alloc, &form, signature)?)),
     }
-    Ok(Ok(made))
 }
 
 /// Why there can be no form, where the literals have over `MOST_FORM_SYMBOLS` symbols together: which limit is passed first depends on how
 /// many arguments names have.
 fn cause_over_total<'a>(alloc: Global, form: &Nnf<'a>, signature: &'a Signature) -> Mem<FormCause>
     requires known { AreKnown signature.now (formula_symbols (nnf_tree form.now)) }
-    requires over { MOST_FORM_SYMBOLS < written_total (nnf_tree form.now) }
+    requires over { MOST_FORM_SYMBOLS < matrix_total (skolemized_form signature.now (nnf_tree form.now)).matrix }
     ensures { IfOk result (λ cause. Passes cause (skolemized_form signature.now (nnf_tree form.now)).matrix) }
 {
     if largest_clause(alloc, form, signature)? > MOST_SYMBOLS {

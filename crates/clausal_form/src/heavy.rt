@@ -1,6 +1,6 @@
 // Literals that are too heavy, alone or together, found before anything is made of them. A literal of over `MOST_SYMBOLS` symbols makes each
-// clause that it stands in too heavy, so a formula is refused where one stands in a part that has clauses. It is asked twice: of the normal
-// form, where a variable counts as one symbol and no term is read further than the limit, and of the matrix, where the sizes of the Skolem
+// clause that it stands in too heavy, so a formula is refused where one stands in a part that has clauses. Here it is asked of the normal form,
+// where a variable counts as one symbol and no term is read further than the limit; `skolemize` asks it again, where the sizes of the Skolem
 // terms are known. And each literal of such a part stands in a clause, so a formula is refused too where they are over `MOST_FORM_SYMBOLS`
 // together, as they are written.
 
@@ -10,21 +10,18 @@ ghost use Rattle.tptp_tree.specs.Shape.{term_of};
 ghost use Rattle.tptp_tree.specs.Formula.{formulas_of};
 ghost use Rattle.fol_base.specs.declared.limits.TheConstants.{MOST_SYMBOLS};
 ghost use Rattle.formula_nnf.specs.Shape.{nnf_tree};
-ghost use Rattle.skolem.specs.Matrix.{matrices_of};
-ghost use Rattle.skolem.specs.Shape.{matrix_tree};
-ghost use Rattle.clausal_form.specs.Occurring.{has_clauses, some_have_clauses, all_have_clauses};
-ghost use Rattle.clausal_form.specs.Heavy.{heavy_matrix, some_heavy, form_has_clauses, some_form_has_clauses, all_forms_have_clauses, heavy_form, some_heavy_form, written_total, written_totals};
+ghost use Rattle.skolem.specs.Heavy.{form_has_clauses, some_form_has_clauses, all_forms_have_clauses};
+ghost use Rattle.clausal_form.specs.Heavy.{heavy_form, some_heavy_form, written_total, written_totals};
 ghost use Rattle.formula_nnf.specs.CappedCount.{capped};
 
 use fol_base::MOST_SYMBOLS;
 use formula_nnf::Nnf;
-use skolem::Matrix;
 use tptp_tree::TreeTerm;
 
 /// The symbols of a predicate's literal beside its arguments: the predicate and `$true`.
 const ATOM_SYMBOLS: u64 = 2;
 
-/// What is asked of a form or a matrix: whether it has clauses, whether a literal that is too heavy stands in one of them, and the symbols of
+/// What is asked of a form: whether it has clauses, whether a literal that is too heavy stands in one of them, and the symbols of
 /// the literals in them, stopping at u64's last value.
 #[derive(Clone, Copy)]
 pub(crate) struct Weight {
@@ -40,13 +37,6 @@ struct Weights {
     all: bool,
     heavy: bool,
     symbols: u64,
-}
-
-/// Whether a literal that is too heavy stands in the clauses of a matrix.
-pub(crate) fn is_heavy_matrix(matrix: &Matrix<'_>) -> bool
-    ensures { result ≡ heavy_matrix (matrix_tree matrix.now) }
-{
-    matrix_weight(matrix).is_heavy
 }
 
 /// The weight of a normal form, of its literals as they are written: at most one symbol over the limit is counted of each.
@@ -81,33 +71,6 @@ fn form_weights(forms: &[Nnf<'_>]) -> Weights
     let mut weights = NO_MEMBERS;
     for form in forms {
         weights = with_member(weights, form_weight(form));
-    }
-    weights
-}
-
-#[cycle(matrix_weight)]
-fn matrix_weight(matrix: &Matrix<'_>) -> Weight
-    ensures clauses { result.has_clauses ≡ has_clauses (matrix_tree matrix.now) }
-    ensures heavy { result.is_heavy ≡ heavy_matrix (matrix_tree matrix.now) }
-{
-    match matrix {
-        Matrix::True => constant(true),
-        Matrix::False => constant(false),
-        Matrix::Lit(literal) => literal_weight(literal.size()),
-        Matrix::And(members) => listed(matrix_weights(members.as_slice())),
-        Matrix::Or { made: _, members } => multiplied(matrix_weights(members.as_slice())),
-    }
-}
-
-#[cycle(matrix_weight)]
-fn matrix_weights(members: &[Matrix<'_>]) -> Weights
-    ensures some { result.some ≡ some_have_clauses (matrices_of (map matrix_tree members.now)) }
-    ensures all { result.all ≡ all_have_clauses (matrices_of (map matrix_tree members.now)) }
-    ensures heavy { result.heavy ≡ some_heavy (matrices_of (map matrix_tree members.now)) }
-{
-    let mut weights = NO_MEMBERS;
-    for member in members {
-        weights = with_member(weights, matrix_weight(member));
     }
     weights
 }

@@ -3,4 +3,6 @@ pub mod LiteralLemmas
 pub mod TruthLemmas
 pub mod TrailLemmas
 pub mod PropagationLemmas
+pub mod CopyLemmas
+pub mod ValueLemmas
 pub mod MeasureLemmas

@@ -3,10 +3,13 @@ pub mod Resolution
 pub mod Answer
 pub mod Examples
 pub mod Trail
+pub mod Literals
+pub mod Values
 pub mod State
 pub mod Spans
 pub mod Known
 pub mod Trimming
 pub mod Conflict
 pub mod Search
+pub mod Copies
 pub mod Solver

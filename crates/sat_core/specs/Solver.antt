@@ -4,7 +4,7 @@ use Rattle.sat_core.specs.declared.solver.Solver.{Solver}
 use Rattle.sat_core.specs.declared.solver.Step.{Step}
 use Rattle.sat_core.specs.declared.solver.Step.TheVariants.{Going, Satisfied, Refuted}
 use Rattle.sat_core.specs.Clause.{PropClause, clauses_true, valuation_of}
-use Rattle.sat_core.specs.State.{AreCovered, IsSound, Derives}
+use Rattle.sat_core.specs.State.{AreCovered, IsSound, SameClauses, Derives}
 use Rattle.sat_core.specs.Known.{known, IsKnown}
 use Rattle.sat_core.specs.Search.{remaining, values_of}
 
@@ -14,6 +14,7 @@ pub record IsState (s : Solver) : Type 0 where
   pub marks : AreCovered s.marks.marked.items s.marks.literals.items
   pub marked_names : length s.marks.marked.items ≡ length s.trail.slots.items
   pub lists : length s.watches.lists.items ≡ 2 * length s.trail.slots.items
+  pub copies : SameClauses s.watches.copies.items (known s.clauses)
 
 abbrev pub inputs_of : Solver → List PropClause
 inputs_of s = s.clauses.inputs.now

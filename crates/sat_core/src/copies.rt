@@ -1,102 +1,119 @@
-// The watched clauses once more, one after another, each as the codes of its literals, the two watched ones first: so the
-// look at a clause reads one piece of memory. They are a hint: what is implied is read from the clause itself.
+// The clauses once more, each with its two watched literals in front: so the look at a clause reads one piece of memory, and
+// what it comes to is believed, since a copy has the literals of its clause, in another order.
 
-ghost use Rattle.std.specs.Prelude.{◌<◌, ◌≤◌, length, IfSome};
+ghost use Rattle.std.specs.Prelude.{◌≡◌, ◌<◌, ◌≤◌, length, slice_index_or, IfOk, IfSome, IfNone};
+ghost use Rattle.sat_core.specs.State.{SameLiterals};
+ghost use Rattle.sat_core.specs.Search.{OthersFalse};
+ghost use Rattle.sat_core.specs.Copies.{IsLook};
 
-use crate::literals::code;
-use crate::values::Values;
+use crate::literals::CodedLiteral;
+use crate::trail::Trail;
 use crate::watches::Pair;
 use plain_types::{Mem, NameLit};
 use std::alloc::Global;
+use std::marker::Model;
 
-/// Before the codes of a clause stand its number and the index at which its codes end.
-const HEAD: usize = 2;
-
-/// What the look at a copy has found. A literal is told by its code.
+/// What the look at a copy has found.
 #[derive(Clone, Copy)]
 pub enum Look {
     /// This watched literal is true.
-    True(usize),
+    True(CodedLiteral),
     /// The clause is watched by the second literal, which isn't false, in place of the false one; the first is the other.
-    Moved(usize, usize),
+    Moved(CodedLiteral, CodedLiteral),
     /// All literals but this one, which isn't true, are false.
-    Closed(usize),
+    Closed(CodedLiteral),
 }
 
-/// Copies of clauses. A clause is told by the index at which its copy starts.
+/// The literals of a clause, in an order of their own. Contracts see the list.
 #[derive(Drop)]
-pub struct Copies {
-    items: Vec<usize>,
+pub struct ClauseCopy {
+    literals: Vec<CodedLiteral>,
 }
 
-impl Copies {
-    /// No copies.
-    pub fn new(alloc: Global) -> Copies {
-        Copies {
-            items: Vec::new(alloc),
+impl Model for ClauseCopy {
+    ghost use Rattle.sat_core.specs.Clause.{PropClause};
+
+    ghost Value = { PropClause };
+
+    ghost view = { λ a. a.literals.items };
+}
+
+impl ClauseCopy {
+    /// A copy in the clause's own order.
+    pub fn whole(alloc: Global, literals: &[NameLit]) -> Mem<ClauseCopy>
+        ensures { IfOk result (λ copy. copy ≡ literals.now) }
+    {
+        let mut copy = Vec::with_capacity(alloc, literals.len())?;
+        for literal in literals {
+            copy.push(CodedLiteral::of(*literal))?;
         }
+        Ok(ClauseCopy { literals: copy })
     }
 
-    /// Copies a clause that is watched by the literals at two different indices, and gives the start of its copy.
-    pub fn push(&mut self, number: usize, literals: &[NameLit], pair: Pair) -> Mem<usize>
+    /// A copy that begins with the literals at two different indices, by which the clause is watched.
+    pub fn watched(alloc: Global, literals: &[NameLit], pair: Pair) -> Mem<ClauseCopy>
         requires first { pair.first < length literals.now }
         requires second { pair.second < length literals.now }
+        ensures { IfOk result (λ copy. SameLiterals copy literals.now) }
     {
         let Pair { first, second } = pair;
-        let start = self.items.len();
-        self.items.push(number)?;
-        self.items.push(0)?;
-        self.items.push(code(literals[first]))?;
-        self.items.push(code(literals[second]))?;
+        let mut copy = Vec::with_capacity(alloc, literals.len())?;
+        copy.push(CodedLiteral::of(literals[first]))?;
+        copy.push(CodedLiteral::of(literals[second]))?;
         for (index, literal) in literals.iter().enumerate() {
             if index != first && index != second {
-                self.items.push(code(*literal))?;
+                copy.push(CodedLiteral::of(*literal))?;
             }
         }
-        let end = self.items.len();
-        if start + 1 < end {
-            self.items[start + 1] = end;
-        }
-        Ok(start)
+        Ok(ClauseCopy { literals: copy })
     }
 
-    /// The number of the clause whose copy starts there.
-    pub fn number(&self, start: usize) -> usize {
-        self.items.get(start).copied().unwrap_or(0)
+    /// Exchanges the first two literals where the first is the given one. Both are written in any case, since a branch here would be
+    /// a toss of a coin.
+    fn put_second(&mut self, given: CodedLiteral)
+        requires { 2 ≤ length self.old }
+        ensures same { SameLiterals self.new self.old }
+        ensures count { length self.new ≡ length self.old }
+    {
+        let (first, second) = (self.literals[0], self.literals[1]);
+        let is_first = first.is(given);
+        self.literals[0] = if is_first { second } else { first };
+        self.literals[1] = if is_first { first } else { second };
     }
 
-    /// Looks at the copy that starts there, one of whose watched literals has become false, for a literal that isn't.
-    pub fn look(&mut self, values: &Values, start: usize, falsified: usize) -> Look {
-        if start >= self.items.len() || self.items.len() - start < HEAD + 2 {
+    /// Looks for a literal that isn't false, where a watched one has become so.
+    pub fn look(&mut self, trail: &Trail, falsified: CodedLiteral) -> Look
+        ensures same { SameLiterals self.new self.old }
+        ensures look { IsLook trail.now.slots.items self.old result }
+    {
+        if self.literals.len() < 2 {
             return Look::True(falsified);
         }
-        let (first, second) = (start + HEAD, start + HEAD + 1);
-        if self.items[first] == falsified {
-            self.items.swap(first, second);
-        }
-        let other = self.items[first];
-        if values.is_true(other) {
+        self.put_second(falsified);
+        let other = self.literals[0];
+        if trail.seems_true(other) {
             return Look::True(other);
         }
-        let end = self.items[start + 1];
-        let Some(place) = self.open_place(values, other, second + 1, end) else {
+        let Some(index) = open_index(self.literals.as_slice(), trail, other) else {
             return Look::Closed(other);
         };
-        self.items.swap(second, place);
-        Look::Moved(other, self.items[second])
+        self.literals.swap(1, index);
+        Look::Moved(other, self.literals[1])
     }
+}
 
-    /// The first index from one on, before another, of a code whose literal isn't false. The other watched literal is left
-    /// out, which a clause may have twice.
-    fn open_place(&self, values: &Values, other: usize, from: usize, end: usize) -> Option<usize>
-        ensures { IfSome result (λ i. i < length self.now.items.items) }
-    {
-        for place in from..end.min(self.items.len()) {
-            let code = self.items[place];
-            if code != other && !values.is_false(code) {
-                return Some(place);
-            }
+/// The index of a literal that isn't false and differs from the first one, which a clause may have twice.
+fn open_index(literals: &[CodedLiteral], trail: &Trail, first: CodedLiteral) -> Option<usize>
+    requires some { 0 < length literals.now }
+    requires first { first ≡ slice_index_or literals.now 0 first }
+    ensures some { IfSome result (λ i. i < length literals.now) }
+    ensures none { IfNone result (OthersFalse trail.now.slots.items literals.now first) }
+{
+    for index in 1..literals.len() {
+        let literal = literals[index];
+        if !trail.is_surely_false(literal) && !first.is(literal) {
+            return Some(index);
         }
-        None
     }
+    None
 }

@@ -46,7 +46,8 @@ impl Forgetting {
         start: usize,
         links: &[Link],
     ) -> Mem<()>
-        ensures { IfOk result (λ _. length watches.new.lists.items ≡ length watches.old.lists.items) }
+        ensures lists { IfOk result (λ _. length watches.new.lists.items ≡ length watches.old.lists.items) }
+        ensures copies { IfOk result (λ _. watches.new.copies.items ≡ watches.old.copies.items) }
     {
         let number = self.uses.len();
         self.uses.push(number)?;

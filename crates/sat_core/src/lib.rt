@@ -2,8 +2,8 @@
 //
 // Clauses are learned from conflicts (Marques-Silva and Sakallah 1996) in the way of MiniSat (Eén and Sörensson 2003). `answer.rt` has
 // what goes in and comes out, `clauses.rt` the clauses with the log, over `lists.rt`, where lists stand one after another in one vector,
-// `trail.rt` the literals that are true in the order in which they became so, `watches.rt` the propagation, over `copies.rt`, the watched
-// clauses once more, and `values.rt`, the values by literal, `marks.rt` and `analysis.rt` the conflicts, `minimise.rt` the smaller
+// `trail.rt` the literals that are true in the order in which they became so, over `literals.rt`, literals as numbers, and `values.rt`,
+// the values by these, `watches.rt` the propagation, over `copies.rt`, the clauses once more, `marks.rt` and `analysis.rt` the conflicts, `minimise.rt` the smaller
 // clauses, `order.rt` the decisions, `forgetting.rt` which learned clauses are watched, `trimming.rt` the log that is answered, and
 // `solver.rt` the steps, `solve` and `solve_from`. The clauses that are handed in are borrowed. A conflict takes no memory of its own,
 // but where clauses are forgotten: its room is used again, and what is learned is added at the ends of vectors (the clause, its chain,
@@ -16,6 +16,8 @@
 //   and the trail is no longer than there are names, since as many slots are taken as there are entries.
 // - *Each entry is a decision or implied.* An entry with a reason is a literal of that clause, and the clause's other literals are false
 //   by entries before it.
+// - *The copies are the clauses.* Each is, as a set, the clause with its number, so that what is implied is read from it.
+// - *False values are false.* What is false by the values by literal is so by the slots.
 //
 // A conflict is a clause all of whose literals are false. `analyse` walks the trail backwards from its end: each marked literal is
 // resolved away with the reason of the entry that makes it false. At any time the clause so far is the set of the marked literals whose
@@ -35,8 +37,8 @@
 // The log that is answered has the chains alone that its last one needs (`trimming.rt`). What is kept from step to step is that the
 // clause of each marked chain so far is known at its new number.
 //
-// Hints on which no answer rests are the values that are tried first, the lists of the watched literals, the copies of the watched
-// clauses, the values by literal, the heap of names with their activities, the two of the analysis, the order in which literals are
+// Hints on which no answer rests are the values that are tried first, the lists of the watched literals, the order of a copy's literals,
+// that a literal is true by the values by literal, the heap of names with their activities, the two of the analysis, the order in which literals are
 // resolved away, and which learned clauses are watched. Were they wrong, the solver would be slow, and no answer would be.
 #![tactic(auto)]
 

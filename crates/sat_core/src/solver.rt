@@ -56,7 +56,7 @@ impl<'a> Solver<'a> {
     {
         let mut watches = Watches::new(alloc, names)?;
         for (number, clause) in inputs.iter().enumerate() {
-            watches.add_input(number, clause.as_slice())?;
+            watches.add_input(alloc, number, clause.as_slice())?;
         }
         Ok(Solver {
             clauses: Clauses::new(alloc, inputs),
@@ -91,7 +91,7 @@ impl<'a> Solver<'a> {
             self.conflict.clause.as_slice(),
         );
         self.watches
-            .add_learned(learned, &self.trail, clause, turn.literal)?;
+            .add_learned(alloc, learned, &self.trail, clause, turn.literal)?;
         self.forgetting
             .note(alloc, &self.clauses, &mut self.watches, number, links)?;
         self.clauses.learn(number, links, clause)?;

@@ -1,8 +1,10 @@
 // The trail: the names that have a value, in the order in which they got it.
 
-ghost use Rattle.std.specs.Prelude.{◌≡◌, ℕ, ◌+◌, ◌-◌, ◌<◌, ◌≤◌, [], ◌∷◌, ◌++◌, length, take, slice_set, IfOk};
+ghost use Rattle.std.specs.Prelude.{◌≡◌, ℕ, ◌+◌, ◌-◌, ◌<◌, ◌≤◌, [], ◌∷◌, ◌++◌, length, take, slice_set, IfOk, IsTrue};
 ghost use Rattle.sat_core.specs.Trail.{IsTrail, IsNewTrail, is_true, is_false, place_of, slot_of, slot_at, cut_slot, Cuts};
+ghost use Rattle.sat_core.specs.Values.{AreSlotValues};
 
+use crate::literals::CodedLiteral;
 use crate::values::Values;
 use plain_types::{Mem, NameLit};
 use std::alloc::Global;
@@ -29,8 +31,9 @@ pub struct Slot {
 pub struct Trail {
     pub entries: Vec<Assigned>,
     pub slots: Vec<Slot>,
-    /// The same by literal, a hint.
+    /// The same by literal.
     pub values: Values,
+    ghost agree: { AreSlotValues values.by_code.items slots.items },
 }
 
 impl Trail {
@@ -74,6 +77,18 @@ impl Trail {
     {
         let slot = self.slots[literal.name as usize];
         slot.place > 0 && slot.positive != literal.positive
+    }
+
+    /// Whether the literal is true by its value; false where it has none. A hint.
+    pub fn seems_true(&self, literal: CodedLiteral) -> bool {
+        self.values.is_true(literal)
+    }
+
+    /// Whether the literal is false by its value; where it has none, it isn't.
+    pub fn is_surely_false(&self, literal: CodedLiteral) -> bool
+        ensures { IsTrue result → IsTrue (is_false self.now.slots.items literal) }
+    {
+        self.values.is_false(literal)
     }
 
     /// Makes a literal without a value true.

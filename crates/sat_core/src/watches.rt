@@ -1,21 +1,21 @@
 // Propagation: each clause of two literals or more is watched by two of them, and looked at again only where a
 // watched one becomes false (Moskewicz and others 2001), and then only where the literal beside it in the list (as in
-// MiniSat, Eén and Sörensson 2003) isn't true. The lists, the values and the copies of clauses are hints: what is implied
-// is read from the clause itself, whose other literals are all looked at before.
+// MiniSat, Eén and Sörensson 2003) isn't true. Which clauses the lists have is a hint. What is implied is read from the copies of the
+// clauses, which have the same literals.
 
-ghost use Rattle.std.specs.Prelude.{◌≡◌, ℕ, ◌+◌, ◌*◌, ◌<◌, ◌≤◌, length, IfOk, IfSome, IsTrue};
+ghost use Rattle.std.specs.Prelude.{◌≡◌, ℕ, ◌+◌, ◌*◌, ◌<◌, ◌≤◌, ◌++◌, [], ◌∷◌, length, IfOk, IfSome, IsTrue};
 ghost use Rattle.plain_types.specs.Names.{has_name};
-ghost use Rattle.sat_core.specs.State.{IsSound, clause_at};
+ghost use Rattle.sat_core.specs.State.{IsSound, SameClauses, clause_at};
 ghost use Rattle.sat_core.specs.Known.{known};
 ghost use Rattle.sat_core.specs.Conflict.{AreWithin};
 ghost use Rattle.sat_core.specs.Search.{OthersFalse, HaveLists, IsConflict, Propagates};
+ghost use Rattle.sat_core.specs.Copies.{IsAlone, IsAloneAt, IsVisit};
 
 use crate::clauses::Clauses;
-use crate::copies::{Copies, Look};
+use crate::copies::{ClauseCopy, Look};
 use crate::forgetting::is_kept;
-use crate::literals::{code, literal_of, opposite};
+use crate::literals::{CodedLiteral, code, opposite};
 use crate::trail::{Assigned, Trail};
-use crate::values::Values;
 use plain_types::{Mem, NameLit};
 use std::alloc::Global;
 use std::mem;
@@ -34,33 +34,33 @@ pub enum Visited {
     Kept,
     /// It stands in the list of another literal now.
     Moved,
-    /// All literals of a clause but one may be false, and the clause is to be read.
+    /// All literals of its clause but one are false.
     Closed(Closed),
 }
 
-/// A clause of which a hint says that all literals but one are false, and that this one isn't true.
+/// A clause all of whose literals but one are false.
 #[derive(Clone, Copy)]
 pub struct Closed {
     /// The clause's number.
     pub number: usize,
-    /// The literal's code.
-    pub other: usize,
+    /// The literal.
+    pub other: CodedLiteral,
 }
 
 /// An entry of the list of a literal that watches a clause.
 #[derive(Clone, Copy)]
 pub struct Watch {
-    /// The code of a literal of the clause: where it is true, the clause needs no look. The other watched one, but where that
-    /// has been changed since.
-    pub other: usize,
-    /// Where the clause's copy starts.
-    pub start: usize,
+    /// A literal of the clause: where it is true, the clause needs no look. The other watched one, but where that has been changed
+    /// since.
+    pub other: CodedLiteral,
+    /// The clause's number.
+    pub number: usize,
 }
 
 /// Whether a literal is among those of a clause, and all others are false.
 fn is_alone(trail: &Trail, literals: &[NameLit], alone: NameLit) -> bool
     requires { AreWithin (length trail.now.slots.items) literals.now }
-    ensures { IsTrue result → IsTrue (has_name alone literals.now) × OthersFalse trail.now.slots.items literals.now alone }
+    ensures { IsTrue result → IsAlone trail.now.slots.items literals.now alone }
 {
     let mut is_met = false;
     for literal in literals {
@@ -79,9 +79,10 @@ pub struct Watches {
     pub lists: Vec<Vec<Watch>>,
     /// The list that is gone through, taken out of those; else empty.
     pub visited: Vec<Watch>,
-    pub copies: Copies,
-    /// Clauses without two different literals that haven't been looked at.
-    pub units: Vec<Closed>,
+    /// A copy of each clause, by its number.
+    pub copies: Vec<ClauseCopy>,
+    /// The numbers of clauses without two different literals that haven't been looked at.
+    pub units: Vec<usize>,
     /// How many entries of the trail have been looked at.
     pub seen: usize,
 }
@@ -89,7 +90,8 @@ pub struct Watches {
 impl Watches {
     /// Nothing is watched.
     pub fn new(alloc: Global, names: u32) -> Mem<Watches>
-        ensures { IfOk result (λ watches. length watches.lists.items ≡ 2 * names) }
+        ensures lists { IfOk result (λ watches. length watches.lists.items ≡ 2 * names) }
+        ensures copies { IfOk result (λ watches. watches.copies.items ≡ []) }
     {
         let mut lists = Vec::new(alloc);
         for _ in 0..2 * names as usize {
@@ -98,32 +100,35 @@ impl Watches {
         Ok(Watches {
             lists,
             visited: Vec::new(alloc),
-            copies: Copies::new(alloc),
+            copies: Vec::new(alloc),
             units: Vec::new(alloc),
             seen: 0,
         })
     }
 
     /// Watches a clause by the literals at two indices.
-    fn watch(&mut self, number: usize, literals: &[NameLit], pair: Pair) -> Mem<()>
+    fn watch(&mut self, alloc: Global, number: usize, literals: &[NameLit], pair: Pair) -> Mem<()>
         requires lists { HaveLists (length self.old.lists.items) literals.now }
         requires first { pair.first < length literals.now }
         requires second { pair.second < length literals.now }
-        ensures { IfOk result (λ _. length self.new.lists.items ≡ length self.old.lists.items) }
+        ensures lists { IfOk result (λ _. length self.new.lists.items ≡ length self.old.lists.items) }
+        ensures copies { IfOk result (λ _. SameClauses self.new.copies.items (self.old.copies.items ++ literals.now ∷ [])) }
     {
-        let start = self.copies.push(number, literals, pair)?;
-        let first = code(literals[pair.first]);
-        let second = code(literals[pair.second]);
-        let other = second;
-        self.lists[first].push(Watch { other, start })?;
-        let other = first;
-        self.lists[second].push(Watch { other, start })?;
+        self.copies
+            .push(ClauseCopy::watched(alloc, literals, pair)?)?;
+        let first = literals[pair.first];
+        let second = literals[pair.second];
+        let other = CodedLiteral::of(second);
+        self.lists[code(first)].push(Watch { other, number })?;
+        let other = CodedLiteral::of(first);
+        self.lists[code(second)].push(Watch { other, number })?;
         Ok(())
     }
 
     /// Changes an entry of the list that is gone through.
     fn change(&mut self, index: usize, watch: Watch)
         ensures lists { length self.new.lists.items ≡ length self.old.lists.items }
+        ensures copies { self.new.copies.items ≡ self.old.copies.items }
         ensures seen { self.new.seen ≡ self.old.seen }
     {
         if index < self.visited.len() {
@@ -131,14 +136,16 @@ impl Watches {
         }
     }
 
-    /// Moves an entry of the list that is gone through to the list of the literal with a code.
-    fn move_watch(&mut self, index: usize, literal: usize, watch: Watch) -> Mem<()>
+    /// Moves an entry of the list that is gone through to the list of a literal.
+    fn move_watch(&mut self, index: usize, literal: CodedLiteral, watch: Watch) -> Mem<()>
         ensures lists { IfOk result (λ _. length self.new.lists.items ≡ length self.old.lists.items) }
+        ensures copies { IfOk result (λ _. self.new.copies.items ≡ self.old.copies.items) }
         ensures seen { IfOk result (λ _. self.new.seen ≡ self.old.seen) }
     {
-        if index < self.visited.len() && literal < self.lists.len() {
+        let list = literal.index();
+        if index < self.visited.len() && list < self.lists.len() {
             self.visited.swap_remove(index);
-            self.lists[literal].push(watch)?;
+            self.lists[list].push(watch)?;
         }
         Ok(())
     }
@@ -146,47 +153,47 @@ impl Watches {
     /// Looks at an entry of the list of a literal that has become false.
     fn visit(
         &mut self,
-        values: &Values,
-        falsified: usize,
+        trail: &Trail,
+        falsified: CodedLiteral,
         index: usize,
         watch: Watch,
     ) -> Mem<Visited>
         ensures lists { IfOk result (λ _. length self.new.lists.items ≡ length self.old.lists.items) }
+        ensures copies { IfOk result (λ _. SameClauses self.new.copies.items self.old.copies.items) }
         ensures seen { IfOk result (λ _. self.new.seen ≡ self.old.seen) }
+        ensures visit { IfOk result (IsVisit trail.now.slots.items self.old.copies.items) }
     {
-        if values.is_true(watch.other) {
+        let number = watch.number;
+        if trail.seems_true(watch.other) || number >= self.copies.len() {
             return Ok(Visited::Kept);
         }
-        let start = watch.start;
-        match self.copies.look(values, start, falsified) {
+        match self.copies[number].look(trail, falsified) {
             Look::True(other) => {
-                self.change(index, Watch { other, start });
+                self.change(index, Watch { other, number });
                 Ok(Visited::Kept)
             }
             Look::Moved(other, literal) => {
-                self.move_watch(index, literal, Watch { other, start })?;
+                self.move_watch(index, literal, Watch { other, number })?;
                 Ok(Visited::Moved)
             }
-            Look::Closed(other) => {
-                let number = self.copies.number(start);
-                Ok(Visited::Closed(Closed { number, other }))
-            }
+            Look::Closed(other) => Ok(Visited::Closed(Closed { number, other })),
         }
     }
 
-    /// Goes through the list that is taken out, of the literal with a code that has become false; a clause all of whose literals are
-    /// false ends it.
+    /// Goes through the list that is taken out, of a literal that has become false; a clause all of whose literals are false ends it.
     fn visit_all(
         &mut self,
         clauses: &Clauses<'_>,
         trail: &mut Trail,
-        falsified: usize,
+        falsified: CodedLiteral,
     ) -> Mem<Option<usize>>
         requires sound { IsSound (known clauses.now) trail.old.entries.items trail.old.slots.items }
+        requires copies { SameClauses self.old.copies.items (known clauses.now) }
         ensures propagates { IfOk result (λ _. Propagates (known clauses.now) trail.old.entries.items trail.old.slots.items
             trail.new.entries.items trail.new.slots.items) }
         ensures conflict { IfOk result (λ found. IfSome found (IsConflict (known clauses.now) trail.new.slots.items)) }
         ensures lists { IfOk result (λ _. length self.new.lists.items ≡ length self.old.lists.items) }
+        ensures copies { IfOk result (λ _. SameClauses self.new.copies.items (known clauses.now)) }
         ensures seen { IfOk result (λ _. self.new.seen ≡ self.old.seen) }
     {
         let mut index = 0;
@@ -195,7 +202,7 @@ impl Watches {
                 break;
             }
             let watch = self.visited[index];
-            match self.visit(&trail.values, falsified, index, watch)? {
+            match self.visit(trail, falsified, index, watch)? {
                 Visited::Kept => index += 1,
                 Visited::Moved => {}
                 Visited::Closed(closed) => {
@@ -218,18 +225,20 @@ impl Watches {
         falsified: NameLit,
     ) -> Mem<Option<usize>>
         requires sound { IsSound (known clauses.now) trail.old.entries.items trail.old.slots.items }
+        requires copies { SameClauses self.old.copies.items (known clauses.now) }
         requires lists { length self.old.lists.items ≡ 2 * length trail.old.slots.items }
         requires named { falsified.name < length trail.old.slots.items }
         ensures propagates { IfOk result (λ _. Propagates (known clauses.now) trail.old.entries.items trail.old.slots.items
             trail.new.entries.items trail.new.slots.items) }
         ensures conflict { IfOk result (λ found. IfSome found (IsConflict (known clauses.now) trail.new.slots.items)) }
         ensures lists { IfOk result (λ _. length self.new.lists.items ≡ length self.old.lists.items) }
+        ensures copies { IfOk result (λ _. SameClauses self.new.copies.items (known clauses.now)) }
         ensures seen { IfOk result (λ _. self.new.seen ≡ self.old.seen) }
     {
-        let falsified = code(falsified);
-        mem::swap(&mut self.lists[falsified], &mut self.visited);
-        let conflict = self.visit_all(clauses, trail, falsified)?;
-        mem::swap(&mut self.lists[falsified], &mut self.visited);
+        let list = code(falsified);
+        mem::swap(&mut self.lists[list], &mut self.visited);
+        let conflict = self.visit_all(clauses, trail, CodedLiteral::of(falsified))?;
+        mem::swap(&mut self.lists[list], &mut self.visited);
         Ok(conflict)
     }
 
@@ -240,9 +249,10 @@ impl Watches {
             trail.new.entries.items trail.new.slots.items) }
         ensures conflict { IfOk result (λ found. IfSome found (IsConflict (known clauses.now) trail.new.slots.items)) }
         ensures lists { IfOk result (λ _. length self.new.lists.items ≡ length self.old.lists.items) }
+        ensures copies { IfOk result (λ _. self.new.copies.items ≡ self.old.copies.items) }
     {
-        while let Some(unit) = self.units.pop() {
-            if let Some(conflict) = settle(clauses, trail, unit)? {
+        while let Some(number) = self.units.pop() {
+            if let Some(conflict) = settle_unit(clauses, trail, number)? {
                 return Ok(Some(conflict));
             }
         }
@@ -252,11 +262,13 @@ impl Watches {
     /// Makes true what is implied, until nothing more is or all literals of some clause are false.
     pub fn propagate(&mut self, clauses: &Clauses<'_>, trail: &mut Trail) -> Mem<Option<usize>>
         requires sound { IsSound (known clauses.now) trail.old.entries.items trail.old.slots.items }
+        requires copies { SameClauses self.old.copies.items (known clauses.now) }
         requires lists { length self.old.lists.items ≡ 2 * length trail.old.slots.items }
         ensures propagates { IfOk result (λ _. Propagates (known clauses.now) trail.old.entries.items trail.old.slots.items
             trail.new.entries.items trail.new.slots.items) }
         ensures conflict { IfOk result (λ found. IfSome found (IsConflict (known clauses.now) trail.new.slots.items)) }
         ensures lists { IfOk result (λ _. length self.new.lists.items ≡ length self.old.lists.items) }
+        ensures copies { IfOk result (λ _. SameClauses self.new.copies.items (known clauses.now)) }
     {
         if let Some(conflict) = self.settle_units(clauses, trail)? {
             return Ok(Some(conflict));
@@ -272,23 +284,33 @@ impl Watches {
     }
 
     /// Watches a clause that is handed in.
-    pub fn add_input(&mut self, number: usize, literals: &[NameLit]) -> Mem<()>
+    pub fn add_input(&mut self, alloc: Global, number: usize, literals: &[NameLit]) -> Mem<()>
         requires { HaveLists (length self.old.lists.items) literals.now }
-        ensures { IfOk result (λ _. length self.new.lists.items ≡ length self.old.lists.items) }
+        ensures lists { IfOk result (λ _. length self.new.lists.items ≡ length self.old.lists.items) }
+        ensures copies { IfOk result (λ _. SameClauses self.new.copies.items (self.old.copies.items ++ literals.now ∷ [])) }
     {
         match different_literal(literals) {
-            Some(second) => self.watch(number, literals, Pair { first: 0, second }),
+            Some(second) => self.watch(alloc, number, literals, Pair { first: 0, second }),
             None => {
-                let other = literals.first().map_or(0, |literal| code(*literal));
-                self.units.push(Closed { number, other })?;
-                Ok(())
+                self.units.push(number)?;
+                self.keep_copy(alloc, literals)
             }
         }
+    }
+
+    /// Copies a clause that isn't watched.
+    fn keep_copy(&mut self, alloc: Global, literals: &[NameLit]) -> Mem<()>
+        ensures lists { IfOk result (λ _. length self.new.lists.items ≡ length self.old.lists.items) }
+        ensures copies { IfOk result (λ _. SameClauses self.new.copies.items (self.old.copies.items ++ literals.now ∷ [])) }
+    {
+        self.copies.push(ClauseCopy::whole(alloc, literals)?)?;
+        Ok(())
     }
 
     /// Watches a clause that has been learned by its implied literal and the last of its false ones.
     pub fn add_learned(
         &mut self,
+        alloc: Global,
         number: usize,
         trail: &Trail,
         literals: &[NameLit],
@@ -297,43 +319,44 @@ impl Watches {
         requires within { AreWithin (length trail.now.slots.items) literals.now }
         requires lists { HaveLists (length self.old.lists.items) literals.now }
         requires some { 0 < length literals.now }
-        ensures { IfOk result (λ _. length self.new.lists.items ≡ length self.old.lists.items) }
+        ensures lists { IfOk result (λ _. length self.new.lists.items ≡ length self.old.lists.items) }
+        ensures copies { IfOk result (λ _. SameClauses self.new.copies.items (self.old.copies.items ++ literals.now ∷ [])) }
     {
         let pair = learned_pair(trail, literals, implied);
         if pair.first == pair.second {
-            Ok(())
+            self.keep_copy(alloc, literals)
         } else {
-            self.watch(number, literals, pair)
+            self.watch(alloc, number, literals, pair)
         }
     }
 
     /// Watches only the clauses that are kept on.
     pub fn keep(&mut self, kept: &[bool])
-        ensures { length self.new.lists.items ≡ length self.old.lists.items }
+        ensures lists { length self.new.lists.items ≡ length self.old.lists.items }
+        ensures copies { self.new.copies.items ≡ self.old.copies.items }
     {
         for list in 0..self.lists.len() {
-            let copies = &self.copies;
-            self.lists[list].retain(|watch| is_kept(kept, copies.number(watch.start)));
+            self.lists[list].retain(|watch| is_kept(kept, watch.number));
         }
     }
 
     /// The entries from a place on have been taken back.
     pub fn cut(&mut self, count: usize)
         ensures lists { length self.new.lists.items ≡ length self.old.lists.items }
+        ensures copies { self.new.copies.items ≡ self.old.copies.items }
         ensures seen { (self.new.seen ≤ count) × (self.new.seen ≤ self.old.seen) }
     {
         self.seen = self.seen.min(count);
     }
 }
 
-/// Makes true what a clause implies; gives its number where all its literals are false. The clause itself is read.
-fn settle(clauses: &Clauses<'_>, trail: &mut Trail, closed: Closed) -> Mem<Option<usize>>
+/// Makes true what a clause without two different literals implies; gives its number where all its literals are false.
+fn settle_unit(clauses: &Clauses<'_>, trail: &mut Trail, number: usize) -> Mem<Option<usize>>
     requires sound { IsSound (known clauses.now) trail.old.entries.items trail.old.slots.items }
     ensures propagates { IfOk result (λ _. Propagates (known clauses.now) trail.old.entries.items trail.old.slots.items
         trail.new.entries.items trail.new.slots.items) }
     ensures conflict { IfOk result (λ found. IfSome found (IsConflict (known clauses.now) trail.new.slots.items)) }
 {
-    let Closed { number, other } = closed;
     if number >= clauses.len() {
         return Ok(None);
     }
@@ -341,18 +364,30 @@ fn settle(clauses: &Clauses<'_>, trail: &mut Trail, closed: Closed) -> Mem<Optio
     if literals.is_empty() {
         return Ok(Some(number));
     }
-    let Some(literal) = literal_of(other) else {
-        return Ok(None);
-    };
-    if !is_alone(trail, literals, literal) {
+    let other = literals[0];
+    if !is_alone(trail, literals, other) {
         return Ok(None);
     }
-    if trail.place(literal) == 0 {
-        let reason = Some(number);
+    let other = CodedLiteral::of(other);
+    settle(clauses, trail, Closed { number, other })
+}
+
+/// Makes true what a clause implies all of whose literals but one are false; gives its number where this one is false too.
+fn settle(clauses: &Clauses<'_>, trail: &mut Trail, closed: Closed) -> Mem<Option<usize>>
+    requires sound { IsSound (known clauses.now) trail.old.entries.items trail.old.slots.items }
+    requires alone { IsAloneAt trail.old.slots.items (known clauses.now) closed.number closed.other }
+    ensures propagates { IfOk result (λ _. Propagates (known clauses.now) trail.old.entries.items trail.old.slots.items
+        trail.new.entries.items trail.new.slots.items) }
+    ensures conflict { IfOk result (λ found. IfSome found (IsConflict (known clauses.now) trail.new.slots.items)) }
+{
+    let Closed { number, other } = closed;
+    let other = other.literal();
+    if trail.place(other) == 0 {
+        let (literal, reason) = (other, Some(number));
         trail.push(Assigned { literal, reason })?;
         return Ok(None);
     }
-    if trail.is_false(literal) {
+    if trail.is_false(other) {
         return Ok(Some(number));
     }
     Ok(None)

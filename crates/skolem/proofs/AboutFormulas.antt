@@ -6,3 +6,4 @@ pub mod SymbolLemmas
 pub mod ClauseLemmas
 pub mod LiteralLemmas
 pub mod OutlineLemmas
+pub mod HeavyLemmas

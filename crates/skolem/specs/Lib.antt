@@ -10,6 +10,7 @@ pub mod BoundTerm
 pub mod Bindings
 pub mod Progress
 pub mod Outline
+pub mod Heavy
 pub mod Examples
 pub mod SkolemizedLaws
 pub mod ProblemLaws

@@ -1,12 +1,14 @@
 -- What the clauses of a matrix are like, without the clauses: how many they are, the size of the largest, and the variables in them; and the size
 -- of the largest of those that define names.
-use Rattle.std.specs.Prelude.{◌≡◌, ℕ, ◌+◌, ◌*◌, ◌-◌, ◌^◌, ◌<◌, ◌≤◌, ◌==◌, max, min, Bool, true, false, List, [], ◌++◌, length, nat_lt, if◌then◌else◌}
+use Rattle.std.specs.Prelude.{◌≡◌, ⊤, ℕ, ◌+◌, ◌*◌, ◌-◌, ◌^◌, ◌<◌, ◌≤◌, ◌==◌, max, min, Bool, true, false, List, [], ◌++◌, length, nat_lt, if◌then◌else◌}
 use Rattle.std.specs.List.{list_any}
 use Rattle.fol_base.specs.Clause.{TreeLiteral, literal_size, literal_variables}
 use Rattle.fol_base.specs.declared.limits.TheConstants.{MOST_SYMBOLS}
 use Rattle.signature.specs.Clausal.{made_in_order, is_large_count}
 use Rattle.skolem.specs.Matrix.{MatrixTree, truth, falsity, literal, conjunction, disjunction, MatrixTrees, no_matrices, matrix_then}
 use Rattle.skolem.specs.declared.outline.Outline.{Outline}
+use Rattle.skolem.specs.declared.outline.OutlineEnd.{OutlineEnd}
+use Rattle.skolem.specs.declared.outline.OutlineEnd.TheVariants.{NoMemory, TooHeavy}
 
 -- Sizes are in occurrences of symbols and variables, and 0 where there is no clause. Variables stand with repetitions.
 pub record ClauseOutline : Type 0 where
@@ -101,3 +103,8 @@ pub record IsOutline (a : Outline) (t : ClauseOutline) : Type 0 where
   pub defining : a.defining ≡ told t.defining
   pub largest : t.defining ≤ MOST_SYMBOLS → a.largest ≡ told t.largest
   pub variables : t.defining ≤ MOST_SYMBOLS → t.largest ≤ MOST_SYMBOLS → AreSame a.variables.items t.variables
+
+-- Nothing is said of want of memory. Else a clause that defines a name is over the limit.
+abbrev pub IsOutlineEnd : OutlineEnd → ClauseOutline → Type 0
+IsOutlineEnd NoMemory t = ⊤
+IsOutlineEnd TooHeavy t = MOST_SYMBOLS < t.defining

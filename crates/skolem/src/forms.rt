@@ -1,6 +1,6 @@
 // The matrix of a normal form.
 
-ghost use Rattle.std.specs.Prelude.{◌≡◌, ◌+◌, ◌++◌, map, length, take, IfOk};
+ghost use Rattle.std.specs.Prelude.{◌≡◌, ◌≤◌, ◌+◌, ◌++◌, true, map, length, take, IfOk, IfErr};
 ghost use Rattle.tptp_tree.specs.Term.{terms_of};
 ghost use Rattle.tptp_tree.specs.Shape.{term_of};
 ghost use Rattle.tptp_tree.specs.Formula.{formulas_of, predicate, equation, with_sign};
@@ -12,12 +12,15 @@ ghost use Rattle.skolem.specs.Matrix.{literal, matrices_of};
 ghost use Rattle.skolem.specs.Shape.{matrix_tree};
 ghost use Rattle.skolem.specs.Skolemized.{skolemized, skolemized_list, numbers_after, skolemized_form, AreKnown};
 ghost use Rattle.skolem.specs.Bindings.{HasVariables, Covers};
+ghost use Rattle.skolem.specs.Heavy.{heavy_matrix, some_heavy, matrix_total, matrix_totals, total_in, IsMatrixEnd};
 ghost use Rattle.skolem.specs.Progress.{environment_of, made_of, scope_of_progress, skolem_step, skolem_steps};
 
 use crate::bound_term::BoundTerm;
+use crate::clauses::are_in_clauses;
 use crate::literal::{Atom, MatrixLiteral};
 use crate::matrix::{Matrices, Matrix};
 use crate::progress::{Arguments, Progress};
+use fol_base::{MOST_FORM_SYMBOLS, MOST_SYMBOLS};
 use formula_nnf::{Nnf, NnfBox};
 use plain_types::{Mem, NoMemory, Text};
 use signature::Signature;
@@ -32,68 +35,109 @@ pub struct Skolemized<'a> {
     pub arities: Vec<u32>,
 }
 
+/// Why there is no matrix.
+#[derive(Clone, Copy, Debug)]
+pub enum MatrixEnd {
+    NoMemory,
+    /// A literal in the clauses has over `MOST_SYMBOLS` symbols.
+    TooHeavy,
+    /// The literals in the clauses have over `MOST_FORM_SYMBOLS` symbols together.
+    TotalLimit,
+}
+
+impl From<NoMemory> for MatrixEnd {
+    ghost use Rattle.std.specs.Prelude.{◌≡◌};
+    ghost use Rattle.skolem.specs.declared.forms.MatrixEnd.TheVariants.{NoMemory as no_memory};
+
+    ghost from_gives = { λ _ e. e ≡ no_memory };
+
+    fn from(_error: NoMemory) -> MatrixEnd {
+        MatrixEnd::NoMemory
+    }
+}
+
 /// The matrix of a normal form without free variables, over the signature with the form's Skolem symbols, which come after those that are
 /// there. The matrix lends the signature and the form's terms, and makes none; `add_skolem_symbols` adds the symbols when it is done with.
-pub fn skolemize<'a>(alloc: Global, form: &Nnf<'a>, signature: &'a Signature) -> Mem<Skolemized<'a>>
+/// The work ends at the first literal that makes a clause too heavy, or all of them together too large, since a formula with many Skolem terms of
+/// very many arguments would else keep all of them.
+pub fn skolemize<'a>(
+    alloc: Global,
+    form: &Nnf<'a>,
+    signature: &'a Signature,
+) -> Result<Skolemized<'a>, MatrixEnd>
     requires known { AreKnown signature.now (formula_symbols (nnf_tree form.now)) }
     ensures matrix { IfOk result (λ made. matrix_tree made.matrix ≡ (skolemized_form signature.now (nnf_tree form.now)).matrix) }
     ensures arities { IfOk result (λ made. made.arities.items ≡ (skolemized_form signature.now (nnf_tree form.now)).made.skolem_arities) }
+    ensures ended { IfErr result (λ end. IsMatrixEnd end true 0
+        (heavy_matrix (skolemized_form signature.now (nnf_tree form.now)).matrix)
+        (matrix_total (skolemized_form signature.now (nnf_tree form.now)).matrix)) }
 {
     let mut progress = Progress::new(alloc);
-    let matrix = matrix_of(alloc, signature, form, &mut progress)?;
+    let mut counted = 0;
+    let matrix = matrix_of(alloc, signature, form, true, &mut counted, &mut progress)?;
     Ok(Skolemized {
         matrix,
         arities: progress.arities,
     })
 }
 
-/// The matrix of a form under the variables in force.
+/// The matrix of a form under the variables in force. Where the form stands in clauses (`in_clauses`), its literals that do so too are counted, and
+/// the first that is too heavy, alone or with those before, ends the work.
 #[cycle(matrix_of)]
 fn matrix_of<'a>(
     alloc: Global,
     signature: &'a Signature,
     form: &Nnf<'a>,
+    in_clauses: bool,
+    counted: &mut u64,
     progress: &mut Progress,
-) -> Mem<Matrix<'a>>
+) -> Result<Matrix<'a>, MatrixEnd>
     requires known { AreKnown signature.now (formula_symbols (nnf_tree form.now)) }
     ensures matrix { IfOk result (λ matrix. matrix_tree matrix
         ≡ (skolemized (numbers_after signature.now) (nnf_tree form.now) (environment_of progress.old.bindings) (made_of progress.old)).matrix) }
     ensures made { IfOk result (λ _. made_of progress.new
         ≡ (skolemized (numbers_after signature.now) (nnf_tree form.now) (environment_of progress.old.bindings) (made_of progress.old)).made) }
     ensures bindings { IfOk result (λ _. progress.new.bindings ≡ progress.old.bindings) }
+    ensures counted { IfOk result (λ _. counted.new ≤ counted.old + total_in in_clauses
+        (matrix_total (skolemized (numbers_after signature.now) (nnf_tree form.now) (environment_of progress.old.bindings) (made_of progress.old)).matrix)) }
+    ensures ended { IfErr result (λ end. IsMatrixEnd end in_clauses counted.old
+        (heavy_matrix (skolemized (numbers_after signature.now) (nnf_tree form.now) (environment_of progress.old.bindings) (made_of progress.old)).matrix)
+        (matrix_total (skolemized (numbers_after signature.now) (nnf_tree form.now) (environment_of progress.old.bindings) (made_of progress.old)).matrix)) }
 {
     match form {
         Nnf::True => Ok(Matrix::True),
         Nnf::False => Ok(Matrix::False),
         Nnf::Pred(positive, name, arguments) => {
             let literal = atom(alloc, signature, progress, *positive, name, arguments)?;
-            Ok(Matrix::Lit(literal))
+            of_literal(literal, in_clauses, counted)
         }
         Nnf::Equal(positive, left, right) => {
             let literal = equation(alloc, signature, progress, *positive, left, right)?;
-            Ok(Matrix::Lit(literal))
+            of_literal(literal, in_clauses, counted)
         }
-        Nnf::And(forms) => Ok(Matrix::And(matrices_of(
-            alloc,
-            signature,
-            forms.as_slice(),
-            progress,
-        )?)),
-        Nnf::Or(forms) => Ok(Matrix::Or {
-            made: progress.variables,
-            members: matrices_of(alloc, signature, forms.as_slice(), progress)?,
-        }),
+        Nnf::And(forms) => {
+            let forms = forms.as_slice();
+            let members = matrices_of(alloc, signature, forms, in_clauses, counted, progress)?;
+            Ok(Matrix::And(members))
+        }
+        Nnf::Or(forms) => {
+            let made = progress.variables;
+            let forms = forms.as_slice();
+            let inside = are_in_clauses(in_clauses, forms);
+            let members = matrices_of(alloc, signature, forms, inside, counted, progress)?;
+            Ok(Matrix::Or { made, members })
+        }
         Nnf::All(names, body) => {
             let before = progress.bindings.len();
             bind_variables(alloc, names.as_slice(), progress)?;
-            let matrix = matrix_of(alloc, signature, body.get(), progress)?;
+            let matrix = matrix_of(alloc, signature, body.get(), in_clauses, counted, progress)?;
             progress.bindings.truncate(before);
             Ok(matrix)
         }
         Nnf::Ex(names, body) => {
             let before = progress.bindings.len();
             bind_skolem_terms(alloc, signature, names.as_slice(), body, progress)?;
-            let matrix = matrix_of(alloc, signature, body.get(), progress)?;
+            let matrix = matrix_of(alloc, signature, body.get(), in_clauses, counted, progress)?;
             progress.bindings.truncate(before);
             Ok(matrix)
         }
@@ -106,20 +150,52 @@ fn matrices_of<'a>(
     alloc: Global,
     signature: &'a Signature,
     forms: &[Nnf<'a>],
+    in_clauses: bool,
+    counted: &mut u64,
     progress: &mut Progress,
-) -> Mem<Matrices<'a>>
+) -> Result<Matrices<'a>, MatrixEnd>
     requires known { AreKnown signature.now (formulas_symbols (formulas_of (map nnf_tree forms.now))) }
     ensures matrices { IfOk result (λ matrices. matrices_of matrices
         ≡ (skolemized_list (numbers_after signature.now) (formulas_of (map nnf_tree forms.now)) (environment_of progress.old.bindings) (made_of progress.old)).matrices) }
     ensures made { IfOk result (λ _. made_of progress.new
         ≡ (skolemized_list (numbers_after signature.now) (formulas_of (map nnf_tree forms.now)) (environment_of progress.old.bindings) (made_of progress.old)).made) }
     ensures bindings { IfOk result (λ _. progress.new.bindings ≡ progress.old.bindings) }
+    ensures counted { IfOk result (λ _. counted.new ≤ counted.old + total_in in_clauses
+        (matrix_totals (skolemized_list (numbers_after signature.now) (formulas_of (map nnf_tree forms.now)) (environment_of progress.old.bindings) (made_of progress.old)).matrices)) }
+    ensures ended { IfErr result (λ end. IsMatrixEnd end in_clauses counted.old
+        (some_heavy (skolemized_list (numbers_after signature.now) (formulas_of (map nnf_tree forms.now)) (environment_of progress.old.bindings) (made_of progress.old)).matrices)
+        (matrix_totals (skolemized_list (numbers_after signature.now) (formulas_of (map nnf_tree forms.now)) (environment_of progress.old.bindings) (made_of progress.old)).matrices)) }
 {
     let mut matrices = Matrices::new(alloc);
     for form in forms {
-        matrices.push(matrix_of(alloc, signature, form, progress)?)?;
+        let matrix = matrix_of(alloc, signature, form, in_clauses, counted, progress)?;
+        matrices.push(matrix)?;
     }
     Ok(matrices)
+}
+
+/// The matrix of a literal, which is counted where it stands in a clause; if it isn't too heavy for one, alone or with those before.
+fn of_literal<'a>(
+    made: MatrixLiteral<'a>,
+    in_clauses: bool,
+    counted: &mut u64,
+) -> Result<Matrix<'a>, MatrixEnd>
+    ensures matrix { IfOk result (λ matrix. matrix_tree matrix ≡ literal made.entry) }
+    ensures counted { IfOk result (λ _. counted.new ≤ counted.old + total_in in_clauses (matrix_total (literal made.entry))) }
+    ensures ended { IfErr result (λ end. IsMatrixEnd end in_clauses counted.old
+        (heavy_matrix (literal made.entry)) (matrix_total (literal made.entry))) }
+{
+    if in_clauses {
+        let size = made.size();
+        if size > MOST_SYMBOLS {
+            return Err(MatrixEnd::TooHeavy);
+        }
+        *counted = counted.saturating_add(size);
+        if *counted > MOST_FORM_SYMBOLS {
+            return Err(MatrixEnd::TotalLimit);
+        }
+    }
+    Ok(Matrix::Lit(made))
 }
 
 /// A predicate's literal.

@@ -1,18 +1,19 @@
 // Laws and worked examples of the definitions: each is the contract of a function with an empty body.
 
-ghost use Rattle.std.specs.Prelude.{◌≡◌, [], ◌∷◌, codes, true};
-ghost use Rattle.tptp_tree.specs.Formula.{for_all, exists_some, quantified, conjunction as formula_conjunction, disjunction as formula_disjunction, formula_then, no_formulas};
+ghost use Rattle.std.specs.Prelude.{◌≡◌, [], ◌∷◌, codes, true, false};
+ghost use Rattle.tptp_tree.specs.Formula.{truth as true_formula, for_all, exists_some, quantified, conjunction as formula_conjunction, disjunction as formula_disjunction, formula_then, no_formulas};
 ghost use Rattle.fol_base.specs.Tree.{variable, application, no_trees, tree_then};
 ghost use Rattle.signature.specs.Symbol.{function_symbol};
 ghost use Rattle.signature.specs.Clausal.{atom_literal};
 ghost use Rattle.signature.specs.Form.{nothing_made};
-ghost use Rattle.skolem.specs.Matrix.{falsity, literal, conjunction, disjunction, matrix_then, no_matrices};
+ghost use Rattle.skolem.specs.Matrix.{truth, falsity, literal, conjunction, disjunction, matrix_then, no_matrices};
 ghost use Rattle.skolem.specs.MatrixClauses.{matrix_clauses};
 ghost use Rattle.skolem.specs.Skolemized.{skolemized_form, skolemized_symbols, numbers_after};
 ghost use Rattle.skolem.specs.SkolemizedLaws.{SkolemSymbolsOfMatrixAreCounted, MatrixKeepsClauses, MatrixOfNormalFormKeepsClauses};
 ghost use Rattle.skolem.specs.ProblemLaws.{MatrixOfFormIsThatInProblem, ClausesInProblemAreThoseOfMatrix, NormalFormKeepsKnownSymbols, SkolemSymbolsAreNumberedOn, LaterNamesAreUnused};
 ghost use Rattle.skolem.specs.Literal.{filled, size_under};
 ghost use Rattle.skolem.specs.Outline.{product_outline, told};
+ghost use Rattle.skolem.specs.Heavy.{form_has_clauses, heavy_matrix, matrix_total};
 ghost use Rattle.skolem.specs.Examples.{x, y, z, p_of, r_of, f_of, known, p_literal};
 
 /// The matrix of `! [X] : ? [Y] : r(X,Y)` is `r(X0,sk0(X0))`, and sk0 comes after the symbols that are there.
@@ -53,6 +54,16 @@ pub fn clause_examples()
         ≡ (p_literal 0 ∷ p_literal 2 ∷ []) ∷ (p_literal 1 ∷ p_literal 2 ∷ []) ∷ [] }
     ensures before { (skolemized_form known (quantified for_all (x ∷ []) (formula_disjunction (formula_then (p_of x) (formula_then (p_of x) no_formulas))))).matrix
         ≡ disjunction 1 (matrix_then (literal (p_literal 0)) (matrix_then (literal (p_literal 0)) no_matrices)) }
+{}
+
+/// `$true | p(X)` has no clauses, and so no heavy literal, however large p(X) is, and no symbols; `$true & p(X)` has one. A literal p(X0) has three
+/// symbols with `$true`.
+pub fn clauses_of_parts_examples()
+    ensures product { form_has_clauses (formula_disjunction (formula_then true_formula (formula_then (p_of x) no_formulas))) ≡ false }
+    ensures list { form_has_clauses (formula_conjunction (formula_then true_formula (formula_then (p_of x) no_formulas))) ≡ true }
+    ensures light { heavy_matrix (disjunction 1 (matrix_then truth (matrix_then (literal (p_literal 0)) no_matrices))) ≡ false }
+    ensures none { matrix_total (disjunction 1 (matrix_then truth (matrix_then (literal (p_literal 0)) no_matrices))) ≡ 0 }
+    ensures total { matrix_total (conjunction (matrix_then truth (matrix_then (literal (p_literal 0)) (matrix_then (literal (p_literal 0)) no_matrices)))) ≡ 6 }
 {}
 
 /// Of a product of more than 64 clauses the longer list is named, and of two of the same length the first: with 8 clauses and 9 the second, whose

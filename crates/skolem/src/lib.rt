@@ -3,6 +3,7 @@
 
 mod bindings;
 mod bound_term;
+mod clauses;
 mod filling;
 mod forms;
 mod gathering;
@@ -16,7 +17,7 @@ mod progress;
 mod symbols;
 mod terms;
 
-pub use forms::{Skolemized, skolemize};
+pub use forms::{MatrixEnd, Skolemized, skolemize};
 pub use literal::MatrixLiteral;
 pub use matrix::{Matrices, Matrix};
 pub use name::{VariableName, VariableRef};

@@ -1,15 +1,16 @@
 // How large the clauses of a normal form are, found without making its matrix: a form whose literals are too many symbols to be kept is refused,
 // and this tells by which limit. The walk is that which makes the matrix. Of a part it keeps how many clauses it has, the size of the largest,
-// and the variables in them, which the arguments of a name are found by.
+// and the variables in them, which the arguments of a name are found by. It ends at the first clause over the limit that defines a name, since the
+// largest of these never gets smaller.
 
-ghost use Rattle.std.specs.Prelude.{◌≡◌, ◌≤◌, ◌+◌, ◌++◌, true, false, max, map, IfOk};
+ghost use Rattle.std.specs.Prelude.{◌≡◌, ◌≤◌, ◌+◌, ◌++◌, true, false, max, map, IfOk, IfErr};
 ghost use Rattle.tptp_tree.specs.Formula.{formulas_of};
 ghost use Rattle.signature.specs.Occurrences.{formula_symbols, formulas_symbols};
 ghost use Rattle.fol_base.specs.declared.limits.TheConstants.{MOST_SYMBOLS};
 ghost use Rattle.formula_nnf.specs.Shape.{nnf_tree};
 ghost use Rattle.skolem.specs.Skolemized.{skolemized, skolemized_list, numbers_after, skolemized_form, AreKnown};
 ghost use Rattle.skolem.specs.Progress.{environment_of, made_of};
-ghost use Rattle.skolem.specs.Outline.{ClauseOutline, IsOutline, AreSame, told, constant_outline, literal_outline, sum_outline, pairs_outline, named_outline, product_outline, joined_outline, outline_of, outlines_of};
+ghost use Rattle.skolem.specs.Outline.{ClauseOutline, IsOutline, IsOutlineEnd, AreSame, told, constant_outline, literal_outline, sum_outline, pairs_outline, named_outline, product_outline, joined_outline, outline_of, outlines_of};
 
 use crate::forms::{atom, bind_skolem_terms, bind_variables, equation};
 use crate::literal::MatrixLiteral;
@@ -43,6 +44,25 @@ pub(crate) struct Outline {
     pub room: usize,
 }
 
+/// Why an outline ends early.
+#[derive(Clone, Copy)]
+pub(crate) enum OutlineEnd {
+    NoMemory,
+    /// A clause that defines a name has over `MOST_SYMBOLS` symbols, so that the largest clause has.
+    TooHeavy,
+}
+
+impl From<NoMemory> for OutlineEnd {
+    ghost use Rattle.std.specs.Prelude.{◌≡◌};
+    ghost use Rattle.skolem.specs.declared.outline.OutlineEnd.TheVariants.{NoMemory as no_memory};
+
+    ghost from_gives = { λ _ e. e ≡ no_memory };
+
+    fn from(_error: NoMemory) -> OutlineEnd {
+        OutlineEnd::NoMemory
+    }
+}
+
 /// The symbols of the largest clause of a normal form without free variables, those that define names included. Sizes over `MOST_SYMBOLS`
 /// are all told as one more than that.
 pub fn largest_clause<'a>(alloc: Global, form: &Nnf<'a>, signature: &'a Signature) -> Mem<u64>
@@ -52,7 +72,11 @@ pub fn largest_clause<'a>(alloc: Global, form: &Nnf<'a>, signature: &'a Signatur
         (outline_of (skolemized_form signature.now (nnf_tree form.now)).matrix).defining)) }
 {
     let mut progress = Progress::new(alloc);
-    let outline = outline_in(alloc, signature, form, &mut progress)?;
+    let outline = match outline_in(alloc, signature, form, &mut progress) {
+        Ok(outline) => outline,
+        Err(OutlineEnd::NoMemory) => return Err(NoMemory),
+        Err(OutlineEnd::TooHeavy) => return Ok(OVER_LIMIT),
+    };
     if outline.defining > MOST_SYMBOLS {
         return Ok(OVER_LIMIT);
     }
@@ -66,24 +90,26 @@ fn outline_in<'a>(
     signature: &'a Signature,
     form: &Nnf<'a>,
     progress: &mut Progress,
-) -> Mem<Outline>
+) -> Result<Outline, OutlineEnd>
     requires known { AreKnown signature.now (formula_symbols (nnf_tree form.now)) }
     ensures outline { IfOk result (λ outline. IsOutline outline
         (outline_of (skolemized (numbers_after signature.now) (nnf_tree form.now) (environment_of progress.old.bindings) (made_of progress.old)).matrix)) }
     ensures made { IfOk result (λ _. made_of progress.new
         ≡ (skolemized (numbers_after signature.now) (nnf_tree form.now) (environment_of progress.old.bindings) (made_of progress.old)).made) }
     ensures bindings { IfOk result (λ _. progress.new.bindings ≡ progress.old.bindings) }
+    ensures ended { IfErr result (λ end. IsOutlineEnd end
+        (outline_of (skolemized (numbers_after signature.now) (nnf_tree form.now) (environment_of progress.old.bindings) (made_of progress.old)).matrix)) }
 {
     match form {
         Nnf::True => Ok(constant(alloc, true)),
         Nnf::False => Ok(constant(alloc, false)),
         Nnf::Pred(positive, name, arguments) => {
             let literal = atom(alloc, signature, progress, *positive, name, arguments)?;
-            of_literal(alloc, &literal)
+            Ok(of_literal(alloc, &literal)?)
         }
         Nnf::Equal(positive, left, right) => {
             let literal = equation(alloc, signature, progress, *positive, left, right)?;
-            of_literal(alloc, &literal)
+            Ok(of_literal(alloc, &literal)?)
         }
         Nnf::And(forms) => outline_in_all(alloc, signature, true, 0, forms.as_slice(), progress),
         Nnf::Or(forms) => {
@@ -116,7 +142,7 @@ fn outline_in_all<'a>(
     began: u32,
     forms: &[Nnf<'a>],
     progress: &mut Progress,
-) -> Mem<Outline>
+) -> Result<Outline, OutlineEnd>
     requires known { AreKnown signature.now (formulas_symbols (formulas_of (map nnf_tree forms.now))) }
     ensures outline { IfOk result (λ outline. IsOutline outline
         (outlines_of listed began (constant_outline listed)
@@ -124,11 +150,17 @@ fn outline_in_all<'a>(
     ensures made { IfOk result (λ _. made_of progress.new
         ≡ (skolemized_list (numbers_after signature.now) (formulas_of (map nnf_tree forms.now)) (environment_of progress.old.bindings) (made_of progress.old)).made) }
     ensures bindings { IfOk result (λ _. progress.new.bindings ≡ progress.old.bindings) }
+    ensures ended { IfErr result (λ end. IsOutlineEnd end
+        (outlines_of listed began (constant_outline listed)
+        (skolemized_list (numbers_after signature.now) (formulas_of (map nnf_tree forms.now)) (environment_of progress.old.bindings) (made_of progress.old)).matrices)) }
 {
     let mut total = constant(alloc, listed);
     for form in forms {
         let member = outline_in(alloc, signature, form, progress)?;
         total = joined(alloc, listed, began, total, member)?;
+        if total.defining > MOST_SYMBOLS {
+            return Err(OutlineEnd::TooHeavy);
+        }
     }
     Ok(total)
 }

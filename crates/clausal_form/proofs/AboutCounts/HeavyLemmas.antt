@@ -18,9 +18,10 @@ use Rattle.skolem.specs.Matrix.{MatrixTree, truth as true_matrix, falsity as fal
 use Rattle.skolem.specs.MatrixClauses.{matrix_clauses, listed_matrices, product_of_matrices}
 use Rattle.skolem.specs.Skolemized.{Skolemized, skolemized, skolemized_list}
 use Rattle.skolem.specs.SkolemizedLaws.{is_predicate}
-use Rattle.clausal_form.specs.Occurring.{has_clauses, some_have_clauses, all_have_clauses}
-use Rattle.clausal_form.specs.Heavy.{heavy_matrix, some_heavy, form_has_clauses, some_form_has_clauses, all_forms_have_clauses, heavy_form, some_heavy_form}
+use Rattle.skolem.specs.Heavy.{has_clauses, some_have_clauses, all_have_clauses, heavy_matrix, some_heavy, all_forms_have_clauses}
+use Rattle.clausal_form.specs.Heavy.{heavy_form, some_heavy_form}
 use Rattle.clausal_form.specs.Measure.{literals_size, largest}
+use Rattle.skolem.proofs.AboutFormulas.HeavyLemmas.{or-first, or-second, or-either, all-forms-have}
 use Rattle.clausal_form.proofs.AboutNaming.OccurringLemmas.{is_some, some-append, some-pairs}
 
 -- ---- heavy clauses
@@ -30,18 +31,6 @@ heavy_clause c = nat_lt MOST_SYMBOLS (literals_size c)
 
 abbrev any_heavy : List Literals → Bool
 any_heavy cs = list_any heavy_clause cs
-
-or-first : (t u : Bool) → t ≡ true → (t || u) ≡ true
-or-first true u h = refl
-or-first false u h = cc
-
-or-second : (t u : Bool) → u ≡ true → (t || u) ≡ true
-or-second true u h = refl
-or-second false u h = h
-
-or-either : (t u : Bool) → (t || u) ≡ true → (t ≡ true) ⊎ (u ≡ true)
-or-either true u h = inl refl
-or-either false u h = inr h
 
 heavy-before : (c d : Literals) → heavy_clause c ≡ true → heavy_clause (c ++ d) ≡ true
 heavy-before c d h = lt-ltb MOST_SYMBOLS (literals_size (c ++ d)) (omega (arith, ltb-true MOST_SYMBOLS (literals_size c) h, sum_by-append literal_size c d))
@@ -318,59 +307,6 @@ mutual
 
 still-heavy : (a b : ℕ) → a ≤ b → nat_lt MOST_SYMBOLS a ≡ true → nat_lt MOST_SYMBOLS b ≡ true
 still-heavy a b l h = lt-ltb MOST_SYMBOLS b (omega (arith, ltb-true MOST_SYMBOLS a h, l))
-
-negated-has : (n : SymbolNumbers) (f : FormulaTree) (env : Environment) (m : Made) → is_predicate f ≡ true → has_clauses (skolemized n (negation f) env m).matrix ≡ true
-negated-has n truth env m h = cc
-negated-has n falsity env m h = cc
-negated-has n (predicate p ts) env m h = refl
-negated-has n (equation positive s t) env m h = cc
-negated-has n (negation f) env m h = cc
-negated-has n (conjunction fs) env m h = cc
-negated-has n (disjunction fs) env m h = cc
-negated-has n (connected c f g) env m h = cc
-negated-has n (quantified q xs f) env m h = cc
-
-mutual
-  pub form-has : (n : SymbolNumbers) (f : FormulaTree) (env : Environment) (m : Made) → form_has_clauses f ≡ true → has_clauses (skolemized n f env m).matrix ≡ true
-  form-has n truth env m h = cc
-  form-has n falsity env m h = refl
-  form-has n (predicate p ts) env m h = refl
-  form-has n (equation positive s t) env m h = refl
-  form-has n (negation f) env m h = negated-has n f env m h
-  form-has n (conjunction fs) env m h = some-form-has n fs env m h
-  form-has n (disjunction fs) env m h = all-forms-have n fs env m h
-  form-has n (connected c f g) env m h = cc
-  form-has n (quantified q xs f) env m h =
-      let s : Scope = scope_of n (makes_variables q true) xs f env m in
-      form-has n f s.environment s.made h
-
-  some-form-has :
-      (n : SymbolNumbers) (fs : FormulaTrees) (env : Environment) (m : Made)
-      → some_form_has_clauses fs ≡ true → some_have_clauses (skolemized_list n fs env m).matrices ≡ true
-  some-form-has n no_formulas env m h = cc
-  some-form-has n (formula_then f fs) env m h =
-      let s : Skolemized = skolemized n f env m in
-      by (has_clauses s.matrix) (some_have_clauses (skolemized_list n fs env s.made).matrices)
-      (or-either (form_has_clauses f) (some_form_has_clauses fs) h) (form-has n f env m) (some-form-has n fs env s.made)
-    where
-      by :
-          (t u : Bool) → (form_has_clauses f ≡ true) ⊎ (some_form_has_clauses fs ≡ true)
-          → (form_has_clauses f ≡ true → t ≡ true) → (some_form_has_clauses fs ≡ true → u ≡ true) → (t || u) ≡ true
-      by t u (inl k) p q = or-first t u (p k)
-      by t u (inr k) p q = or-second t u (q k)
-
-  pub all-forms-have :
-      (n : SymbolNumbers) (fs : FormulaTrees) (env : Environment) (m : Made)
-      → all_forms_have_clauses fs ≡ true → all_have_clauses (skolemized_list n fs env m).matrices ≡ true
-  all-forms-have n no_formulas env m h = refl
-  all-forms-have n (formula_then f fs) env m h =
-      let s : Skolemized = skolemized n f env m in
-      let parts : (form_has_clauses f ≡ true) × (all_forms_have_clauses fs ≡ true) = and_parts (form_has_clauses f) (all_forms_have_clauses fs) h in
-      and-both (has_clauses s.matrix) (all_have_clauses (skolemized_list n fs env s.made).matrices) (form-has n f env m parts.0) (all-forms-have n fs env s.made parts.1)
-    where
-      and-both : (t u : Bool) → t ≡ true → u ≡ true → (t && u) ≡ true
-      and-both true u p q = q
-      and-both false u p q = cc
 
 negated-heavy :
     (n : SymbolNumbers) (f : FormulaTree) (env : Environment) (m : Made)

@@ -15,9 +15,12 @@ use Rattle.skolem.specs.Matrix.{MatrixTree}
 use Rattle.skolem.specs.MatrixClauses.{matrix_clauses}
 use Rattle.skolem.specs.Skolemized.{skolemized_form, numbers_after}
 use Rattle.skolem.specs.Outline.{outline_of, told}
+use Rattle.skolem.specs.Heavy.{heavy_matrix, matrix_total, IsMatrixEnd}
+use Rattle.skolem.specs.declared.forms.MatrixEnd.{MatrixEnd}
+use Rattle.skolem.specs.declared.forms.MatrixEnd.TheVariants.{TooHeavy as over_limit, TotalLimit as over_total}
 use Rattle.clausal_form.specs.Fault.{limit_fault, counted_in}
 use Rattle.clausal_form.specs.Formula.{Passes, IsMatrixOrCause}
-use Rattle.clausal_form.specs.Heavy.{heavy_matrix, heavy_form, written_total}
+use Rattle.clausal_form.specs.Heavy.{heavy_form, written_total}
 use Rattle.clausal_form.specs.Measure.{literals_size, symbols_in, largest}
 use Rattle.clausal_form.specs.Naming.{definition_clauses, naming_made, naming_numbers}
 use Rattle.clausal_form.specs.declared.naming.Naming.{Naming}
@@ -25,7 +28,7 @@ use Rattle.clausal_form.specs.declared.fault.FormCause.{FormCause}
 use Rattle.clausal_form.specs.declared.fault.FormCause.TheVariants.{TooHeavy, TotalLimit}
 use Rattle.clausal_form.proofs.AboutCounts.HeavyLemmas.{heavy-largest, form-heavy}
 use Rattle.clausal_form.proofs.AboutCounts.OutlineLemmas.{tells, all-told}
-use Rattle.clausal_form.proofs.AboutCounts.TotalLemmas.{total-so}
+use Rattle.clausal_form.proofs.AboutCounts.TotalLemmas.{total-so, written-more}
 
 too-heavy : (size total : ℕ) → nat_lt MOST_SYMBOLS size ≡ true → limit_fault size total ≡ Some TooHeavy
 too-heavy size total h = ap (λ t. if t then Some TooHeavy else if nat_lt MOST_FORM_SYMBOLS total then Some TotalLimit else None) h
@@ -56,7 +59,7 @@ end-passes x begun d h =
 pub total-passes :
     (known : List Symbol) (f : FormulaTree) (size : ℕ)
     → size ≡ told (max (outline_of (skolemized_form known f).matrix).largest (outline_of (skolemized_form known f).matrix).defining)
-    → size ≤ MOST_SYMBOLS → MOST_FORM_SYMBOLS < written_total f → Passes TotalLimit (skolemized_form known f).matrix
+    → size ≤ MOST_SYMBOLS → MOST_FORM_SYMBOLS < matrix_total (skolemized_form known f).matrix → Passes TotalLimit (skolemized_form known f).matrix
 total-passes known f size t h o n m before after cs d e =
     over-total (largest cs) (before + counted_in cs + after)
     (le-ltb MOST_SYMBOLS (largest cs) (omega (arith, all-told n (skolemized_form known f).matrix m cs d e, t, h)))
@@ -64,7 +67,7 @@ total-passes known f size t h o n m before after cs d e =
     (omega (
       arith,
       o,
-      total-so (numbers_after known) n f [] nothing_made m,
+      total-so n (skolemized_form known f).matrix m,
       ap symbols_in e,
       sum_by-append literals_size (matrix_clauses n (skolemized_form known f).matrix m).clauses (matrix_clauses n (skolemized_form known f).matrix m).made.defining,
     )))
@@ -83,9 +86,26 @@ heavy-form-of known a f heavy e h t =
     cause-of-form known a f TooHeavy e
     (heavy-passes (skolemized_form known f).matrix (form-heavy (numbers_after known) f [] nothing_made (sym h ∙ t)))
 
-pub heavy-matrix-of :
-    (known : List Symbol) (a : Annotated) (f : FormulaTree) (x : MatrixTree) (heavy : Bool)
-    → f ≡ normal_form (closed a) (not (is_conjecture a.role)) → x ≡ (skolemized_form known f).matrix
-    → heavy ≡ heavy_matrix x → heavy ≡ true → IsMatrixOrCause known a (Err TooHeavy)
-heavy-matrix-of known a f x heavy e m h t =
-    cause-of-form known a f TooHeavy e (subst (λ y. Passes TooHeavy y) m (heavy-passes x (sym h ∙ t)))
+pub heavy-end-of :
+    (known : List Symbol) (a : Annotated) (f : FormulaTree) (end : MatrixEnd)
+    → f ≡ normal_form (closed a) (not (is_conjecture a.role)) → end ≡ over_limit
+    → IsMatrixEnd end true 0 (heavy_matrix (skolemized_form known f).matrix) (matrix_total (skolemized_form known f).matrix)
+    → IsMatrixOrCause known a (Err TooHeavy)
+heavy-end-of known a f end e t h =
+    cause-of-form known a f TooHeavy e
+    (heavy-passes (skolemized_form known f).matrix
+    (subst (λ k. IsMatrixEnd k true 0 (heavy_matrix (skolemized_form known f).matrix) (matrix_total (skolemized_form known f).matrix)) t h))
+
+-- ---- the literals are too large together
+
+pub written-over : (known : List Symbol) (f : FormulaTree) → MOST_FORM_SYMBOLS < written_total f → MOST_FORM_SYMBOLS < matrix_total (skolemized_form known f).matrix
+written-over known f h = omega (arith, h, written-more (numbers_after known) f [] nothing_made)
+
+pub over-end-of :
+    (known : List Symbol) (f : FormulaTree) (end : MatrixEnd)
+    → end ≡ over_total → IsMatrixEnd end true 0 (heavy_matrix (skolemized_form known f).matrix) (matrix_total (skolemized_form known f).matrix)
+    → MOST_FORM_SYMBOLS < matrix_total (skolemized_form known f).matrix
+over-end-of known f end t h =
+    let over : IsMatrixEnd over_total true 0 (heavy_matrix (skolemized_form known f).matrix) (matrix_total (skolemized_form known f).matrix) =
+    subst (λ k. IsMatrixEnd k true 0 (heavy_matrix (skolemized_form known f).matrix) (matrix_total (skolemized_form known f).matrix)) t h in
+    omega (arith, over)

@@ -1,23 +1,22 @@
--- The symbols of the literals in a form's clauses, as they are written, are no more than those of its clauses with the ones that define names.
+-- The symbols of the literals in a matrix's clauses are no more than those of its clauses with the ones that define names; and those of a form, as
+-- they are written, no more than those of its matrix.
 use Rattle.std.proofs.Common.{◌≡◌, ℕ, zero, suc, ◌+◌, ◌*◌, ◌≤◌, Bool, true, false, not, List, [], ◌∷◌, ◌++◌, length, map, refl, ap, sym, arith}
 use Rattle.std.specs.Prelude.{nat_lt, if◌then◌else◌}
 use Rattle.std.proofs.lemmas.Bool.{and_parts, true≢false}
 use Rattle.std.proofs.lemmas.List.Sums.{sum_by-append, sum_by-cons}
-use Rattle.tptp_tree.specs.Term.{TermTrees}
 use Rattle.tptp_tree.specs.Formula.{FormulaTree, truth, falsity, predicate, equation, negation, conjunction, disjunction, connected, quantified, FormulaTrees, no_formulas, formula_then}
 use Rattle.fol_base.specs.Clause.{TreeLiteral, literal_size}
-use Rattle.fol_base.specs.Tree.{application}
-use Rattle.signature.specs.Symbol.{predicate_symbol, number_of}
-use Rattle.signature.specs.Occurrences.{terms_count}
-use Rattle.signature.specs.Environment.{Environment, term_under, terms_under}
-use Rattle.signature.specs.Clausal.{SymbolNumbers, Made, Worked, Scope, Literals, all_pairs, is_large, named, product, atom_literal, scope_of, makes_variables}
+use Rattle.signature.specs.Environment.{Environment}
+use Rattle.signature.specs.Clausal.{SymbolNumbers, Made, Worked, Scope, Literals, all_pairs, is_large, named, product, scope_of, makes_variables}
 use Rattle.skolem.specs.Matrix.{MatrixTree, truth as true_matrix, falsity as false_matrix, literal, conjunction as all_of, disjunction as some_of, MatrixTrees, no_matrices, matrix_then}
 use Rattle.skolem.specs.MatrixClauses.{matrix_clauses, listed_matrices, product_of_matrices}
-use Rattle.skolem.specs.Skolemized.{Skolemized, skolemized, skolemized_list}
-use Rattle.clausal_form.specs.Heavy.{form_has_clauses, all_forms_have_clauses, written_total, written_totals}
+use Rattle.skolem.specs.Skolemized.{skolemized, skolemized_list}
+use Rattle.skolem.specs.Heavy.{has_clauses, all_have_clauses, matrix_total, matrix_totals, all_forms_have_clauses}
+use Rattle.clausal_form.specs.Heavy.{written_total, written_totals}
 use Rattle.clausal_form.specs.Measure.{literals_size, symbols_in}
+use Rattle.skolem.proofs.AboutFormulas.HeavyLemmas.{all-forms-have}
 use Rattle.clausal_form.proofs.AboutNaming.OccurringLemmas.{is_some}
-use Rattle.clausal_form.proofs.AboutCounts.HeavyLemmas.{has-clauses, product-some, form-has, written-size, written-sizes}
+use Rattle.clausal_form.proofs.AboutCounts.HeavyLemmas.{has-clauses, product-some, written-size, written-sizes}
 use Rattle.clausal_form.proofs.AboutCounts.MeasureLemmas.{before-symbols, pairs-symbols}
 
 -- the symbols of a work's clauses, and of those that define names
@@ -98,85 +97,84 @@ mutual
       let v : Worked = product n began cs w.clauses w.made in
       omega (arith, keeps n x m, product-keeps n began cs w.clauses w.made, products-keep n began v.clauses xs v.made)
 
--- ---- forms
-
-one-literal : (l : TreeLiteral) (size : ℕ) (m : Made) → size ≤ literal_size l → symbols_in m.defining + size ≤ symbols_in ((l ∷ []) ∷ []) + symbols_in m.defining
-one-literal l size m h = omega (arith, h, sum_by-cons literal_size l [], sum_by-cons literals_size (l ∷ []) [])
-
-one-atom :
-    (n : SymbolNumbers) (p : List ℕ) (ts : TermTrees) (env : Environment) (sign : Bool) (o : Made)
-    → symbols_in o.defining + written_total (predicate p ts)
-    ≤ symbols_in
-    ((atom_literal sign (application (number_of n.symbols (predicate_symbol p (terms_count ts))) (terms_under n.symbols env ts)) ∷ []) ∷ [])
-    + symbols_in o.defining
-one-atom n p ts env sign o =
-    one-literal (atom_literal sign (application (number_of n.symbols (predicate_symbol p (terms_count ts))) (terms_under n.symbols env ts)))
-    (written_total (predicate p ts)) o (omega (arith, written-sizes n.symbols env ts))
-
-negated-total :
-    (n k : SymbolNumbers) (f : FormulaTree) (env : Environment) (m o : Made)
-    → symbols_in o.defining + written_total (negation f) ≤ all_symbols (matrix_clauses k (skolemized n (negation f) env m).matrix o)
-negated-total n k truth env m o = omega (arith, keeps k (skolemized n (negation truth) env m).matrix o)
-negated-total n k falsity env m o = omega (arith, keeps k (skolemized n (negation falsity) env m).matrix o)
-negated-total n k (predicate p ts) env m o = one-atom n p ts env false o
-negated-total n k (equation positive s t) env m o = omega (arith, keeps k (skolemized n (negation (equation positive s t)) env m).matrix o)
-negated-total n k (negation f) env m o = omega (arith, keeps k (skolemized n (negation (negation f)) env m).matrix o)
-negated-total n k (conjunction fs) env m o = omega (arith, keeps k (skolemized n (negation (conjunction fs)) env m).matrix o)
-negated-total n k (disjunction fs) env m o = omega (arith, keeps k (skolemized n (negation (disjunction fs)) env m).matrix o)
-negated-total n k (connected c f g) env m o = omega (arith, keeps k (skolemized n (negation (connected c f g)) env m).matrix o)
-negated-total n k (quantified q xs f) env m o = omega (arith, keeps k (skolemized n (negation (quantified q xs f)) env m).matrix o)
+-- ---- matrices
 
 mutual
-  pub total-so :
-      (n k : SymbolNumbers) (f : FormulaTree) (env : Environment) (m o : Made)
-      → symbols_in o.defining + written_total f ≤ all_symbols (matrix_clauses k (skolemized n f env m).matrix o)
-  total-so n k truth env m o = omega arith
-  total-so n k falsity env m o = omega arith
-  total-so n k (predicate p ts) env m o = one-atom n p ts env true o
-  total-so n k (equation positive s t) env m o =
-      one-literal (record { positive = positive; left = term_under n.symbols env s; right = term_under n.symbols env t })
-      (written_total (equation positive s t)) o (omega (arith, written-size n.symbols env s, written-size n.symbols env t))
-  total-so n k (negation f) env m o = negated-total n k f env m o
-  total-so n k (conjunction fs) env m o = listed-total n k fs env m o
-  total-so n k (disjunction fs) env m o = by (all_forms_have_clauses fs) refl (product-total n k m.variables ([] ∷ []) fs env m o refl)
+  pub total-so : (n : SymbolNumbers) (x : MatrixTree) (m : Made) → symbols_in m.defining + matrix_total x ≤ all_symbols (matrix_clauses n x m)
+  total-so n true_matrix m = omega arith
+  total-so n false_matrix m = omega arith
+  total-so n (literal l) m = omega (arith, sum_by-cons literal_size l [], sum_by-cons literals_size (l ∷ []) [])
+  total-so n (all_of xs) m = listed-total n xs m
+  total-so n (some_of began xs) m = by (all_have_clauses xs) refl (product-total n began ([] ∷ []) xs m refl)
     where
       by :
-          (t : Bool) → all_forms_have_clauses fs ≡ t
-          → (all_forms_have_clauses fs ≡ true
-          → symbols_in ([] ∷ []) + symbols_in o.defining + written_totals fs
-          ≤ all_symbols (product_of_matrices k m.variables ([] ∷ []) (skolemized_list n fs env m).matrices o))
-          → symbols_in o.defining + (if t then written_totals fs else 0) ≤ all_symbols (matrix_clauses k (skolemized n (disjunction fs) env m).matrix o)
+          (t : Bool) → all_have_clauses xs ≡ t
+          → (all_have_clauses xs ≡ true
+          → symbols_in ([] ∷ []) + symbols_in m.defining + matrix_totals xs ≤ all_symbols (product_of_matrices n began ([] ∷ []) xs m))
+          → symbols_in m.defining + (if t then matrix_totals xs else 0) ≤ all_symbols (matrix_clauses n (some_of began xs) m)
       by true e h = omega (arith, h e)
-      by false e h = omega (arith, keeps k (skolemized n (disjunction fs) env m).matrix o)
-  total-so n k (connected c f g) env m o = omega arith
-  total-so n k (quantified q xs f) env m o =
-      let s : Scope = scope_of n (makes_variables q true) xs f env m in
-      total-so n k f s.environment s.made o
+      by false e h = omega (arith, keeps n (some_of began xs) m)
 
-  listed-total :
-      (n k : SymbolNumbers) (fs : FormulaTrees) (env : Environment) (m o : Made)
-      → symbols_in o.defining + written_totals fs ≤ all_symbols (listed_matrices k (skolemized_list n fs env m).matrices o)
-  listed-total n k no_formulas env m o = omega arith
-  listed-total n k (formula_then f fs) env m o =
-      let s : Skolemized = skolemized n f env m in
-      let w : Worked = matrix_clauses k s.matrix o in
-      let v : Worked = listed_matrices k (skolemized_list n fs env s.made).matrices w.made in
-      omega (arith, total-so n k f env m o, listed-total n k fs env s.made w.made, sum_by-append literals_size w.clauses v.clauses)
+  listed-total : (n : SymbolNumbers) (xs : MatrixTrees) (m : Made) → symbols_in m.defining + matrix_totals xs ≤ all_symbols (listed_matrices n xs m)
+  listed-total n no_matrices m = omega arith
+  listed-total n (matrix_then x xs) m =
+      let w : Worked = matrix_clauses n x m in
+      let v : Worked = listed_matrices n xs w.made in
+      omega (arith, total-so n x m, listed-total n xs w.made, sum_by-append literals_size w.clauses v.clauses)
 
   product-total :
-      (n k : SymbolNumbers) (began : ℕ) (cs : List Literals) (fs : FormulaTrees) (env : Environment) (m o : Made)
-      → is_some cs ≡ true → all_forms_have_clauses fs ≡ true
-      → symbols_in cs + symbols_in o.defining + written_totals fs ≤ all_symbols (product_of_matrices k began cs (skolemized_list n fs env m).matrices o)
-  product-total n k began cs no_formulas env m o h g = omega arith
-  product-total n k began cs (formula_then f fs) env m o h g =
-      let parts : (form_has_clauses f ≡ true) × (all_forms_have_clauses fs ≡ true) = and_parts (form_has_clauses f) (all_forms_have_clauses fs) g in
-      let s : Skolemized = skolemized n f env m in
-      let w : Worked = matrix_clauses k s.matrix o in
-      let v : Worked = product k began cs w.clauses w.made in
-      let some : is_some w.clauses ≡ true = has-clauses k s.matrix o (form-has n f env m parts.0) in
+      (n : SymbolNumbers) (began : ℕ) (cs : List Literals) (xs : MatrixTrees) (m : Made)
+      → is_some cs ≡ true → all_have_clauses xs ≡ true
+      → symbols_in cs + symbols_in m.defining + matrix_totals xs ≤ all_symbols (product_of_matrices n began cs xs m)
+  product-total n began cs no_matrices m h g = omega arith
+  product-total n began cs (matrix_then x xs) m h g =
+      let parts : (has_clauses x ≡ true) × (all_have_clauses xs ≡ true) = and_parts (has_clauses x) (all_have_clauses xs) g in
+      let w : Worked = matrix_clauses n x m in
+      let v : Worked = product n began cs w.clauses w.made in
+      let some : is_some w.clauses ≡ true = has-clauses n x m parts.0 in
       omega (
         arith,
-        total-so n k f env m o,
-        product-more k began cs w.clauses w.made h some,
-        product-total n k began v.clauses fs env s.made v.made (product-some k began cs w.clauses w.made h some) parts.1,
+        total-so n x m,
+        product-more n began cs w.clauses w.made h some,
+        product-total n began v.clauses xs v.made (product-some n began cs w.clauses w.made h some) parts.1,
       )
+
+-- ---- forms
+
+negated-written : (n : SymbolNumbers) (f : FormulaTree) (env : Environment) (m : Made) → written_total (negation f) ≤ matrix_total (skolemized n (negation f) env m).matrix
+negated-written n truth env m = omega arith
+negated-written n falsity env m = omega arith
+negated-written n (predicate p ts) env m = omega (arith, written-sizes n.symbols env ts)
+negated-written n (equation positive s t) env m = omega arith
+negated-written n (negation f) env m = omega arith
+negated-written n (conjunction fs) env m = omega arith
+negated-written n (disjunction fs) env m = omega arith
+negated-written n (connected c f g) env m = omega arith
+negated-written n (quantified q xs f) env m = omega arith
+
+mutual
+  pub written-more : (n : SymbolNumbers) (f : FormulaTree) (env : Environment) (m : Made) → written_total f ≤ matrix_total (skolemized n f env m).matrix
+  written-more n truth env m = omega arith
+  written-more n falsity env m = omega arith
+  written-more n (predicate p ts) env m = omega (arith, written-sizes n.symbols env ts)
+  written-more n (equation positive s t) env m = omega (arith, written-size n.symbols env s, written-size n.symbols env t)
+  written-more n (negation f) env m = negated-written n f env m
+  written-more n (conjunction fs) env m = written-list n fs env m
+  written-more n (disjunction fs) env m =
+      by (all_forms_have_clauses fs) (all_have_clauses (skolemized_list n fs env m).matrices) (all-forms-have n fs env m) (written-list n fs env m)
+    where
+      by :
+          (t u : Bool) → (t ≡ true → u ≡ true) → written_totals fs ≤ matrix_totals (skolemized_list n fs env m).matrices
+          → (if t then written_totals fs else 0) ≤ (if u then matrix_totals (skolemized_list n fs env m).matrices else 0)
+      by false u h k = omega arith
+      by true true h k = k
+      by true false h k = absurd (true≢false (sym (h refl)))
+  written-more n (connected c f g) env m = omega arith
+  written-more n (quantified q xs f) env m =
+      let s : Scope = scope_of n (makes_variables q true) xs f env m in
+      written-more n f s.environment s.made
+
+  written-list : (n : SymbolNumbers) (fs : FormulaTrees) (env : Environment) (m : Made) → written_totals fs ≤ matrix_totals (skolemized_list n fs env m).matrices
+  written-list n no_formulas env m = omega arith
+  written-list n (formula_then f fs) env m =
+      omega (arith, written-more n f env m, written-list n fs env (skolemized n f env m).made)

@@ -8,11 +8,8 @@ use Rattle.tptp_tree.specs.Formula.{formulas_of}
 use Rattle.signature.proofs.OccurrenceLemmas.{drop-item, drop-end}
 use Rattle.formula_nnf.specs.declared.form.Nnf.{Nnf}
 use Rattle.formula_nnf.specs.Shape.{nnf_tree}
-use Rattle.skolem.specs.declared.matrix.Matrix.{Matrix}
-use Rattle.skolem.specs.Matrix.{matrices_of}
-use Rattle.skolem.specs.Shape.{matrix_tree}
-use Rattle.clausal_form.specs.Occurring.{has_clauses, some_have_clauses, all_have_clauses}
-use Rattle.clausal_form.specs.Heavy.{heavy_matrix, some_heavy, form_has_clauses, some_form_has_clauses, all_forms_have_clauses, heavy_form, some_heavy_form, written_total, written_totals}
+use Rattle.skolem.specs.Heavy.{form_has_clauses, some_form_has_clauses, all_forms_have_clauses}
+use Rattle.clausal_form.specs.Heavy.{heavy_form, some_heavy_form, written_total, written_totals}
 use Rattle.formula_nnf.specs.CappedCount.{capped}
 
 -- one member more of a disjunction or a conjunction of tests
@@ -37,53 +34,6 @@ or-none false = refl
 and-none : (t : Bool) → (t && true) ≡ t
 and-none true = refl
 and-none false = refl
-
--- ---- matrices
-
-pub some-members-then :
-    (made new found all : Bool) (ms : List Matrix) (i : ℕ) (m : Matrix)
-    → i < length ms → m ≡ get_or ms i m → found ≡ has_clauses (matrix_tree m) → new ≡ (made || found)
-    → (made || some_have_clauses (matrices_of (map matrix_tree (drop i ms)))) ≡ all
-    → (new || some_have_clauses (matrices_of (map matrix_tree (drop (i + 1) ms)))) ≡ all
-some-members-then made new found all ms i m h e f n k =
-    or-then made new (has_clauses (matrix_tree m)) _ all (n ∙ ap (λ t. made || t) f)
-    (ap (λ us. made || some_have_clauses (matrices_of (map matrix_tree us))) (sym (drop-item ms i m h e)) ∙ k)
-
-pub all-members-then :
-    (made new found all : Bool) (ms : List Matrix) (i : ℕ) (m : Matrix)
-    → i < length ms → m ≡ get_or ms i m → found ≡ has_clauses (matrix_tree m) → new ≡ (made && found)
-    → (made && all_have_clauses (matrices_of (map matrix_tree (drop i ms)))) ≡ all
-    → (new && all_have_clauses (matrices_of (map matrix_tree (drop (i + 1) ms)))) ≡ all
-all-members-then made new found all ms i m h e f n k =
-    and-then made new (has_clauses (matrix_tree m)) _ all (n ∙ ap (λ t. made && t) f)
-    (ap (λ us. made && all_have_clauses (matrices_of (map matrix_tree us))) (sym (drop-item ms i m h e)) ∙ k)
-
-pub heavy-members-then :
-    (made new found all : Bool) (ms : List Matrix) (i : ℕ) (m : Matrix)
-    → i < length ms → m ≡ get_or ms i m → found ≡ heavy_matrix (matrix_tree m) → new ≡ (made || found)
-    → (made || some_heavy (matrices_of (map matrix_tree (drop i ms)))) ≡ all
-    → (new || some_heavy (matrices_of (map matrix_tree (drop (i + 1) ms)))) ≡ all
-heavy-members-then made new found all ms i m h e f n k =
-    or-then made new (heavy_matrix (matrix_tree m)) _ all (n ∙ ap (λ t. made || t) f)
-    (ap (λ us. made || some_heavy (matrices_of (map matrix_tree us))) (sym (drop-item ms i m h e)) ∙ k)
-
-pub some-members-end :
-    (made all : Bool) (ms : List Matrix) (i : ℕ)
-    → length ms ≤ i → (made || some_have_clauses (matrices_of (map matrix_tree (drop i ms)))) ≡ all → made ≡ all
-some-members-end made all ms i h k =
-    sym (or-none made) ∙ ap (λ us. made || some_have_clauses (matrices_of (map matrix_tree us))) (sym (drop-end ms i h)) ∙ k
-
-pub all-members-end :
-    (made all : Bool) (ms : List Matrix) (i : ℕ)
-    → length ms ≤ i → (made && all_have_clauses (matrices_of (map matrix_tree (drop i ms)))) ≡ all → made ≡ all
-all-members-end made all ms i h k =
-    sym (and-none made) ∙ ap (λ us. made && all_have_clauses (matrices_of (map matrix_tree us))) (sym (drop-end ms i h)) ∙ k
-
-pub heavy-members-end :
-    (made all : Bool) (ms : List Matrix) (i : ℕ)
-    → length ms ≤ i → (made || some_heavy (matrices_of (map matrix_tree (drop i ms)))) ≡ all → made ≡ all
-heavy-members-end made all ms i h k =
-    sym (or-none made) ∙ ap (λ us. made || some_heavy (matrices_of (map matrix_tree us))) (sym (drop-end ms i h)) ∙ k
 
 -- ---- normal forms
 

@@ -6,8 +6,9 @@ use Rattle.fol_base.specs.Clause.{literal_variables}
 use Rattle.fol_base.specs.Canonical.{numbers_from}
 use Rattle.signature.specs.Clausal.{Literals, all_pairs, made_in_order}
 use Rattle.skolem.specs.Matrix.{MatrixTree, truth, falsity, literal, conjunction, disjunction, MatrixTrees, no_matrices, matrix_then}
+use Rattle.skolem.specs.Heavy.{has_clauses, some_have_clauses, all_have_clauses}
 use Rattle.clausal_form.specs.Written.{written, all_written, product_written}
-use Rattle.clausal_form.specs.Occurring.{clauses_variables, has_clauses, some_have_clauses, all_have_clauses, matrix_variables, matrices_variables}
+use Rattle.clausal_form.specs.Occurring.{clauses_variables, matrix_variables, matrices_variables}
 use Rattle.clausal_form.proofs.AboutNaming.PairLemmas.{product-written-first}
 
 abbrev pub is_some : List Literals → Bool

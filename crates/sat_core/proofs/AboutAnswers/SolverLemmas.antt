@@ -209,17 +209,18 @@ begun_known c none no_starts no_links = record {
   lined = ap length no_starts ∙ sym (ap length no_links);
 }
 
+-- at first the clauses that are handed in are known
+pub begun_clauses : (inputs : List PropClause) (c : Clauses) → c.inputs.now ≡ inputs → c.learned ≡ [] → known c ≡ inputs
+begun_clauses inputs c are none = ap (λ (ls : List PropClause). c.inputs.now ++ ls) none ∙ append-nil c.inputs.now ∙ are
+
 pub begun_sound :
     (names : ℕ) (inputs : List PropClause) (c : Clauses) (entries : List Assigned) (slots : List Slot)
     → IsTrue (names_below names inputs) → c.inputs.now ≡ inputs → c.learned ≡ [] → IsNewTrail names entries slots → IsSound (known c) entries slots
 begun_sound names inputs c entries slots below are none trail = record {
   trail = trail.trail;
   implied = λ i reason h is. absurd (let e = ap length trail.empty in omega (arith, e, h));
-  named = λ n l h. let w = all_named names inputs below n l (ap (λ (cs : List PropClause). has_name l (clause_at cs n)) (sym same) ∙ h) in omega (arith, w, trail.length);
+  named = λ n l h. let w = all_named names inputs below n l (ap (λ (cs : List PropClause). has_name l (clause_at cs n)) (sym (begun_clauses inputs c are none)) ∙ h) in omega (arith, w, trail.length);
 }
-  where
-    same : known c ≡ inputs
-    same = ap (λ (ls : List PropClause). c.inputs.now ++ ls) none ∙ append-nil c.inputs.now ∙ are
 
 pub lists_of : (names n : ℕ) (clauses : List PropClause) (m : ℕ) → IsTrue (names_below names clauses) → n ≡ 2 * names → HaveLists n (clause_at clauses m)
 lists_of names n clauses m below same k h = let w = all_named names clauses below m k h in omega (arith, w, same)

@@ -60,12 +60,6 @@ pub met_before :
     (xs : PropClause) (i : ℕ) (l x : NameLit) → i < length xs → x ≡ get_or xs i x → IsTrue (has_name l (take i xs)) → IsTrue (has_name l (take (i + 1) xs))
 met_before xs i l x h e before = has_name_more xs i x l h e ∙ or_left (has_name l (take i xs)) (same_name l x) before
 
--- the only literal of a clause that isn't false, where it has no value
-pub alone_unit :
-    (slots : List Slot) (c d : PropClause) (l : NameLit)
-    → c ≡ d → IsTrue (has_name l c) × OthersFalse slots c l → place_of slots l ≡ 0 → IsUnit slots d l
-alone_unit slots c d l same alone free = subst (λ (x : PropClause). IsUnit slots x l) same (record { member = alone.0; free = free; others = alone.1 })
-
 -- all literals are false
 pub all_false :
     (slots : List Slot) (c : PropClause) (l : NameLit) → OthersFalse slots c l → IsTrue (is_false slots l) → AreFalse slots c

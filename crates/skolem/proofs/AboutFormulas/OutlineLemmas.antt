@@ -1,22 +1,26 @@
 -- The outlines of clauses, as a walk over a form works them off.
-use Rattle.std.proofs.Common.{◌≡◌, ℕ, zero, suc, ◌+◌, ◌-◌, ◌*◌, ◌^◌, ◌<◌, ◌≤◌, ◌⊎◌, inl, inr, ◌==◌, min, Bool, ◌||◌, List, [], ◌∷◌, ◌++◌, length, map, get_or, refl, ap, sym, subst, ◌∙◌, arith, eq-eqb}
+use Rattle.std.proofs.Common.{◌≡◌, ℕ, zero, suc, ◌+◌, ◌-◌, ◌*◌, ◌^◌, ◌<◌, ◌≤◌, ◌⊎◌, inl, inr, ◌==◌, min, Bool, true, false, ◌||◌, List, [], ◌∷◌, ◌++◌, length, map, drop, get_or, refl, ap, sym, subst, ◌∙◌, arith, eq-eqb}
 use Rattle.std.specs.Prelude.{max, filter, nat_lt, if◌then◌else◌}
 use Rattle.std.specs.List.{list_any}
 use Rattle.std.proofs.lemmas.Bool.{cases_lt}
 use Rattle.std.proofs.lemmas.List.Folds.{list_any-append}
 use Rattle.fol_base.specs.Canonical.{numbers_from}
 use Rattle.fol_base.specs.declared.limits.TheConstants.{MOST_SYMBOLS}
-use Rattle.tptp_tree.specs.Formula.{formulas_of}
+use Rattle.tptp_tree.specs.Formula.{FormulaTree, formulas_of}
 use Rattle.signature.specs.declared.symbol.Symbol.{Symbol}
 use Rattle.signature.specs.Clausal.{made_in_order, is_large_count}
+use Rattle.signature.specs.Form.{nothing_made}
 use Rattle.signature.proofs.OccurrenceLemmas.{drop-end}
 use Rattle.formula_nnf.specs.declared.form.Nnf.{Nnf}
 use Rattle.formula_nnf.specs.Shape.{nnf_tree}
 use Rattle.skolem.specs.declared.outline.Outline.{Outline}
 use Rattle.skolem.specs.declared.progress.Progress.{Progress}
-use Rattle.skolem.specs.Skolemized.{SkolemizedList, skolemized_list, numbers_after}
+use Rattle.skolem.specs.declared.outline.OutlineEnd.{OutlineEnd}
+use Rattle.skolem.specs.declared.outline.OutlineEnd.TheVariants.{NoMemory, TooHeavy}
+use Rattle.skolem.specs.Matrix.{MatrixTrees, no_matrices, matrix_then}
+use Rattle.skolem.specs.Skolemized.{SkolemizedList, skolemized, skolemized_list, numbers_after, skolemized_form}
 use Rattle.skolem.specs.Progress.{environment_of, made_of}
-use Rattle.skolem.specs.Outline.{ClauseOutline, sum_outline, pairs_outline_of, pairs_outline, named_outline, product_outline, joined_outline, outline_of, outlines_of, AreSame, told, IsOutline}
+use Rattle.skolem.specs.Outline.{ClauseOutline, sum_outline, pairs_outline_of, pairs_outline, named_outline, product_outline, joined_outline, outline_of, outlines_of, AreSame, told, IsOutline, IsOutlineEnd}
 use Rattle.skolem.proofs.AboutBindings.OccurringLemmas.{any-filter}
 use Rattle.skolem.proofs.AboutBindings.OrderLemmas.{differs}
 use Rattle.skolem.proofs.AboutBindings.PlaceLemmas.{any-members}
@@ -204,3 +208,66 @@ pub over-told :
     (a : Outline) (t : ClauseOutline) (size : ℕ)
     → size ≡ MOST_SYMBOLS + 1 → MOST_SYMBOLS < a.defining → IsOutline a t → size ≡ told (max t.largest t.defining)
 over-told a t size e l h = omega (arith, e, h.defining, l)
+
+-- ---- the largest clause that defines a name never gets smaller
+
+pairs-keep : (t : Bool) (a b : ClauseOutline) → max a.defining b.defining ≤ (pairs_outline_of t a b).defining
+pairs-keep true a b = omega arith
+pairs-keep false a b = omega arith
+
+joined-keeps : (listed : Bool) (began : ℕ) (a b : ClauseOutline) → max a.defining b.defining ≤ (joined_outline listed began a b).defining
+joined-keeps true began a b = omega arith
+joined-keeps false began a b = by (is_large_count a.clauses b.clauses) (nat_lt a.clauses b.clauses)
+  where
+    by : (t u : Bool) → max a.defining b.defining ≤ (product_by t u began a b).defining
+    by true true = omega (arith, pairs-keep (a.clauses * (named_outline began b).clauses == 0) a (named_outline began b))
+    by true false = omega (arith, pairs-keep ((named_outline began a).clauses * b.clauses == 0) (named_outline began a) b)
+    by false u = omega (arith, pairs-keep (a.clauses * b.clauses == 0) a b)
+
+outlines-keep : (listed : Bool) (began : ℕ) (a : ClauseOutline) (ms : MatrixTrees) → a.defining ≤ (outlines_of listed began a ms).defining
+outlines-keep listed began a no_matrices = omega arith
+outlines-keep listed began a (matrix_then m ms) =
+    omega (arith, joined-keeps listed began a (outline_of m), outlines-keep listed began (joined_outline listed began a (outline_of m)) ms)
+
+-- in a member
+pub outline-ended :
+    (known : List Symbol) (fs : List Nnf) (i : ℕ) (f : Nnf) (p : Progress) (listed : Bool) (began : ℕ) (a : Outline) (all : ClauseOutline) (end : OutlineEnd)
+    → i < length fs → f ≡ get_or fs i f → IsOutlineEnd end (outline_of (one known f p).matrix)
+    → OutlineLeft known fs i p listed began a all → IsOutlineEnd end all
+outline-ended known fs i f p listed began a all NoMemory h e g o = tt
+outline-ended known fs i f p listed began a all TooHeavy h e g o =
+    let so : ClauseOutline = joined_outline listed began o.0 (outline_of (one known f p).matrix) in
+    omega (
+      arith,
+      g,
+      joined-keeps listed began o.0 (outline_of (one known f p).matrix),
+      outlines-keep listed began so
+          (skolemized_list (numbers_after known) (formulas_of (map nnf_tree (drop (i + 1) fs))) (environment_of p.bindings) (one known f p).made).matrices,
+      ap (λ (s : SkolemizedList). (outlines_of listed began o.0 s.matrices).defining) (left-then known fs i f p h e),
+      ap (λ (t : ClauseOutline). t.defining) o.1.1,
+    )
+
+-- with those so far
+pub outline-over :
+    (known : List Symbol) (fs : List Nnf) (i : ℕ) (p : Progress) (listed : Bool) (began : ℕ) (a : Outline) (all : ClauseOutline)
+    → MOST_SYMBOLS < a.defining → OutlineLeft known fs i p listed began a all → IsOutlineEnd TooHeavy all
+outline-over known fs i p listed began a all h o =
+    omega (
+      arith,
+      h,
+      o.1.0.defining,
+      outlines-keep listed began o.0 (list_left known fs i p).matrices,
+      ap (λ (t : ClauseOutline). t.defining) o.1.1,
+    )
+
+pub ended-told :
+    (known : List Symbol) (f : FormulaTree) (p : Progress) (end : OutlineEnd) (size : ℕ)
+    → p.bindings ≡ [] → made_of p ≡ nothing_made → size ≡ MOST_SYMBOLS + 1 → end ≡ TooHeavy
+    → IsOutlineEnd end (outline_of (skolemized (numbers_after known) f (environment_of p.bindings) (made_of p)).matrix)
+    → size ≡ told (max (outline_of (skolemized_form known f).matrix).largest (outline_of (skolemized_form known f).matrix).defining)
+ended-told known f p end size b m e k h =
+    let over : IsOutlineEnd TooHeavy (outline_of (skolemized_form known f).matrix) =
+    subst (λ u. IsOutlineEnd u (outline_of (skolemized_form known f).matrix)) k
+    (subst (λ bs. IsOutlineEnd end (outline_of (skolemized (numbers_after known) f (environment_of bs) nothing_made).matrix)) b
+    (subst (λ o. IsOutlineEnd end (outline_of (skolemized (numbers_after known) f (environment_of p.bindings) o).matrix)) m h)) in
+    omega (arith, e, over)

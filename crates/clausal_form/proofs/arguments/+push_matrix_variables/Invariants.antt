@@ -2,7 +2,8 @@ use Rattle.std.proofs.Common.{◌≡◌, ◌+◌, ◌*◌, ◌++◌, map, drop, 
 use Rattle.std.specs.Prelude.{◌||◌}
 use Rattle.skolem.specs.Matrix.{matrix_size, matrices_size, matrices_of}
 use Rattle.skolem.specs.Shape.{matrix_tree}
-use Rattle.clausal_form.specs.Occurring.{some_have_clauses, all_have_clauses, matrices_variables}
+use Rattle.skolem.specs.Heavy.{some_have_clauses, all_have_clauses}
+use Rattle.clausal_form.specs.Occurring.{matrices_variables}
 use Rattle.clausal_form.proofs.arguments.+push_matrix_variables.Given as goal
 
 abbrev pub decreases-push_matrix_variables : goal.decreases-push_matrix_variables

@@ -3,6 +3,7 @@ use Rattle.tptp_tree.specs.Entries.{is_conjecture}
 use Rattle.signature.specs.Occurrences.{formula_symbols}
 use Rattle.signature.specs.Environment.{closed}
 use Rattle.formula_nnf.specs.NormalForm.{normal_form}
+use Rattle.formula_nnf.specs.Shape.{nnf_tree}
 use Rattle.tptp_tree.specs.declared.problem.Annotated.{Annotated}
 use Rattle.tptp_tree.specs.Shape.{formula_of}
 use Rattle.tptp_tree.specs.Formula.{FormulaTree}
@@ -11,7 +12,7 @@ use Rattle.signature.specs.declared.symbol.Symbol.{Symbol}
 use Rattle.skolem.specs.Skolemized.{AreKnown}
 use Rattle.skolem.proofs.AboutFormulas.ProblemLemmas.{normal_form_keeps_known_symbols}
 use Rattle.clausal_form.proofs.AboutNaming.NameLemmas.{closed-known}
-use Rattle.clausal_form.proofs.AboutCounts.PassingLemmas.{heavy-form-of, heavy-matrix-of}
+use Rattle.clausal_form.proofs.AboutCounts.PassingLemmas.{heavy-form-of, heavy-end-of, written-over, over-end-of}
 use Rattle.clausal_form.proofs.formula.formula_matrix.Goals as goal
 
 -- the normal form has known symbols alone
@@ -30,14 +31,21 @@ pub cause_over_total-requires : goal.cause_over_total-requires
 cause_over_total-requires c =
     record {
       known = form-known c.args.signature.now c.args.annotated.now _ c.in_ok-form.ensures c.requires.known;
-      over = omega (arith, c.form_weight-weight.ensures.symbols);
+      over = written-over c.args.signature.now (nnf_tree c.in_ok-form.form) (omega (arith, c.form_weight-weight.ensures.symbols));
+    }
+
+pub cause_over_total-requires-in-Err-TotalLimit : goal.cause_over_total-requires-in-Err-TotalLimit
+cause_over_total-requires-in-Err-TotalLimit c =
+    record {
+      known = form-known c.args.signature.now c.args.annotated.now _ c.in_ok-form.ensures c.requires.known;
+      over = over-end-of c.args.signature.now (nnf_tree c.in_ok-form.form) c.in-Err-TotalLimit.field-0 c.in-Err-TotalLimit.field-0-is c.in-Err-TotalLimit.ensures.ended;
     }
 
 pub returns-then-weight : goal.returns-then-weight
 returns-then-weight c =
     heavy-form-of c.args.signature.now c.args.annotated.now _ _ c.in_ok-form.ensures c.form_weight-weight.ensures.heavy c.if-weight.true
 
-pub returns-then-is_heavy_matrix : goal.returns-then-is_heavy_matrix
-returns-then-is_heavy_matrix c =
-    heavy-matrix-of c.args.signature.now c.args.annotated.now _ _ _ c.in_ok-form.ensures c.in_ok-made.ensures.matrix c.is_heavy_matrix.ensures
-    c.if-is_heavy_matrix.true
+pub returns-in-Err-TooHeavy : goal.returns-in-Err-TooHeavy
+returns-in-Err-TooHeavy c =
+    heavy-end-of c.args.signature.now c.args.annotated.now _ c.in-Err-TooHeavy.field-0 c.in_ok-form.ensures c.in-Err-TooHeavy.field-0-is
+    c.in-Err-TooHeavy.ensures.ended

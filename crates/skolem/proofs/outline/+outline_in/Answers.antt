@@ -1,7 +1,8 @@
-use Rattle.std.proofs.Common.{◌∙◌, arith}
+use Rattle.std.proofs.Common.{◌+◌, ◌∙◌, arith}
+use Rattle.std.proofs.lemmas.Result.{err_from_is_err_and}
 use Rattle.skolem.proofs.AboutBindings.OccurringLemmas.{form-item-is}
 use Rattle.skolem.proofs.AboutFormulas.FormLemmas.{forms-known, made-then}
-use Rattle.skolem.proofs.AboutFormulas.OutlineLemmas.{outline-then}
+use Rattle.skolem.proofs.AboutFormulas.OutlineLemmas.{outline-then, outline-ended, outline-over}
 use Rattle.skolem.proofs.outline.+outline_in.Goals as goal
 
 pub outline_in_all-outline_in-requires : goal.outline_in_all-outline_in-requires
@@ -24,3 +25,18 @@ outline_in_all-loop-form-preserved t c = (
     ),
   ),
 )
+
+pub outline_in_all-returns-in_err-member-clause-ended : goal.outline_in_all-returns-in_err-member-clause-ended
+outline_in_all-returns-in_err-member-clause-ended t c =
+    let p = err_from_is_err_and c.from_residual.result c.from_residual.ensures.1 in
+    rw (p.1, p.2)
+    (outline-ended c.args.signature.now c.args.forms.now c.loop-form.form-index c.form-item.result c.loop-form.progress c.args.listed c.args.began
+    c.loop-form.total _ _ c.loop-form-test.true c.form-item.is c.in_err-member.ensures.ended c.loop-form.invariant.0)
+
+pub outline_in_all-returns-then-total-gt-MOST_SYMBOLS-clause-ended : goal.outline_in_all-returns-then-total-gt-MOST_SYMBOLS-clause-ended
+outline_in_all-returns-then-total-gt-MOST_SYMBOLS-clause-ended t c =
+    outline-over c.args.signature.now c.args.forms.now (c.loop-form.form-index + 1) c.outline_in.new.progress c.args.listed c.args.began
+    c.in_ok-total.total _ (omega (arith, c.if-total-gt-MOST_SYMBOLS.true))
+    (outline-then c.args.signature.now c.args.forms.now c.loop-form.form-index c.form-item.result c.loop-form.progress c.outline_in.new.progress
+    c.args.listed c.args.began c.loop-form.total c.in_ok-total.total c.in_ok-member.member _ c.loop-form-test.true c.form-item.is
+    c.in_ok-member.ensures.outline c.in_ok-member.ensures.made c.in_ok-member.ensures.bindings c.in_ok-total.ensures c.loop-form.invariant.0)

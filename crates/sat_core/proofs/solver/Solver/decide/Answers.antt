@@ -15,6 +15,7 @@ returns c =
         marks = c.requires.state.marks;
         marked_names = c.requires.state.marked_names ∙ sym names;
         lists = omega (arith, c.requires.state.lists, names);
+        copies = c.requires.state.copies;
       };
       inputs = refl;
       names = names;

@@ -1,9 +1,10 @@
 use Rattle.std.proofs.Common.{length, sym, ◌∙◌, subst, arith}
-use Rattle.std.proofs.lemmas.List.{get_or_read}
+use Rattle.std.proofs.lemmas.List.{get_or_read, take_all}
 use Rattle.sat_core.specs.Clause.{PropClause}
 use Rattle.sat_core.specs.Search.{HaveLists}
 use Rattle.sat_core.proofs.AboutConflicts.MarkLemmas.{left_of_marks}
-use Rattle.sat_core.proofs.AboutAnswers.SolverLemmas.{lists_of, begun_known, begun_sound}
+use Rattle.sat_core.proofs.AboutTrails.CopyLemmas.{same_clauses_then, same_clauses_of, copies_next}
+use Rattle.sat_core.proofs.AboutAnswers.SolverLemmas.{lists_of, begun_known, begun_clauses, begun_sound}
 use Rattle.sat_core.proofs.solver.Solver.new.Goals as goal
 
 pub add_input-requires : goal.add_input-requires
@@ -12,7 +13,18 @@ add_input-requires c =
     let at = get_or_read c.args.inputs.now c.loop-number.number c.index-inputs-number.result within c.index-inputs-number.is _ in
     subst (λ (x : PropClause). HaveLists (length c.loop-number.watches.lists.items) x)
     (sym (c.as_slice.ensures ∙ at))
-    (lists_of c.args.names _ c.args.inputs.now c.loop-number.number c.requires c.loop-number.invariant)
+    (lists_of c.args.names _ c.args.inputs.now c.loop-number.number c.requires c.loop-number.invariant.lists)
+
+pub loop-number-preserved : goal.loop-number-preserved
+loop-number-preserved c =
+    let within = c.loop-number-test.true in
+    let at = get_or_read c.args.inputs.now c.loop-number.number c.index-inputs-number.result within c.index-inputs-number.is _ in
+    record {
+      lists = c.in_ok-add_input.ensures.lists ∙ c.loop-number.invariant.lists;
+      copies =
+          copies_next _ _ c.args.inputs.now c.loop-number.number _ within (c.as_slice.ensures ∙ at) c.loop-number.invariant.copies
+          c.in_ok-add_input.ensures.copies;
+    }
 
 pub returns : goal.returns
 returns c = record {
@@ -21,7 +33,12 @@ returns c = record {
     sound = begun_sound c.args.names _ c.new-2.result _ _ c.requires c.new-2.ensures.inputs c.new-2.ensures.learned c.in_ok-new.ensures;
     marks = left_of_marks _ _ c.in_ok-new-2.ensures.marks;
     marked_names = c.in_ok-new-2.ensures.names ∙ sym c.in_ok-new.ensures.length;
-    lists = omega (arith, c.loop-number.invariant, c.in_ok-new.ensures.length);
+    lists = omega (arith, c.loop-number.invariant.lists, c.in_ok-new.ensures.length);
+    copies =
+        same_clauses_then _ _ _ c.loop-number.invariant.copies
+        (same_clauses_of _ _
+        (take_all c.loop-number.number c.args.inputs.now (omega (arith, c.loop-number-test.false))
+        ∙ sym (begun_clauses _ c.new-2.result c.new-2.ensures.inputs c.new-2.ensures.learned)));
   };
   inputs_are = c.new-2.ensures.inputs;
   names_are = c.in_ok-new.ensures.length;

@@ -1,7 +1,9 @@
-use Rattle.std.proofs.Common.{◌≡◌, [], ◌∷◌, ◌++◌, length, refl, ap, sym, ◌∙◌, arith}
+use Rattle.std.proofs.Common.{◌≡◌, List, [], ◌∷◌, ◌++◌, length, refl, ap, sym, ◌∙◌, subst, arith}
 use Rattle.std.proofs.lemmas.List.{length-set}
 use Rattle.sat_core.specs.Clause.{PropClause}
+use Rattle.sat_core.specs.State.{SameClauses}
 use Rattle.sat_core.specs.Known.{known}
+use Rattle.sat_core.proofs.AboutTrails.CopyLemmas.{same_clauses_then, same_clauses_of, copies_grown}
 use Rattle.sat_core.proofs.AboutAnswers.SoundLemmas.{turn_remaining}
 use Rattle.sat_core.proofs.AboutAnswers.SolverLemmas.{derives_of, turn_of, learned_within, learned_lists, turn_sound, known_grown}
 use Rattle.sat_core.proofs.solver.Solver.turn.Goals as goal
@@ -35,7 +37,13 @@ returns c =
             c.in_ok-push.ensures.trail c.in_ok-push.ensures.entries c.in_ok-push.ensures.slots;
         marks = c.in_ok-turn.ensures.marks;
         marked_names = c.in_ok-turn.ensures.names ∙ c.requires.state.marked_names ∙ sym names;
-        lists = omega (arith, c.in_ok-note.ensures, c.in_ok-add_learned.ensures, c.cut-2.ensures.lists, c.requires.state.lists, names);
+        lists = omega (arith, c.in_ok-note.ensures.lists, c.in_ok-add_learned.ensures.lists, c.cut-2.ensures.lists, c.requires.state.lists, names);
+        copies =
+            copies_grown _ c.args.self.now.watches.copies.items _ _ c.as_slice-clause.result.now _ c.requires.state.copies
+            (same_clauses_then _ _ _ (same_clauses_of _ _ c.in_ok-note.ensures.copies)
+            (subst (λ (xs : List PropClause). SameClauses c.add_learned.new.self.copies.items (xs ++ c.as_slice-clause.result.now ∷ []))
+            c.cut-2.ensures.copies c.in_ok-add_learned.ensures.copies)) refl
+            (known_grown c.args.self.now.clauses c.learn.new.self _ c.in_ok-learn.ensures.inputs c.in_ok-learn.ensures.more);
       };
       inputs = c.in_ok-learn.ensures.inputs;
       names = names;
