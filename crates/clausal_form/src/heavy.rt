@@ -14,15 +14,18 @@ ghost use Rattle.skolem.specs.Heavy.{form_has_clauses, some_form_has_clauses, al
 ghost use Rattle.clausal_form.specs.Heavy.{heavy_form, some_heavy_form, written_total, written_totals};
 ghost use Rattle.formula_nnf.specs.CappedCount.{capped};
 
-use fol_base::MOST_SYMBOLS;
+use fol_base::{MOST_FORM_SYMBOLS, MOST_SYMBOLS};
 use formula_nnf::Nnf;
 use tptp_tree::TreeTerm;
 
 /// The symbols of a predicate's literal beside its arguments: the predicate and `$true`.
 const ATOM_SYMBOLS: u64 = 2;
 
+/// More symbols than a form may have. A literal that is too heavy is read no further, so it isn't known how many it has.
+const OVER_TOTAL: u64 = MOST_FORM_SYMBOLS + 1;
+
 /// What is asked of a form: whether it has clauses, whether a literal that is too heavy stands in one of them, the symbols of the literals in
-/// them, and those of all its literals (`written`). Both numbers stop at u64's last value.
+/// them, and those of all its literals (`written`), where one that is too heavy counts as `OVER_TOTAL`. Both numbers stop at u64's last value.
 #[derive(Clone, Copy)]
 pub(crate) struct Weight {
     pub has_clauses: bool,
@@ -152,7 +155,11 @@ fn literal_weight(size: u64) -> Weight
         has_clauses: true,
         is_heavy: size > MOST_SYMBOLS,
         symbols: size,
-        written: size,
+        written: if size > MOST_SYMBOLS {
+            OVER_TOTAL
+        } else {
+            size
+        },
     }
 }
 
