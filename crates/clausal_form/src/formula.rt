@@ -31,7 +31,7 @@ use tptp_tree::Annotated;
 
 /// The matrix of a formula under its closing names, and its Skolem symbols by their numbers of arguments; or why there can be no form, where a
 /// literal in its clauses has over `MOST_SYMBOLS` symbols, or all together have over `MOST_FORM_SYMBOLS`. Where they have them as they are
-/// written, no literal is kept.
+/// written, no literal is kept; nor where literals that stand in no clause make a name's clauses too heavy, and are too heavy themselves or too many.
 pub(crate) fn formula_matrix<'a>(
     alloc: Global,
     annotated: &'a Annotated,
@@ -49,6 +49,14 @@ pub(crate) fn formula_matrix<'a>(
     }
     if weight.symbols > MOST_FORM_SYMBOLS {
         return Ok(Err(cause_over_total(alloc, &form, signature)?));
+    }
+    // (A list in a part without clauses can get a name all the same, and then its literals are in the clauses that define it. So the form is
+    // asked for these before literals are kept that are too heavy, or too many symbols together.)
+    if weight.written > MOST_FORM_SYMBOLS {
+        let size = largest_clause(alloc, &form, signature)?;
+        if size > MOST_SYMBOLS {
+            return Ok(Err(FormCause::TooHeavy));
+        }
     }
     match skolemize(alloc, &form, signature) {
         Ok(made) => Ok(Ok(made)),

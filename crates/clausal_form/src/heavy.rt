@@ -14,20 +14,24 @@ ghost use Rattle.skolem.specs.Heavy.{form_has_clauses, some_form_has_clauses, al
 ghost use Rattle.clausal_form.specs.Heavy.{heavy_form, some_heavy_form, written_total, written_totals};
 ghost use Rattle.formula_nnf.specs.CappedCount.{capped};
 
-use fol_base::MOST_SYMBOLS;
+use fol_base::{MOST_FORM_SYMBOLS, MOST_SYMBOLS};
 use formula_nnf::Nnf;
 use tptp_tree::TreeTerm;
 
 /// The symbols of a predicate's literal beside its arguments: the predicate and `$true`.
 const ATOM_SYMBOLS: u64 = 2;
 
-/// What is asked of a form: whether it has clauses, whether a literal that is too heavy stands in one of them, and the symbols of
-/// the literals in them, stopping at u64's last value.
+/// More symbols than a form may have. A literal that is too heavy is read no further, so it isn't known how many it has.
+const OVER_TOTAL: u64 = MOST_FORM_SYMBOLS + 1;
+
+/// What is asked of a form: whether it has clauses, whether a literal that is too heavy stands in one of them, the symbols of the literals in
+/// them, and those of all its literals (`written`), where one that is too heavy counts as `OVER_TOTAL`. Both numbers stop at u64's last value.
 #[derive(Clone, Copy)]
 pub(crate) struct Weight {
     pub has_clauses: bool,
     pub is_heavy: bool,
     pub symbols: u64,
+    pub written: u64,
 }
 
 /// The same of several: whether some have clauses, whether all have, whether one is heavy, and their symbols together.
@@ -37,6 +41,7 @@ struct Weights {
     all: bool,
     heavy: bool,
     symbols: u64,
+    written: u64,
 }
 
 /// The weight of a normal form, of its literals as they are written: at most one symbol over the limit is counted of each.
@@ -80,6 +85,7 @@ const NO_MEMBERS: Weights = Weights {
     all: true,
     heavy: false,
     symbols: 0,
+    written: 0,
 };
 
 fn with_member(weights: Weights, member: Weight) -> Weights
@@ -93,6 +99,7 @@ fn with_member(weights: Weights, member: Weight) -> Weights
         all: weights.all && member.has_clauses,
         heavy: weights.heavy || member.is_heavy,
         symbols: weights.symbols.saturating_add(member.symbols),
+        written: weights.written.saturating_add(member.written),
     }
 }
 
@@ -106,10 +113,11 @@ fn listed(members: Weights) -> Weight
         has_clauses: members.some,
         is_heavy: members.heavy,
         symbols: members.symbols,
+        written: members.written,
     }
 }
 
-/// Of a product of members.
+/// Of a product of members, which are written whether it has clauses or not.
 fn multiplied(members: Weights) -> Weight
     ensures clauses { result.has_clauses ≡ members.all }
     ensures heavy { result.is_heavy ≡ (members.all && members.heavy) }
@@ -119,6 +127,7 @@ fn multiplied(members: Weights) -> Weight
         has_clauses: members.all,
         is_heavy: members.all && members.heavy,
         symbols: if members.all { members.symbols } else { 0 },
+        written: members.written,
     }
 }
 
@@ -132,6 +141,7 @@ fn constant(positive: bool) -> Weight
         has_clauses: !positive,
         is_heavy: false,
         symbols: 0,
+        written: 0,
     }
 }
 
@@ -145,6 +155,11 @@ fn literal_weight(size: u64) -> Weight
         has_clauses: true,
         is_heavy: size > MOST_SYMBOLS,
         symbols: size,
+        written: if size > MOST_SYMBOLS {
+            OVER_TOTAL
+        } else {
+            size
+        },
     }
 }
 

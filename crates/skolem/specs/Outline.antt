@@ -104,7 +104,11 @@ pub record IsOutline (a : Outline) (t : ClauseOutline) : Type 0 where
   pub largest : t.defining ≤ MOST_SYMBOLS → a.largest ≡ told t.largest
   pub variables : t.defining ≤ MOST_SYMBOLS → t.largest ≤ MOST_SYMBOLS → AreSame a.variables.items t.variables
 
--- Nothing is said of want of memory. Else a clause that defines a name is over the limit.
-abbrev pub IsOutlineEnd : OutlineEnd → ClauseOutline → Type 0
-IsOutlineEnd NoMemory t = ⊤
-IsOutlineEnd TooHeavy t = MOST_SYMBOLS < t.defining
+-- the largest of the clauses that stay as large in what is made of them: those that define names, and all in a part that stands in clauses
+abbrev pub lasting : Bool → ℕ → ℕ → ℕ
+lasting in_clauses largest defining = max defining (if in_clauses then largest else 0)
+
+-- Nothing is said of want of memory. Else such a clause is over the limit.
+abbrev pub IsOutlineEnd : OutlineEnd → Bool → ClauseOutline → Type 0
+IsOutlineEnd NoMemory in_clauses t = ⊤
+IsOutlineEnd TooHeavy in_clauses t = MOST_SYMBOLS < lasting in_clauses t.largest t.defining

@@ -12,7 +12,7 @@ ghost use Rattle.skolem.specs.Skolemized.{skolemized_form, skolemized_symbols, n
 ghost use Rattle.skolem.specs.SkolemizedLaws.{SkolemSymbolsOfMatrixAreCounted, MatrixKeepsClauses, MatrixOfNormalFormKeepsClauses};
 ghost use Rattle.skolem.specs.ProblemLaws.{MatrixOfFormIsThatInProblem, ClausesInProblemAreThoseOfMatrix, NormalFormKeepsKnownSymbols, SkolemSymbolsAreNumberedOn, LaterNamesAreUnused};
 ghost use Rattle.skolem.specs.Literal.{filled, size_under};
-ghost use Rattle.skolem.specs.Outline.{product_outline, told};
+ghost use Rattle.skolem.specs.Outline.{product_outline, told, lasting};
 ghost use Rattle.skolem.specs.Heavy.{form_has_clauses, heavy_matrix, matrix_total};
 ghost use Rattle.skolem.specs.Examples.{x, y, z, p_of, r_of, f_of, known, p_literal};
 
@@ -57,13 +57,14 @@ pub fn clause_examples()
 {}
 
 /// `$true | p(X)` has no clauses, and so no heavy literal, however large p(X) is, and no symbols; `$true & p(X)` has one. A literal p(X0) has three
-/// symbols with `$true`.
+/// symbols with `$true`, and two of them six, in a list or a product.
 pub fn clauses_of_parts_examples()
     ensures product { form_has_clauses (formula_disjunction (formula_then true_formula (formula_then (p_of x) no_formulas))) ≡ false }
     ensures list { form_has_clauses (formula_conjunction (formula_then true_formula (formula_then (p_of x) no_formulas))) ≡ true }
     ensures light { heavy_matrix (disjunction 1 (matrix_then truth (matrix_then (literal (p_literal 0)) no_matrices))) ≡ false }
     ensures none { matrix_total (disjunction 1 (matrix_then truth (matrix_then (literal (p_literal 0)) no_matrices))) ≡ 0 }
     ensures total { matrix_total (conjunction (matrix_then truth (matrix_then (literal (p_literal 0)) (matrix_then (literal (p_literal 0)) no_matrices)))) ≡ 6 }
+    ensures product_total { matrix_total (disjunction 1 (matrix_then (literal (p_literal 0)) (matrix_then (literal (p_literal 0)) no_matrices))) ≡ 6 }
 {}
 
 /// Of a product of more than 64 clauses the longer list is named, and of two of the same length the first: with 8 clauses and 9 the second, whose
@@ -86,6 +87,12 @@ pub fn told_examples()
     ensures within { told 4000 ≡ 4000 }
     ensures first_over { told 4001 ≡ 4001 }
     ensures over { told 5000 ≡ 4001 }
+{}
+
+/// In a part that stands in clauses a clause of five symbols stays as large, elsewhere only one of three that defines a name.
+pub fn lasting_examples()
+    ensures in_clauses { lasting true 5 3 ≡ 5 }
+    ensures elsewhere { lasting false 5 3 ≡ 3 }
 {}
 
 /// The matrix of a normal form has as many Skolem symbols as are counted.

@@ -1,17 +1,20 @@
 // How large the clauses of a normal form are, found without making its matrix: a form whose literals are too many symbols to be kept is refused,
 // and this tells by which limit. The walk is that which makes the matrix. Of a part it keeps how many clauses it has, the size of the largest,
 // and the variables in them, which the arguments of a name are found by. It ends at the first clause over the limit that defines a name, since the
-// largest of these never gets smaller.
+// largest of these never gets smaller; and at any that is over it in a part that stands in clauses, since what is made of it is as large, or a
+// clause that defines a name is.
 
-ghost use Rattle.std.specs.Prelude.{◌≡◌, ◌≤◌, ◌+◌, ◌++◌, true, false, max, map, IfOk, IfErr};
+ghost use Rattle.std.specs.Prelude.{◌≡◌, ◌≤◌, ◌+◌, ◌++◌, ◌&&◌, ◌||◌, true, false, max, map, IfOk, IfErr};
 ghost use Rattle.tptp_tree.specs.Formula.{formulas_of};
 ghost use Rattle.signature.specs.Occurrences.{formula_symbols, formulas_symbols};
 ghost use Rattle.fol_base.specs.declared.limits.TheConstants.{MOST_SYMBOLS};
 ghost use Rattle.formula_nnf.specs.Shape.{nnf_tree};
 ghost use Rattle.skolem.specs.Skolemized.{skolemized, skolemized_list, numbers_after, skolemized_form, AreKnown};
 ghost use Rattle.skolem.specs.Progress.{environment_of, made_of};
-ghost use Rattle.skolem.specs.Outline.{ClauseOutline, IsOutline, IsOutlineEnd, AreSame, told, constant_outline, literal_outline, sum_outline, pairs_outline, named_outline, product_outline, joined_outline, outline_of, outlines_of};
+ghost use Rattle.skolem.specs.Heavy.{all_forms_have_clauses};
+ghost use Rattle.skolem.specs.Outline.{ClauseOutline, IsOutline, IsOutlineEnd, AreSame, told, lasting, constant_outline, literal_outline, sum_outline, pairs_outline, named_outline, product_outline, joined_outline, outline_of, outlines_of};
 
+use crate::clauses::are_in_clauses;
 use crate::forms::{atom, bind_skolem_terms, bind_variables, equation};
 use crate::literal::MatrixLiteral;
 use crate::progress::{Progress, made_in_order};
@@ -48,7 +51,7 @@ pub(crate) struct Outline {
 #[derive(Clone, Copy)]
 pub(crate) enum OutlineEnd {
     NoMemory,
-    /// A clause that defines a name has over `MOST_SYMBOLS` symbols, so that the largest clause has.
+    /// A clause that defines a name, or any in a part that stands in clauses, has over `MOST_SYMBOLS` symbols, so that the largest clause has.
     TooHeavy,
 }
 
@@ -72,7 +75,7 @@ pub fn largest_clause<'a>(alloc: Global, form: &Nnf<'a>, signature: &'a Signatur
         (outline_of (skolemized_form signature.now (nnf_tree form.now)).matrix).defining)) }
 {
     let mut progress = Progress::new(alloc);
-    let outline = match outline_in(alloc, signature, form, &mut progress) {
+    let outline = match outline_in(alloc, signature, form, true, &mut progress) {
         Ok(outline) => outline,
         Err(OutlineEnd::NoMemory) => return Err(NoMemory),
         Err(OutlineEnd::TooHeavy) => return Ok(OVER_LIMIT),
@@ -83,12 +86,13 @@ pub fn largest_clause<'a>(alloc: Global, form: &Nnf<'a>, signature: &'a Signatur
     Ok(outline.largest.max(outline.defining))
 }
 
-/// The outline of a form under the variables in force.
+/// The outline of a form under the variables in force, which may be a part that stands in clauses.
 #[cycle(outline_in)]
 fn outline_in<'a>(
     alloc: Global,
     signature: &'a Signature,
     form: &Nnf<'a>,
+    in_clauses: bool,
     progress: &mut Progress,
 ) -> Result<Outline, OutlineEnd>
     requires known { AreKnown signature.now (formula_symbols (nnf_tree form.now)) }
@@ -97,7 +101,7 @@ fn outline_in<'a>(
     ensures made { IfOk result (λ _. made_of progress.new
         ≡ (skolemized (numbers_after signature.now) (nnf_tree form.now) (environment_of progress.old.bindings) (made_of progress.old)).made) }
     ensures bindings { IfOk result (λ _. progress.new.bindings ≡ progress.old.bindings) }
-    ensures ended { IfErr result (λ end. IsOutlineEnd end
+    ensures ended { IfErr result (λ end. IsOutlineEnd end in_clauses
         (outline_of (skolemized (numbers_after signature.now) (nnf_tree form.now) (environment_of progress.old.bindings) (made_of progress.old)).matrix)) }
 {
     match form {
@@ -111,22 +115,26 @@ fn outline_in<'a>(
             let literal = equation(alloc, signature, progress, *positive, left, right)?;
             Ok(of_literal(alloc, &literal)?)
         }
-        Nnf::And(forms) => outline_in_all(alloc, signature, true, 0, forms.as_slice(), progress),
+        Nnf::And(forms) => {
+            let forms = forms.as_slice();
+            outline_in_all(alloc, signature, true, 0, forms, in_clauses, progress)
+        }
         Nnf::Or(forms) => {
             let made = progress.variables;
-            outline_in_all(alloc, signature, false, made, forms.as_slice(), progress)
+            let forms = forms.as_slice();
+            outline_in_all(alloc, signature, false, made, forms, in_clauses, progress)
         }
         Nnf::All(names, body) => {
             let before = progress.bindings.len();
             bind_variables(alloc, names.as_slice(), progress)?;
-            let outline = outline_in(alloc, signature, body.get(), progress)?;
+            let outline = outline_in(alloc, signature, body.get(), in_clauses, progress)?;
             progress.bindings.truncate(before);
             Ok(outline)
         }
         Nnf::Ex(names, body) => {
             let before = progress.bindings.len();
             bind_skolem_terms(alloc, signature, names.as_slice(), body, progress)?;
-            let outline = outline_in(alloc, signature, body.get(), progress)?;
+            let outline = outline_in(alloc, signature, body.get(), in_clauses, progress)?;
             progress.bindings.truncate(before);
             Ok(outline)
         }
@@ -141,6 +149,7 @@ fn outline_in_all<'a>(
     listed: bool,
     began: u32,
     forms: &[Nnf<'a>],
+    in_clauses: bool,
     progress: &mut Progress,
 ) -> Result<Outline, OutlineEnd>
     requires known { AreKnown signature.now (formulas_symbols (formulas_of (map nnf_tree forms.now))) }
@@ -150,19 +159,42 @@ fn outline_in_all<'a>(
     ensures made { IfOk result (λ _. made_of progress.new
         ≡ (skolemized_list (numbers_after signature.now) (formulas_of (map nnf_tree forms.now)) (environment_of progress.old.bindings) (made_of progress.old)).made) }
     ensures bindings { IfOk result (λ _. progress.new.bindings ≡ progress.old.bindings) }
-    ensures ended { IfErr result (λ end. IsOutlineEnd end
+    ensures ended { IfErr result (λ end. IsOutlineEnd end in_clauses
         (outlines_of listed began (constant_outline listed)
         (skolemized_list (numbers_after signature.now) (formulas_of (map nnf_tree forms.now)) (environment_of progress.old.bindings) (made_of progress.old)).matrices)) }
 {
+    let inside = stand_in_clauses(in_clauses, listed, forms);
     let mut total = constant(alloc, listed);
     for form in forms {
-        let member = outline_in(alloc, signature, form, progress)?;
+        let member = outline_in(alloc, signature, form, inside, progress)?;
         total = joined(alloc, listed, began, total, member)?;
-        if total.defining > MOST_SYMBOLS {
+        if lasting_size(&total, inside) > MOST_SYMBOLS {
             return Err(OutlineEnd::TooHeavy);
         }
     }
     Ok(total)
+}
+
+/// Whether the members of a list or product stand in clauses, where that itself does or doesn't.
+fn stand_in_clauses(in_clauses: bool, listed: bool, forms: &[Nnf<'_>]) -> bool
+    ensures { result ≡ (in_clauses && (listed || all_forms_have_clauses (formulas_of (map nnf_tree forms.now)))) }
+{
+    if listed {
+        in_clauses
+    } else {
+        are_in_clauses(in_clauses, forms)
+    }
+}
+
+/// The symbols of the largest clause that stays as large, whatever comes to those that are outlined.
+fn lasting_size(outline: &Outline, in_clauses: bool) -> u64
+    ensures { result ≡ lasting in_clauses outline.now.largest outline.now.defining }
+{
+    if in_clauses {
+        outline.defining.max(outline.largest)
+    } else {
+        outline.defining
+    }
 }
 
 /// No clause, or the empty one.

@@ -9,10 +9,11 @@ use Rattle.tptp_tree.specs.Shape.{formula_of}
 use Rattle.tptp_tree.specs.Formula.{FormulaTree}
 use Rattle.std.proofs.Common.{◌≡◌, List}
 use Rattle.signature.specs.declared.symbol.Symbol.{Symbol}
-use Rattle.skolem.specs.Skolemized.{AreKnown}
+use Rattle.skolem.specs.Skolemized.{AreKnown, skolemized_form}
+use Rattle.clausal_form.specs.declared.fault.FormCause.TheVariants.{TooHeavy}
 use Rattle.skolem.proofs.AboutFormulas.ProblemLemmas.{normal_form_keeps_known_symbols}
 use Rattle.clausal_form.proofs.AboutNaming.NameLemmas.{closed-known}
-use Rattle.clausal_form.proofs.AboutCounts.PassingLemmas.{heavy-form-of, heavy-end-of, written-over, over-end-of}
+use Rattle.clausal_form.proofs.AboutCounts.PassingLemmas.{cause-of-form, outline-passes, heavy-form-of, heavy-end-of, written-over, over-end-of}
 use Rattle.clausal_form.proofs.formula.formula_matrix.Goals as goal
 
 -- the normal form has known symbols alone
@@ -22,6 +23,10 @@ form-known :
 form-known known a f e k =
     subst (λ g. AreKnown known (formula_symbols g)) (sym e)
     (normal_form_keeps_known_symbols known (closed a) (not (is_conjecture a.role)) (closed-known known a k))
+
+pub largest_clause-requires : goal.largest_clause-requires
+largest_clause-requires c =
+    record { known = form-known c.args.signature.now c.args.annotated.now _ c.in_ok-form.ensures c.requires.known }
 
 pub skolemize-requires : goal.skolemize-requires
 skolemize-requires c =
@@ -44,6 +49,12 @@ cause_over_total-requires-in-Err-TotalLimit c =
 pub returns-then-weight : goal.returns-then-weight
 returns-then-weight c =
     heavy-form-of c.args.signature.now c.args.annotated.now _ _ c.in_ok-form.ensures c.form_weight-weight.ensures.heavy c.if-weight.true
+
+pub returns-then-size-gt-MOST_SYMBOLS : goal.returns-then-size-gt-MOST_SYMBOLS
+returns-then-size-gt-MOST_SYMBOLS c =
+    cause-of-form c.args.signature.now c.args.annotated.now _ TooHeavy c.in_ok-form.ensures
+    (outline-passes (skolemized_form c.args.signature.now (nnf_tree c.in_ok-form.form)).matrix c.in_ok-size.size c.in_ok-size.ensures
+    (omega (arith, c.if-size-gt-MOST_SYMBOLS.true)))
 
 pub returns-in-Err-TooHeavy : goal.returns-in-Err-TooHeavy
 returns-in-Err-TooHeavy c =

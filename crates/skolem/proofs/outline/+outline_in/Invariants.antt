@@ -17,7 +17,7 @@ decreases-outline_in_all l = 2 * formulas_size (formulas_of (map nnf_tree l.form
 
 abbrev pub invariant-outline_in_all-loop-form : goal.invariant-outline_in_all-loop-form
 invariant-outline_in_all-loop-form l =
-    OutlineLeft l.signature l.forms l.form-index l.progress l.listed l.began l.total
+    OutlineLeft l.signature l.forms l.form-index l.progress l.inside l.listed l.began l.total
     (outlines_of l.listed l.began (constant_outline l.listed)
     (skolemized_list (numbers_after l.signature) (formulas_of (map nnf_tree l.forms)) (environment_of l.initial.progress.bindings) (made_of l.initial.progress)).matrices)
     × ((made_left l.signature l.forms l.form-index l.progress
