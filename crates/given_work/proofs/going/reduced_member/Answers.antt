@@ -12,20 +12,20 @@ pub reduce-requires-clause-names : goal.reduce-requires-clause-names
 reduce-requires-clause-names c =
     let t = c.requires.told in
     let whole = t.sets.whole c.args.member.now.number (clause_at c.args.member.now.clause) t.there in
-    let e : clause_of c.unreduced.result.clause ≡ clause_at c.args.member.now.clause = ap clause_of c.unreduced.ensures.same ∙ c.in_ok-clause.ensures.same in
+    let e : clause_of c.unreduced-reduced.result.clause ≡ clause_at c.args.member.now.clause = ap clause_of c.unreduced-reduced.ensures.same ∙ c.in_ok-clause.ensures.same in
     ap (λ (d : TreeClause). are_sorted d.names) e ∙ ap are_sorted whole.no_names
 
 pub reduce-requires-clause-size : goal.reduce-requires-clause-size
 reduce-requires-clause-size c =
     let t = c.requires.told in
     let whole = t.sets.whole c.args.member.now.number (clause_at c.args.member.now.clause) t.there in
-    let e : clause_of c.unreduced.result.clause ≡ clause_at c.args.member.now.clause = ap clause_of c.unreduced.ensures.same ∙ c.in_ok-clause.ensures.same in
+    let e : clause_of c.unreduced-reduced.result.clause ≡ clause_at c.args.member.now.clause = ap clause_of c.unreduced-reduced.ensures.same ∙ c.in_ok-clause.ensures.same in
     subst (λ (d : TreeClause). clause_size d ≤ MOST_SYMBOLS) (sym e) whole.small
 
 pub returns : goal.returns
 returns c =
     let by = c.args.by.now in
-    let e : clause_of c.unreduced.result.clause ≡ clause_at c.args.member.now.clause = ap clause_of c.unreduced.ensures.same ∙ c.in_ok-clause.ensures.same in
-    reduced-by by.equations.now by.units.now by.left_out (clause_at c.args.member.now.clause) c.unreduced.result c.reduce.new.reduced c.in_ok-reduce.field-0 e
-    (λ q looked. subst (λ (d : TreeClause). IsReduced q looked d c.unreduced.result) c.in_ok-clause.ensures.same (c.unreduced.ensures.reduced q looked))
+    let e : clause_of c.unreduced-reduced.result.clause ≡ clause_at c.args.member.now.clause = ap clause_of c.unreduced-reduced.ensures.same ∙ c.in_ok-clause.ensures.same in
+    reduced-by by.equations.now by.units.now by.left_out (clause_at c.args.member.now.clause) c.unreduced-reduced.result c.reduce.new.reduced c.in_ok-reduce.field-0 e
+    (λ q looked. subst (λ (d : TreeClause). IsReduced q looked d c.unreduced-reduced.result) c.in_ok-clause.ensures.same (c.unreduced-reduced.ensures.reduced q looked))
     c.in_ok-reduce.ensures.further c.in_ok-reduce.ensures.ok
