@@ -96,9 +96,6 @@ fn expect_counts(rt: &impl Abort, alloc: Global, text: &[u8], wanted: &str) {
 /// The beginning of a literal of a Skolem term, which has one argument, many times, and another such term.
 const UNDER_TWO: &str = "fof(a,axiom,![X]:?[Y]:(p(X,Y)&?[Z]:s(";
 
-/// The same in a product without clauses.
-const UNDER_TWO_IN_NO_CLAUSE: &str = "fof(a,axiom,$true|![X]:?[Y]:?[Z]:s(";
-
 /// Products of over 64 clauses are named, and clauses of over 4,000 symbols, also of those that define a name, and formulas of over
 /// 1,000,000 atoms are refused. A literal without arguments has 2 symbols. Many times `$false` take no room, and a large literal in no clause
 /// does no harm. A formula of 480 levels, and more symbols than 8 bits number.
@@ -118,7 +115,6 @@ fn limits_of_formulas(rt: HostRuntime) {
         (UNDER_TWO, "Y,", 1_998, "Z))).", "2 6 hc0"),
         (UNDER_TWO, "Y,", 1_999, "Z))).", "TooHeavy a"),
         (UNDER_TWO, "Y,", 20_000, "Z))).", "TooHeavy a"),
-        (UNDER_TWO_IN_NO_CLAUSE, "Y,", 2_000, "Z)).", "0 5 hc0"),
         (
             "fof(a,axiom,",
             "![X]:?[Y]:~",
