@@ -22,10 +22,11 @@ use Rattle.fol_base.proofs.AboutInstances.InstancePlaces.{subterms_of_instances}
 use Rattle.fol_base.proofs.AboutTerms.KindLemmas.{puts_no_truth, puts_function_terms}
 use Rattle.fol_base.proofs.AboutClauses.RuleLemmas.{superposed_literal-parts, superposed_literal-from, superposed-parts, superposed-from, resolved-parts, resolved-from, factored-parts, factored-from}
 use Rattle.fol_base.proofs.AboutClauses.InferenceLemmas.{side_of-instance, other_side_of-instance, literal_in_instance}
+use Rattle.fol_base.proofs.AboutInstances.Shuffled.{shuffled}
 use Rattle.kernel_steps.specs.Names.{sorted_names}
 use Rattle.kernel_steps.proofs.AboutCalls.ItemLemmas.{list_any-set_passing}
 use Rattle.calculus.specs.Lifting.{has_equal_sides, ResolutionsLift, FactoringsLift, SuperpositionsLift}
-use Rattle.calculus.proofs.AboutLifting.UnifierLemmas.{instance-again, unify, is_most_general, shuffled, shuffled-each, unify_apart, is_most_general_apart}
+use Rattle.calculus.proofs.AboutLifting.UnifierLemmas.{instance-again, unify, is_most_general, shuffled-each, unify_apart, is_most_general_apart}
 use Rattle.calculus.proofs.AboutLifting.LiftLemmas.{Goes, literal_before, eligible_between, unchosen_between, not_above, one_kind, no_truth_before, resolved_meets, factored_meets, superposed_meets, resolved_again, factored_again, superposed_again}
 
 -- ---- equality resolution

@@ -6,8 +6,10 @@ use Rattle.fol_base.specs.Tree.{Tree, variable, application, Trees, no_trees, tr
 use Rattle.fol_base.specs.Instance.{Substitution, instance, instances}
 use Rattle.fol_base.specs.Unifier.{IsMostGeneralUnifier, IsMostGeneralUnifierApart}
 use Rattle.fol_base.specs.InstanceLaws.{after}
+use Rattle.fol_base.specs.Examples.{even, odd}
 use Rattle.fol_base.proofs.AboutTerms.TreeLemmas.{tree_size-positive}
 use Rattle.fol_base.proofs.AboutInstances.InstanceLemmas.{trees_count-instances, instances_of_instances, instances_agree}
+use Rattle.fol_base.proofs.AboutInstances.Shuffled.{shuffled, shuffled-even, shuffled-odd}
 use Rattle.kbo_order.proofs.AboutMultisets.MemberLemmas.{In, In-left, In-right}
 use Rattle.calculus.proofs.AboutCovering.ClauseLemmas.{In-either}
 
@@ -253,27 +255,6 @@ is_most_general s t m = record { unifies = m.unifies; is_general = λ ρ e. (ρ,
 
 -- ---- two trees whose variables are different ones
 
-abbrev even : ℕ → ℕ
-even zero = zero
-even (suc v) = suc (suc (even v))
-
-abbrev odd : ℕ → ℕ
-odd v = suc (even v)
-
--- ρ at the even numbers, π at the odd ones
-abbrev pub shuffled : Substitution → Substitution → Substitution
-shuffled ρ π zero = ρ zero
-shuffled ρ π (suc zero) = π zero
-shuffled ρ π (suc (suc v)) = shuffled (λ w. ρ (suc w)) (λ w. π (suc w)) v
-
-shuffled-even : (ρ π : Substitution) (v : ℕ) → shuffled ρ π (even v) ≡ ρ v
-shuffled-even ρ π zero = refl
-shuffled-even ρ π (suc v) = shuffled-even (λ w. ρ (suc w)) (λ w. π (suc w)) v
-
-shuffled-odd : (ρ π : Substitution) (v : ℕ) → shuffled ρ π (odd v) ≡ π v
-shuffled-odd ρ π zero = refl
-shuffled-odd ρ π (suc v) = shuffled-odd (λ w. ρ (suc w)) (λ w. π (suc w)) v
-
 pub shuffled-each :
     (P : Tree → Type 0) (ρ π : Substitution) → ((v : ℕ) → P (ρ v)) → ((v : ℕ) → P (π v)) → (v : ℕ) → P (shuffled ρ π v)
 shuffled-each P ρ π h k zero = h zero
@@ -295,7 +276,7 @@ unify_apart ρ π s t e =
     let s' : Tree = instance evens s in
     let t' : Tree = instance odds t in
     let meets : (ρ π : Substitution) → instance ρ s ≡ instance π t → instance (shuffled ρ π) s' ≡ instance (shuffled ρ π) t' = λ ρ π e.
-    instance-again (shuffled ρ π) evens ρ (shuffled-even ρ π) s ∙ e ∙ sym (instance-again (shuffled ρ π) odds π (shuffled-odd ρ π) t) in
+    instance-again (shuffled ρ π) evens ρ (λ v. sym (shuffled-even ρ π v)) s ∙ e ∙ sym (instance-again (shuffled ρ π) odds π (λ v. sym (shuffled-odd ρ π v)) t) in
     let m = unify (shuffled ρ π) s' t' (meets ρ π e) in
     record {
       first = λ v. m.σ (even v);
@@ -304,8 +285,8 @@ unify_apart ρ π s t e =
           sym (instance-again m.σ evens (λ v. m.σ (even v)) (λ v. refl) s)
           ∙ m.unifies
           ∙ instance-again m.σ odds (λ v. m.σ (odd v)) (λ v. refl) t;
-      first_general = λ ρ π e v. m.general (shuffled ρ π) (meets ρ π e) (even v) ∙ shuffled-even ρ π v;
-      second_general = λ ρ π e v. m.general (shuffled ρ π) (meets ρ π e) (odd v) ∙ shuffled-odd ρ π v;
+      first_general = λ ρ π e v. m.general (shuffled ρ π) (meets ρ π e) (even v) ∙ sym (shuffled-even ρ π v);
+      second_general = λ ρ π e v. m.general (shuffled ρ π) (meets ρ π e) (odd v) ∙ sym (shuffled-odd ρ π v);
     }
 
 pub is_most_general_apart : (s t : Tree) (m : UnifiedApart s t) → IsMostGeneralUnifierApart s t m.first m.second

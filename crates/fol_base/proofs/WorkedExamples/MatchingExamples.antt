@@ -12,6 +12,7 @@ use Rattle.fol_base.specs.WellFormed.{WellFormed, is_literal_of, are_literals_of
 use Rattle.fol_base.proofs.AboutTerms.KindLemmas.{no_predicate_term}
 use Rattle.fol_base.proofs.AboutTerms.WellFormedLemmas.{is_literal-cases, is_literal_of-parts}
 use Rattle.fol_base.proofs.AboutTerms.TreeLemmas.{tree_eq-true}
+use Rattle.fol_base.proofs.AboutInstances.Shuffled.{shuffled, shuffled-even, shuffled-odd}
 use Rattle.fol_base.specs.Examples.{x, a, b, f, f₂, p, q, r, equation, clause, is_predicate, use_of_symbols, all_a, first_is, even, odd, first_is_a}
 
 -- X0 and f(X0): the second is larger by one, whatever is put in
@@ -36,20 +37,6 @@ first_is_a_general = record { unifies = refl; is_general = λ ρ unifies. (ρ, e
     each : (ρ : Substitution) → ρ 0 ≡ a → (v : ℕ) → ρ v ≡ instance ρ (first_is_a v)
     each ρ e zero = e
     each ρ e (suc v) = refl
-
--- ρ at the even numbers, π at the odd ones
-abbrev shuffled : Substitution → Substitution → Substitution
-shuffled ρ π zero = ρ zero
-shuffled ρ π (suc zero) = π zero
-shuffled ρ π (suc (suc v)) = shuffled (λ w. ρ (suc w)) (λ w. π (suc w)) v
-
-shuffled-even : (ρ π : Substitution) (v : ℕ) → ρ v ≡ shuffled ρ π (even v)
-shuffled-even ρ π zero = refl
-shuffled-even ρ π (suc v) = shuffled-even (λ w. ρ (suc w)) (λ w. π (suc w)) v
-
-shuffled-odd : (ρ π : Substitution) (v : ℕ) → π v ≡ shuffled ρ π (odd v)
-shuffled-odd ρ π zero = refl
-shuffled-odd ρ π (suc v) = shuffled-odd (λ w. ρ (suc w)) (λ w. π (suc w)) v
 
 -- f(X0,b) and f(a,X0), with different variables
 pub apart_general : IsMostGeneralUnifierApart (f₂ (x 0) b) (f₂ a (x 0)) (first_is a even) (first_is b odd)

@@ -7,24 +7,11 @@ use Rattle.fol_base.specs.Unifier.{IsMostGeneralUnifierApart}
 use Rattle.fol_base.specs.Selection.{select_negative}
 use Rattle.fol_base.specs.Examples.{x, a, b, f, p, q, equation, clause, is_predicate, even, odd, first_is}
 use Rattle.fol_base.specs.declared.clause.Side.TheVariants.{Left}
+use Rattle.fol_base.proofs.AboutInstances.Shuffled.{shuffled, shuffled-even, shuffled-odd}
 use Rattle.kernel_steps.specs.Derivation.{positive_of, negative_of}
 use Rattle.kernel_steps.specs.Inference.{NamedSuperposition}
 use Rattle.kernel_steps.specs.Examples.{not_p, not_true, with}
 use Rattle.kernel_steps.proofs.WorkedExamples.InferenceExamples.{argument_of}
-
--- ρ at the even numbers, π at the odd ones
-abbrev shuffled : Substitution → Substitution → Substitution
-shuffled ρ π zero = ρ zero
-shuffled ρ π (suc zero) = π zero
-shuffled ρ π (suc (suc v)) = shuffled (λ w. ρ (suc w)) (λ w. π (suc w)) v
-
-shuffled-even : (ρ π : Substitution) (v : ℕ) → ρ v ≡ shuffled ρ π (even v)
-shuffled-even ρ π zero = refl
-shuffled-even ρ π (suc v) = shuffled-even (λ w. ρ (suc w)) (λ w. π (suc w)) v
-
-shuffled-odd : (ρ π : Substitution) (v : ℕ) → π v ≡ shuffled ρ π (odd v)
-shuffled-odd ρ π zero = refl
-shuffled-odd ρ π (suc v) = shuffled-odd (λ w. ρ (suc w)) (λ w. π (suc w)) v
 
 -- an application to a and one to X0, with different variables
 apart_general :

@@ -18,6 +18,7 @@ use Rattle.fol_base.specs.Examples.{x, a, f, p, clause, is_predicate, even, odd,
 use Rattle.fol_base.specs.declared.clause.Side.{Side}
 use Rattle.fol_base.specs.declared.clause.Side.TheVariants.{Left, Right}
 use Rattle.fol_base.proofs.AboutClauses.RuleLemmas.{resolved-parts, merged-parts}
+use Rattle.fol_base.proofs.AboutInstances.Shuffled.{shuffled, shuffled-even, shuffled-odd}
 use Rattle.kernel_steps.specs.Conclusion.{verdict, concludes}
 use Rattle.kernel_steps.specs.Derivation.{complement, continued}
 use Rattle.kernel_steps.specs.Examples.{not_p, not_true}
@@ -61,20 +62,6 @@ abbrev told : Lookup
 told = told_clauses is_predicate origin.options registered job
 
 -- ---- the inference
-
--- ρ at the even numbers, π at the odd ones
-abbrev shuffled : Substitution → Substitution → Substitution
-shuffled ρ π zero = ρ zero
-shuffled ρ π (suc zero) = π zero
-shuffled ρ π (suc (suc v)) = shuffled (λ w. ρ (suc w)) (λ w. π (suc w)) v
-
-shuffled-even : (ρ π : Substitution) (v : ℕ) → ρ v ≡ shuffled ρ π (even v)
-shuffled-even ρ π zero = refl
-shuffled-even ρ π (suc v) = shuffled-even (λ w. ρ (suc w)) (λ w. π (suc w)) v
-
-shuffled-odd : (ρ π : Substitution) (v : ℕ) → π v ≡ shuffled ρ π (odd v)
-shuffled-odd ρ π zero = refl
-shuffled-odd ρ π (suc v) = shuffled-odd (λ w. ρ (suc w)) (λ w. π (suc w)) v
 
 general : IsMostGeneralUnifierApart (p a).left (p (x 0)).left (λ v. variable (even v)) (first_is a odd)
 general = record {
