@@ -22,7 +22,7 @@ pub use instance::{instance_size, is_instance, same_instance};
 pub use lending::{LendsLiterals, LendsTerms};
 pub use limits::{MOST_BOUND_SYMBOLS, MOST_FORM_SYMBOLS, MOST_SYMBOLS, SIZE_LIMIT};
 pub use literal_ref::{LiteralRef, equivalent_literals, same_literal};
-pub use place::{Position, at, replace_at};
+pub use place::{Position, argument_at, at, replace_at};
 pub use substitution::{Subst, apply, apply_clause, apply_literal};
 pub use term::{TRUE_SYMBOL, Term, Terms};
 pub use variables::push_variables;

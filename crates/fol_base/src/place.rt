@@ -26,8 +26,8 @@ pub fn at<'a>(term: &'a Term, place: &Position) -> Option<&'a Term>
     Some(found)
 }
 
-/// The argument with that number, from 0.
-fn argument_at<'a>(term: &'a Term, number: u64) -> Option<&'a Term>
+/// The argument of a term with that number, from 0. None exactly where the term has no such argument.
+pub fn argument_at<'a>(term: &'a Term, number: u64) -> Option<&'a Term>
     ensures { option_map (λ found. tree_of found.now) result ≡ argument number (tree_of term.entry.now) }
 {
     match term {

@@ -8,7 +8,7 @@ ghost use Rattle.fol_base.specs.Instance.{instance};
 ghost use Rattle.fol_base.specs.Place.{argument, subterm, replaced};
 ghost use Rattle.kernel_steps.specs.Bound.{under};
 
-use fol_base::{LendsTerms, Term, Terms, is_instance, same_instance};
+use fol_base::{LendsTerms, Term, Terms, argument_at, is_instance, same_instance};
 use plain_types::Mem;
 use std::alloc::Global;
 
@@ -99,35 +99,17 @@ fn argument_under<'a, T: LendsTerms>(
                 return None;
             }
             match bind.term(*variable) {
-                Some(put) => match argument_of(put, number) {
+                Some(put) => match argument_at(put, number) {
                     Some(found) => Some((found, true)),
                     None => None,
                 },
                 None => None,
             }
         }
-        Term::App(_, _) => match argument_of(term, number) {
+        Term::App(_, _) => match argument_at(term, number) {
             Some(found) => Some((found, is_bound)),
             None => None,
         },
-    }
-}
-
-/// The argument of a term with that number, from 0.
-fn argument_of(term: &Term, number: u64) -> Option<&Term>
-    ensures { option_map (λ found. tree_of found.now) result ≡ argument number (tree_of term.entry.now) }
-{
-    match term {
-        Term::Var(_) => None,
-        Term::App(_, arguments) => {
-            let index = number as usize;
-            let items = arguments.as_slice();
-            if index < items.len() {
-                Some(&items[index])
-            } else {
-                None
-            }
-        }
     }
 }
 
