@@ -257,7 +257,7 @@ fn bound_parent<'a>(parent: Option<ParentRef<'a>>, bind: &Terms) -> Result<Paren
 {
     match parent {
         Some(found) => {
-            if is_bound(bind, found.clause) {
+            if binds(bind, found.clause) {
                 Ok(found)
             } else {
                 Err(StepFault::Binding)
@@ -272,13 +272,14 @@ fn binds_parent(parent: Option<ParentRef<'_>>, bind: &Terms) -> bool
     ensures { result ≡ binds_parent bind.now (option_map parent_of parent.entry) }
 {
     match parent {
-        Some(found) => is_bound(bind, found.clause),
+        Some(found) => binds(bind, found.clause),
         None => true,
     }
 }
 
-/// Whether a binding is right for a clause.
-fn is_bound(bind: &Terms, clause: &Clause) -> bool
+/// Whether a binding is right for a clause: it has a term for each of its variables, none of them `$true`, and doesn't make it
+/// too large.
+pub fn binds(bind: &Terms, clause: &Clause) -> bool
     ensures { result ≡ binds bind.now (clause_of clause.now) }
 {
     bind.len() as u64 == clause.variable_bound()

@@ -12,7 +12,7 @@ mod rules;
 mod split;
 mod step;
 
-pub use conclude::{bound_size, conclusion};
+pub use conclude::{binds, bound_size, conclusion};
 pub use key::Key;
 pub use names::sorted_names;
 pub use parents::{LendsParents, ParentRef};

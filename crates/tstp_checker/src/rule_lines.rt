@@ -1,15 +1,12 @@
 // Lines of clauses by rules with parents.
 
-ghost use Rattle.std.specs.Prelude.{◌≡◌, ◌&&◌, ◌==◌, false, not, nat_le, map, zip, length, option_map, IfOk, IsTrue, if◌then◌else◌};
+ghost use Rattle.std.specs.Prelude.{◌≡◌, ◌&&◌, ◌==◌, false, not, map, zip, length, option_map, IfOk, IsTrue, if◌then◌else◌};
 ghost use Rattle.std.specs.List.{list_all};
-ghost use Rattle.fol_base.specs.Tree.{is_truth};
-ghost use Rattle.fol_base.specs.Term.{tree_of};
-ghost use Rattle.fol_base.specs.Clause.{clause_size, clause_eq};
+ghost use Rattle.fol_base.specs.Clause.{clause_eq};
 ghost use Rattle.fol_base.specs.Literal.{clause_of};
-ghost use Rattle.fol_base.specs.declared.limits.TheConstants.{MOST_BOUND_SYMBOLS};
 ghost use Rattle.tptp_source.specs.Shape.{tree_of as general_of};
 ghost use Rattle.kernel_steps.specs.Parents.{parent_of};
-ghost use Rattle.kernel_steps.specs.Conclusion.{binds, bound_clause, is_rule_step, verdict};
+ghost use Rattle.kernel_steps.specs.Conclusion.{is_rule_step, verdict};
 ghost use Rattle.kernel_steps.specs.Derivation.{is_component};
 ghost use Rattle.clausal_form.specs.DerivationSteps.{bindings_count};
 ghost use Rattle.clausal_form.specs.DerivationLine.{LineTree};
@@ -27,8 +24,8 @@ use crate::parts::LineParts;
 use crate::refusal::Refusal;
 use crate::sources::bindings_count;
 use crate::steps::{Kind, rule_step};
-use fol_base::{Clause, MOST_BOUND_SYMBOLS, Term, Terms, same_clause};
-use kernel_steps::{LendsParents, Line, ParentRef, Step, StepFault, bound_size, conclusion};
+use fol_base::{Clause, Terms, same_clause};
+use kernel_steps::{LendsParents, Line, ParentRef, Step, StepFault, binds, conclusion};
 use std::alloc::Global;
 use tptp_source::GeneralTerm;
 
@@ -134,27 +131,4 @@ fn is_bound(bind: &Option<Terms>, parent: Option<ParentRef<'_>>) -> bool
         Some(bind) => binds(bind, parent.clause),
         None => false,
     }
-}
-
-/// Whether a binding has a term for each variable of a clause, none of them `$true`, and doesn't make it too large.
-fn binds(bind: &Terms, clause: &Clause) -> bool
-    ensures { result ≡ binds bind.now (clause_of clause.now) }
-{
-    bind.len() as u64 == clause.variable_bound()
-        && has_no_truth(bind.as_slice())
-        && is_small(clause, bind)
-}
-
-/// Whether no term is `$true`.
-fn has_no_truth(terms: &[Term]) -> bool
-    ensures { result ≡ list_all (λ t. not (is_truth t)) (map tree_of terms.now) }
-{
-    terms.iter().all(|term| !term.is_truth())
-}
-
-/// Whether a clause under a binding isn't too large.
-fn is_small(clause: &Clause, bind: &Terms) -> bool
-    ensures { result ≡ nat_le (clause_size (bound_clause bind.now (clause_of clause.now))) MOST_BOUND_SYMBOLS }
-{
-    bound_size(&clause.literals, bind) <= MOST_BOUND_SYMBOLS
 }
