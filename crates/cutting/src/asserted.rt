@@ -28,16 +28,3 @@ fn has_negative(names: &[NameLit], number: u32) -> bool
         .iter()
         .any(|name| !name.positive && number == name.name)
 }
-
-/// Whether each number is among others.
-pub(crate) fn are_among(numbers: &[u32], others: &[u32]) -> bool
-    ensures { result ≡ is_among numbers.now others.now }
-{
-    numbers.iter().all(|number| is_listed(*number, others))
-}
-
-fn is_listed(number: u32, others: &[u32]) -> bool
-    ensures { result ≡ list_any (λ other. number == other) others.now }
-{
-    others.iter().any(|other| number == *other)
-}

@@ -9,11 +9,11 @@ ghost use Rattle.kernel_steps.specs.Derivation.{complement};
 ghost use Rattle.cutting.specs.Cutting.{IsCutOrNone};
 ghost use Rattle.cutting.specs.CutSteps.{AreCutOrNone, CutsOrNot, IsCutOfOrNone, IsCutStep, IsCutUnit};
 
-use crate::asserted::{are_among, has_asserted};
+use crate::asserted::has_asserted;
 use crate::cut_lines::{CutLines, cut_lines};
 use crate::matching::{Fitting, fit};
 use bank_clause::{BankClause, Member};
-use fol_base::{Clause, LendsLiterals, LiteralRef};
+use fol_base::{Clause, LendsLiterals, LiteralRef, are_among};
 use kernel_steps::Reduced;
 use plain_types::Mem;
 use reduction::{extend, last_number, unreduced_copy};

@@ -10,12 +10,12 @@ ghost use Rattle.rewriting.specs.Units.{AreClausesOf};
 ghost use Rattle.demodulate.specs.Normal.{IsNormalForm, kept};
 
 use crate::step::rewrite_once;
-use fol_base::Clause;
+use fol_base::{Clause, asserted_numbers};
 use kernel_steps::Reduced;
 use plain_types::Mem;
 use reduction::laws::moves_extend_reductions;
 use reduction::unreduced_copy;
-use rewriting::{Rewriters, Units, asserted_numbers};
+use rewriting::{Rewriters, Units};
 use std::alloc::Global;
 use term_bank::Bank;
 

@@ -2,5 +2,6 @@
 pub mod ClauseLemmas
 pub mod RuleLemmas
 pub mod CountLemmas
+pub mod AssertionLemmas
 pub mod MeaningLemmas
 pub mod InferenceLemmas

@@ -1,6 +1,7 @@
 // Terms, literals and clauses of first-order logic, and the definitions that the prover rests on.
 #![tactic(auto)]
 
+mod asserted;
 mod canonical_form;
 mod clause;
 mod equality;
@@ -15,6 +16,7 @@ mod substitution;
 mod term;
 mod variables;
 
+pub use asserted::{are_among, asserted_numbers};
 pub use canonical_form::{canonical, is_canonical, renumbered};
 pub use clause::{Clause, Clauses, Literal, Literals, Side, push_literal_copies};
 pub use equality::{same_clause, same_literals, same_term, same_terms};

@@ -25,4 +25,4 @@ mod usable;
 pub use members::rewritable;
 pub use searching::{Found, Rewrite, Rewriters};
 pub use units::{Units, is_unit};
-pub use usable::{asserted_numbers, is_kept};
+pub use usable::is_kept;

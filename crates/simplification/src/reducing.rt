@@ -13,10 +13,11 @@ use crate::simplifiers::Simplifiers;
 use crate::stepping::step;
 use cutting::is_tautology;
 use demodulate::laws::rewriting_ends;
+use fol_base::asserted_numbers;
 use kernel_steps::Reduced;
 use plain_types::Mem;
 use reduction::laws::moves_extend_reductions;
-use rewriting::{Rewriters, asserted_numbers};
+use rewriting::Rewriters;
 use std::alloc::Global;
 
 /// How reducing ended.

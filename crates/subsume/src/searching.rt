@@ -9,10 +9,10 @@ ghost use Rattle.bank_clause.specs.Members.{AreMembersOfUse, AreNumbersOf, IsMem
 
 use crate::lowest::Query;
 use crate::subsumers::Subsumers;
-use crate::target::{Target, asserted_numbers, lent_literals};
+use crate::target::{Target, lent_literals};
 use crate::vector::Features;
 use bank_clause::Member;
-use fol_base::Clause;
+use fol_base::{Clause, asserted_numbers};
 use plain_types::{Mem, Numbers};
 use std::alloc::Global;
 use term_bank::Bank;

@@ -15,9 +15,9 @@ ghost use Rattle.subsume.specs.Target.{AreOfUse, IsMapped, IsSubsumption, IsTarg
 
 use crate::choosing::have_partners;
 use crate::placing::place;
-use crate::target::{Target, are_among, asserted_numbers, lent_literals};
+use crate::target::{Target, lent_literals};
 use bank_clause::BankClause;
-use fol_base::{Clause, LendsLiterals, LiteralRef, Subst};
+use fol_base::{Clause, LendsLiterals, LiteralRef, Subst, are_among, asserted_numbers};
 use plain_types::Mem;
 use std::alloc::Global;
 use term_bank::Bank;

@@ -1,7 +1,6 @@
 -- One entry of the index at a term: what it gives.
 use Rattle.std.proofs.Common.{◌≡◌, ℕ, ◌<◌, ◌≤◌, ◌+◌, ◌*◌, Bool, true, false, not, ◌&&◌, List, [], ◌∷◌, map, refl, ap, sym, ◌∙◌, subst, Bor, arith}
-use Rattle.std.specs.Prelude.{filter, sum_by, Option, None, Some, IsTrue, IfSome, MatchOption, slice_get, option_map, option_and_then, if◌then◌else◌}
-use Rattle.plain_types.specs.declared.sequence.NameLit.{NameLit}
+use Rattle.std.specs.Prelude.{sum_by, Option, None, Some, IsTrue, IfSome, MatchOption, slice_get, option_map, option_and_then, if◌then◌else◌}
 use Rattle.fol_base.specs.Subsumption.{assertions, is_among}
 use Rattle.bank_clause.specs.Clause.{clause_at, side_number}
 use Rattle.bank_clause.specs.Parts.{assertion}
@@ -251,17 +250,6 @@ pub usable-is :
 usable-is ms out names n o u may is some may_is =
     ap (option_and_then (usable_clause out names n)) (sym is ∙ ap (option_map (λ (b : Bor Unit). b.now.clause)) some)
     ∙ ap (λ (b : Bool). if b then Some (clause_at u.now.clause) else None) (sym may_is)
-
-pub asserted-are : (ns : List NameLit) → map (λ (n : NameLit). n.name) (filter (λ (n : NameLit). not n.positive) ns) ≡ assertions ns
-asserted-are [] = refl
-asserted-are (n ∷ ns) = from n.positive (asserted-are ns)
-  where
-    from :
-        (b : Bool) → map (λ (k : NameLit). k.name) (filter (λ (k : NameLit). not k.positive) ns) ≡ assertions ns
-        → map (λ (k : NameLit). k.name) (if not b then n ∷ filter (λ (k : NameLit). not k.positive) ns else filter (λ (k : NameLit). not k.positive) ns)
-        ≡ (if b then assertions ns else (n.name ∷ assertions ns))
-    from true h = h
-    from false h = ap (λ ks. n.name ∷ ks) h
 
 pub numbers-asserted : (ns : List ℕ) → assertions (map assertion ns) ≡ ns
 numbers-asserted [] = refl

@@ -1,9 +1,8 @@
 -- From what a search finds to subsumption.
-use Rattle.std.proofs.Common.{◌≡◌, ◌↔◌, ℕ, Bool, true, false, Option, None, Some, cond, List, [], ◌∷◌, ◌++◌, map, length, refl, ap, sym, ◌∙◌, subst}
+use Rattle.std.proofs.Common.{◌≡◌, ◌↔◌, ℕ, Bool, true, false, Option, None, Some, List, [], ◌∷◌, map, length, refl, ap, sym, ◌∙◌, subst}
 use Rattle.std.specs.Prelude.{IsTrue, IfSome, is_some}
 use Rattle.std.specs.List.{list_all}
-use Rattle.std.proofs.lemmas.Bool.{and_parts, and_from, true≢false, cond-true, cond-false}
-use Rattle.plain_types.specs.declared.sequence.NameLit.{NameLit}
+use Rattle.std.proofs.lemmas.Bool.{and_parts, and_from, true≢false}
 use Rattle.fol_base.specs.Tree.{Tree}
 use Rattle.fol_base.specs.Instance.{Substitution, substitution}
 use Rattle.fol_base.specs.Canonical.{bound_of, terms_from}
@@ -99,17 +98,3 @@ converted ns ms gs hs ls ks ds es found a b c d h =
     (subst (λ xs. IsFoundFor ks ds (Maps ms ks xs ds) found) c
     (subst (λ xs. IsFoundFor xs ds (Maps ms xs gs ds) found) b
     (subst (λ xs. IsFoundFor ls ds (Maps xs ls gs ds) found) a h)))
-
--- the assertions of one name more
-pub one_asserted : (ns : List NameLit) (n : NameLit) → n.positive ≡ false → assertions (ns ++ n ∷ []) ≡ assertions ns ++ n.name ∷ []
-one_asserted [] n h = cond-false n.positive [] (n.name ∷ []) h
-one_asserted (m ∷ ns) n h =
-    ap (λ xs. cond m.positive xs (m.name ∷ xs)) (one_asserted ns n h) ∙ either m.positive m.name (assertions ns) n.name
-  where
-    either : (b : Bool) (m : ℕ) (xs : List ℕ) (k : ℕ) → cond b (xs ++ k ∷ []) (m ∷ xs ++ k ∷ []) ≡ cond b xs (m ∷ xs) ++ k ∷ []
-    either true m xs k = refl
-    either false m xs k = refl
-
-pub none_asserted : (ns : List NameLit) (n : NameLit) → n.positive ≡ true → assertions (ns ++ n ∷ []) ≡ assertions ns
-none_asserted [] n h = cond-true n.positive [] (n.name ∷ []) h
-none_asserted (m ∷ ns) n h = ap (λ xs. cond m.positive xs (m.name ∷ xs)) (none_asserted ns n h)
