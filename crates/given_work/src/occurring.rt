@@ -3,9 +3,7 @@
 ghost use Rattle.std.specs.Prelude.{◌++◌, ◌≡◌, ◌<◌, map, IfOk};
 ghost use Rattle.fol_base.specs.Clause.{literal_size};
 ghost use Rattle.fol_base.specs.Lent.{lent_of};
-ghost use Rattle.fol_base.specs.Order.{tree_greater};
 ghost use Rattle.fol_base.specs.Term.{tree_of};
-ghost use Rattle.fol_base.specs.Tree.{tree_size};
 ghost use Rattle.fol_base.specs.declared.limits.TheConstants.{SIZE_LIMIT};
 ghost use Rattle.disc_tree.specs.Entries.{KeepsAll};
 ghost use Rattle.given_work.specs.Occurring.{ListsLiterals, ListsSide, ListsTerm, ListsTerms, numbers_with_instances};
@@ -14,7 +12,7 @@ ghost use Rattle.unit_index.specs.Indexed.{KeepsOthers};
 use bank_clause::BankLiterals;
 use disc_tree::DiscTree;
 use fol_base::{LendsLiterals, LiteralRef, Term};
-use kbo_order::{Unbound, greater_under};
+use kbo_order::is_greater;
 use plain_types::Mem;
 
 /// Adds the sides of literals and the terms in them, but for the variables in them, with the number of a clause.
@@ -142,13 +140,4 @@ pub(crate) fn push_with_instances(
     terms.push_instances(literal.left, numbers)?;
     terms.push_instances(literal.right, numbers)?;
     Ok(())
-}
-
-/// Whether a term is greater than another one.
-fn is_greater(one: &Term, other: &Term) -> bool
-    requires one { tree_size (tree_of one.now) < SIZE_LIMIT }
-    requires other { tree_size (tree_of other.now) < SIZE_LIMIT }
-    ensures { result ≡ tree_greater (tree_of one.now) (tree_of other.now) }
-{
-    greater_under(one, &Unbound, other, &Unbound)
 }

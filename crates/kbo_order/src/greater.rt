@@ -5,11 +5,12 @@ ghost use Rattle.fol_base.specs.Tree.{tree_size};
 ghost use Rattle.fol_base.specs.Instance.{instance};
 ghost use Rattle.fol_base.specs.Term.{tree_of};
 ghost use Rattle.fol_base.specs.Order.{tree_greater};
+ghost use Rattle.fol_base.specs.declared.limits.TheConstants.{SIZE_LIMIT};
 ghost use Rattle.kbo_order.specs.OneWay.{IsGreaterInBlock};
 
 use crate::balance::Balance;
 use crate::limits::COMPARED_SIZE_LIMIT;
-use crate::reading::head;
+use crate::reading::{Unbound, head};
 use crate::terms::{VARIABLES, compare_in_block};
 use fol_base::{LendsTerms, Term};
 
@@ -49,6 +50,15 @@ pub fn greater_at_equal_sizes<S: LendsTerms, T: LendsTerms>(
         (instance (T.meaning right_bind.now) (tree_of right.now)) }
 {
     greater_in_blocks(left, left_bind, right, right_bind, true)
+}
+
+/// Whether a term is greater than another one, both as they stand.
+pub fn is_greater(one: &Term, other: &Term) -> bool
+    requires one { tree_size (tree_of one.now) < SIZE_LIMIT }
+    requires other { tree_size (tree_of other.now) < SIZE_LIMIT }
+    ensures { result ≡ tree_greater (tree_of one.now) (tree_of other.now) }
+{
+    greater_under(one, &Unbound, other, &Unbound)
 }
 
 /// One walk for each block of variables that has one of theirs, while the answer is yes.

@@ -38,7 +38,7 @@ mod walk;
 
 pub use clauses::{compare_clauses, compare_clauses_under};
 pub use cmp::Cmp;
-pub use greater::{greater_at_equal_sizes, greater_under};
+pub use greater::{greater_at_equal_sizes, greater_under, is_greater};
 pub use limits::COMPARED_SIZE_LIMIT;
 pub use literals::{compare_literals, compare_literals_under};
 pub use reading::Unbound;

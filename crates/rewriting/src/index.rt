@@ -2,10 +2,7 @@
 
 ghost use Rattle.std.specs.Prelude.{◌≡◌, ◌<◌, ℕ, ◌==◌, IfOk, IsTrue};
 ghost use Rattle.std.specs.List.{list_any, list_all};
-ghost use Rattle.fol_base.specs.Tree.{tree_size};
-ghost use Rattle.fol_base.specs.Term.{tree_of};
 ghost use Rattle.fol_base.specs.Clause.{literal_size};
-ghost use Rattle.fol_base.specs.Order.{tree_greater};
 ghost use Rattle.fol_base.specs.Sides.{side_of};
 ghost use Rattle.fol_base.specs.declared.limits.TheConstants.{SIZE_LIMIT};
 ghost use Rattle.fol_base.specs.Lent.{lent_of};
@@ -16,8 +13,8 @@ ghost use Rattle.bank_clause.specs.Clause.{side_number};
 ghost use Rattle.rewriting.specs.Index.{KeepsOthers};
 
 use disc_tree::DiscTree;
-use fol_base::{LiteralRef, Side, Term, push_variables};
-use kbo_order::{Unbound, greater_under};
+use fol_base::{LiteralRef, Side, push_variables};
+use kbo_order::is_greater;
 use plain_types::Mem;
 use std::alloc::Global;
 
@@ -76,15 +73,6 @@ pub(crate) fn orient(alloc: Global, equation: LiteralRef<'_>) -> Mem<Orientation
         left: are_listed(&right, &left) && !is_greater(equation.right, equation.left),
         right: are_listed(&left, &right) && !is_greater(equation.left, equation.right),
     })
-}
-
-/// Whether a term is greater than another one.
-fn is_greater(one: &Term, other: &Term) -> bool
-    requires one { tree_size (tree_of one.now) < SIZE_LIMIT }
-    requires other { tree_size (tree_of other.now) < SIZE_LIMIT }
-    ensures { result ≡ tree_greater (tree_of one.now) (tree_of other.now) }
-{
-    greater_under(one, &Unbound, other, &Unbound)
 }
 
 /// Whether each variable of a list is in another one.

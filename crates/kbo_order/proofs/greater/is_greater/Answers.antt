@@ -5,7 +5,7 @@ use Rattle.fol_base.specs.Order.{tree_greater}
 use Rattle.fol_base.specs.Term.{tree_of}
 use Rattle.kbo_order.specs.declared.limits.TheConstants.{COMPARED_SIZE_LIMIT}
 use Rattle.kbo_order.proofs.AboutReading.ReadingLemmas.{instance-itself}
-use Rattle.given_work.proofs.occurring.is_greater.Goals as goal
+use Rattle.kbo_order.proofs.greater.is_greater.Goals as goal
 
 pub greater_under-requires-clause-left_size : goal.greater_under-requires-clause-left_size
 greater_under-requires-clause-left_size c =
