@@ -1,13 +1,14 @@
 // The symbols that a form has beyond its problem's: the prefixes of their names, the naming symbols and the spare constant.
 
-ghost use Rattle.std.specs.Prelude.{◌≡◌, ◌+◌, codes, IfOk};
+ghost use Rattle.std.specs.Prelude.{◌≡◌, codes, IfOk};
 ghost use Rattle.std.specs.List.{list_any};
 ghost use Rattle.signature.specs.Prefix.{fresh_prefix_of};
 ghost use Rattle.signature.specs.Form.{AreUnused, is_constant};
 ghost use Rattle.clausal_form.specs.Symbols.{with_names, with_spare};
 
-use plain_types::{Mem, NoMemory, Text};
+use plain_types::{Mem, Text};
 use signature::{Signature, Symbol, SymbolKind, fresh_prefix};
+use skolem::number_after;
 use std::alloc::Global;
 
 /// The beginnings of the names that a form makes, with which no name of the problem begins.
@@ -81,11 +82,4 @@ fn is_a_constant(symbol: &Symbol) -> bool
         SymbolKind::Predicate => false,
         SymbolKind::Function => symbol.arity == 0,
     }
-}
-
-/// The next number, where there is one.
-fn number_after(number: u32) -> Mem<u32>
-    ensures { IfOk result (λ next. next ≡ number + 1) }
-{
-    number.checked_add(1).ok_or(NoMemory)
 }

@@ -1,10 +1,10 @@
 // The hash of a clause, by which the register finds it.
 
 ghost use Rattle.std.specs.Prelude.{◌≡◌, fold};
-ghost use Rattle.term_bank.specs.Hash.{mixed};
 ghost use Rattle.pool_core.specs.ClauseHash.{literal_hash, clause_hash};
 
 use bank_clause::{BankClause, BankLit};
+use term_bank::mix;
 
 /// A hash of a clause's signs and of the numbers of its sides: clauses that are equal by numbers have one. Names don't count.
 pub(crate) fn clause_hash(clause: &BankClause) -> u64
@@ -30,14 +30,4 @@ fn literal_hash(hash: u64, literal: &BankLit) -> u64
     let signed = mix(hash, u64::from(literal.positive));
     let left = mix(signed, literal.left.number());
     mix(left, literal.right.number())
-}
-
-/// A step of the hash, as in that of a term.
-fn mix(hash: u64, value: u64) -> u64
-    ensures { result ≡ mixed hash value }
-{
-    let step = hash
-        .wrapping_mul(6_364_136_223_846_793_005)
-        .wrapping_add(value);
-    step ^ (step >> 32)
 }

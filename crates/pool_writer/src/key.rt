@@ -8,7 +8,7 @@ use fol_base::{Position, Side};
 use kernel_steps::Key;
 use plain_types::{Mem, Text};
 use std::alloc::Global;
-use tstp_writer::Page;
+use tstp_writer::{Page, push_chosen};
 
 /// The text of an inference's name, as `para(3,0,left,5,1,right,[0,1])`, `refl(3,0)` or `factor(3,0,left,1,left)`. A clause that was
 /// replaced is no inference: its name has no text.
@@ -57,7 +57,7 @@ fn push_key(page: &mut Page, key: &Key) -> Mem<()>
             page.bytes(b"factor(")?;
             push_clause_side(page, *clause, *becomes, *becomes_side)?;
             page.bytes(b",")?;
-            push_side(page, *other, *other_side)?;
+            push_chosen(page, *other, *other_side)?;
             page.bytes(b")")
         }
         Key::Replaced(_) => Ok(()),
@@ -71,7 +71,7 @@ fn push_clause_side(page: &mut Page, clause: u32, literal: u64, side: Side) -> M
 {
     page.number(u64::from(clause))?;
     page.bytes(b",")?;
-    push_side(page, literal, side)
+    push_chosen(page, literal, side)
 }
 
 /// Adds the numbers of a clause and of a literal of it.
@@ -81,17 +81,6 @@ fn push_literal(page: &mut Page, clause: u32, literal: u64) -> Mem<()>
     page.number(u64::from(clause))?;
     page.bytes(b",")?;
     page.number(literal)
-}
-
-/// Adds a literal's number and a side of it.
-fn push_side(page: &mut Page, literal: u64, side: Side) -> Mem<()>
-    ensures { IfOk result (λ _. page.new ≡ page.old ++ (decimal literal ++ codes "," ++ side_word side)) }
-{
-    page.number(literal)?;
-    page.bytes(match side {
-        Side::Left => b",left",
-        Side::Right => b",right",
-    })
 }
 
 /// Adds a place between brackets.

@@ -23,4 +23,4 @@ pub use matrix::{Matrices, Matrix};
 pub use name::{VariableName, VariableRef};
 pub use outline::largest_clause;
 pub use progress::made_in_order;
-pub use symbols::add_skolem_symbols;
+pub use symbols::{add_skolem_symbols, number_after};

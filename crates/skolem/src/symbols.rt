@@ -53,8 +53,8 @@ fn push_symbols(
     Ok(number)
 }
 
-/// The next number, where there is one.
-fn number_after(number: u32) -> Mem<u32>
+/// The next number, where there is one; else want of memory, since no more symbols fit.
+pub fn number_after(number: u32) -> Mem<u32>
     ensures { IfOk result (λ next. next ≡ number + 1) }
 {
     number.checked_add(1).ok_or(NoMemory)

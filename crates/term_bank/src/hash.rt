@@ -34,7 +34,7 @@ fn terms_hash(hash: u64, terms: &[Term]) -> u64
 
 /// A step of the hash: one of the MMIX generator (Knuth, 1999), of which the upper half goes into the lower one. Without that a hash
 /// would be a polynomial modulo 2^64, and the Thue-Morse words of 2^11 letters are equal under all of these.
-fn mix(hash: u64, value: u64) -> u64
+pub fn mix(hash: u64, value: u64) -> u64
     ensures { result ≡ mixed hash value }
 {
     let step = hash

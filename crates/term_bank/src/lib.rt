@@ -12,7 +12,7 @@ mod table;
 pub use bank::Bank;
 #[doc(hidden)]
 pub use chains::{Chains, Entry};
-pub use hash::term_hash;
+pub use hash::{mix, term_hash};
 pub use literal::BankLit;
 pub use reference::TermRef;
 #[doc(hidden)]

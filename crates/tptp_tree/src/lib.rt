@@ -15,7 +15,7 @@ pub use equality::same_formula;
 pub use file_name::FileName;
 pub use formula::{Formula, FormulaBox, Formulas};
 pub use limits::{MOST_DERIVATION_NESTING, MOST_NESTING, MOST_PRINTED_NESTING, MOST_PROBLEM_SIZE};
-pub use print::{print_formula, print_formula_name, print_name, push_formula_name};
+pub use print::{is_bare, print_formula, print_formula_name, print_name, push_formula_name};
 pub use problem::{Annotated, AnnotatedList, Problem};
 pub use role::Role;
 pub use term::{TreeTerm, TreeTerms};

@@ -168,7 +168,7 @@ fn is_joined(formula: &Formula) -> bool
 }
 
 /// Whether a formula stands behind `~` without parentheses.
-fn is_bare(formula: &Formula) -> bool
+pub fn is_bare(formula: &Formula) -> bool
     ensures { result ≡ bare (formula_of formula.now) }
 {
     match formula {

@@ -29,8 +29,8 @@ fn push_side(page: &mut Page, side: Side) -> Mem<()>
     }
 }
 
-/// Adds a literal's number and its side.
-fn push_chosen(page: &mut Page, index: u64, side: Side) -> Mem<()>
+/// Adds a literal's number and the word for a side of it, with a comma between them.
+pub fn push_chosen(page: &mut Page, index: u64, side: Side) -> Mem<()>
     ensures { IfOk result (λ _. page.new ≡ page.old ++ (decimal index ++ codes "," ++ side_word side)) }
 {
     page.number(index)?;

@@ -18,6 +18,7 @@ mod text;
 mod write;
 
 pub use clauses::push_clause;
+pub use items::push_chosen;
 pub use lines::push_formula_name;
 pub use needed::cone;
 pub use page::Page;

@@ -5,7 +5,7 @@ ghost use Rattle.fol_base.specs.Literal.{clause_of};
 ghost use Rattle.tptp_token.specs.Spelling.{is_lower_word};
 ghost use Rattle.tptp_tree.specs.Entries.{language_word, role_word};
 ghost use Rattle.tptp_tree.specs.Formula.{negation};
-ghost use Rattle.tptp_tree.specs.Printing.{is_bare as bare, formula_text};
+ghost use Rattle.tptp_tree.specs.Printing.{formula_text};
 ghost use Rattle.tptp_tree.specs.Shape.{formula_of, entry_of};
 ghost use Rattle.tptp_source.specs.Sources.{file_source};
 ghost use Rattle.tstp_writer.specs.SourceTexts.{general_text, name_term, source_text};
@@ -22,7 +22,7 @@ use crate::sources::push_source;
 use kernel_steps::{Line, Step};
 use plain_types::Mem;
 use std::alloc::Global;
-use tptp_tree::{Annotated, Formula, Role, print_formula};
+use tptp_tree::{Annotated, Formula, Role, is_bare, print_formula};
 
 /// Adds an annotated formula up to its role.
 fn push_head(page: &mut Page, clause: bool, number: u64, role: Role) -> Mem<()>
@@ -67,16 +67,6 @@ fn push_formula(alloc: Global, page: &mut Page, formula: &Formula) -> Mem<()>
 {
     let text = print_formula(alloc, formula)?;
     page.bytes(text.as_slice())
-}
-
-/// Whether a formula stands behind `~` without parentheses.
-fn is_bare(formula: &Formula) -> bool
-    ensures { result ≡ bare (formula_of formula.now) }
-{
-    matches!(
-        formula,
-        Formula::True | Formula::False | Formula::Pred(_, _) | Formula::Not(_)
-    )
 }
 
 /// Adds the negation of a formula.
