@@ -4,8 +4,8 @@ ghost use Rattle.std.specs.Prelude.{◌≡◌, ◌++◌, [], map, IfOk, IsTrue, 
 ghost use Rattle.plain_types.specs.Names.{has_name, without, can_resolve, resolvent};
 ghost use Rattle.kernel_steps.specs.Names.{signed, are_sorted, with_name, with_names, sorted_names};
 
-use crate::names::{has_name, opposite, sort_names};
-use plain_types::{Mem, NameLit};
+use crate::names::{has_name, sort_names};
+use plain_types::{Mem, NameLit, opposite};
 use std::alloc::Global;
 use std::collections::HashSet;
 use std::marker::Model;

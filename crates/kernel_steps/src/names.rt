@@ -1,21 +1,11 @@
 // Lists of signed names: sorted, each name once, as clauses have them.
 
 ghost use Rattle.std.specs.Prelude.{◌≡◌, ◌++◌, IfOk};
-ghost use Rattle.plain_types.specs.Names.{has_name, opposite};
+ghost use Rattle.plain_types.specs.Names.{has_name};
 ghost use Rattle.kernel_steps.specs.Names.{are_sorted, name_rank, sorted_names};
 
 use plain_types::{Mem, NameLit};
 use std::alloc::Global;
-
-/// The name with the other sign.
-pub fn opposite(name: NameLit) -> NameLit
-    ensures { result ≡ opposite name }
-{
-    NameLit {
-        positive: !name.positive,
-        name: name.name,
-    }
-}
 
 /// Whether a signed name stands in the list.
 pub(crate) fn has_name(names: &[NameLit], name: NameLit) -> bool

@@ -17,11 +17,11 @@ ghost use Rattle.kernel_steps.specs.Parents.{parent_of, all_there};
 ghost use Rattle.kernel_steps.specs.Split.{has_number, is_part, has_all_below, share_out, literals_at, share_no_variables, share_no_numbers, renamed, defines, are_defined, can_split, opposites};
 ghost use Rattle.kernel_steps.specs.Conclusion.{split_from, verdict_of, IsAnswerTo};
 
-use crate::names::{opposite, sort_names};
+use crate::names::sort_names;
 use crate::parents::{LendsParents, ParentRef};
 use crate::step::StepFault;
 use fol_base::{Clause, Literal, LiteralRef, Literals, Term, push_variables};
-use plain_types::{Mem, NameLit, Names, Numbers};
+use plain_types::{Mem, NameLit, Names, Numbers, opposite};
 use std::alloc::Global;
 use std::collections::{HashMap, HashSet};
 

@@ -4,10 +4,12 @@
 pub mod laws;
 mod limits;
 mod memory;
+mod names;
 mod sequence;
 
 pub use limits::{DEFAULT_INFERENCES, MOST_INFERENCES};
 pub use memory::{Mem, NoMemory};
+pub use names::opposite;
 pub use sequence::{NameLit, Names, Numbers, Parts, Sequence, Text, Texts};
 
 #[cfg(test)]

@@ -11,11 +11,11 @@ ghost use Rattle.sat_core.specs.Conflict.{AddsOthers, OthersAreFalse, AreWithin,
 
 use crate::answer::Link;
 use crate::clauses::Clauses;
-use crate::literals::{is_other, opposite};
+use crate::literals::is_other;
 use crate::marks::Marks;
 use crate::minimise::list_marked;
 use crate::trail::{Assigned, Trail};
-use plain_types::{Mem, NameLit};
+use plain_types::{Mem, NameLit, opposite};
 use std::alloc::Global;
 
 /// A decision that is to be turned.

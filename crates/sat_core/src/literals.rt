@@ -1,22 +1,12 @@
 // Literals of names.
 
 ghost use Rattle.std.specs.Prelude.{◌≡◌, ◌+◌, ◌*◌, ◌<◌};
-ghost use Rattle.plain_types.specs.Names.{opposite, same_name};
+ghost use Rattle.plain_types.specs.Names.{same_name};
 ghost use Rattle.sat_core.specs.Literals.{code_of};
 ghost use Rattle.sat_core.specs.Conflict.{is_other};
 
 use plain_types::NameLit;
 use std::marker::Model;
-
-/// The name with the other sign.
-pub fn opposite(literal: NameLit) -> NameLit
-    ensures { result ≡ opposite literal }
-{
-    NameLit {
-        positive: !literal.positive,
-        name: literal.name,
-    }
-}
 
 /// Whether the literal isn't the one that a clause implies.
 pub fn is_other(implied: Option<NameLit>, literal: NameLit) -> bool

@@ -12,10 +12,9 @@ ghost use Rattle.sat_core.specs.Conflict.{AreWithin, IsResolving, IsReduced, is_
 use crate::analysis::Conflict;
 use crate::answer::Link;
 use crate::clauses::Clauses;
-use crate::literals::opposite;
 use crate::marks::Marks;
 use crate::trail::Trail;
-use plain_types::{Mem, NameLit};
+use plain_types::{Mem, NameLit, opposite};
 
 /// Whether the literal is marked and its place within a bound.
 fn is_left(trail: &Trail, marks: &Marks, literal: NameLit, bound: usize) -> bool

@@ -7,8 +7,8 @@ ghost use Rattle.sat_core.specs.declared.values.Value.TheVariants.{Open, True, F
 ghost use Rattle.sat_core.specs.Literals.{code_of};
 ghost use Rattle.sat_core.specs.Values.{value_at};
 
-use crate::literals::{CodedLiteral, code, opposite};
-use plain_types::{Mem, NameLit};
+use crate::literals::{CodedLiteral, code};
+use plain_types::{Mem, NameLit, opposite};
 use std::alloc::Global;
 
 /// What is known of a literal.

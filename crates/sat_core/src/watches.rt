@@ -14,9 +14,9 @@ ghost use Rattle.sat_core.specs.Copies.{IsAlone, IsAloneAt, IsVisit};
 use crate::clauses::Clauses;
 use crate::copies::{ClauseCopy, Look};
 use crate::forgetting::is_kept;
-use crate::literals::{CodedLiteral, code, opposite};
+use crate::literals::{CodedLiteral, code};
 use crate::trail::{Assigned, Trail};
-use plain_types::{Mem, NameLit};
+use plain_types::{Mem, NameLit, opposite};
 use std::alloc::Global;
 use std::mem;
 
