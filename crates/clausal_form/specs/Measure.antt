@@ -2,7 +2,7 @@
 use Rattle.std.specs.Prelude.{ℕ, zero, suc, ◌+◌, ◌*◌, max, List, [], ◌∷◌, length, sum_by}
 use Rattle.fol_base.specs.Clause.{literal_size}
 use Rattle.signature.specs.Clausal.{Literals}
-use Rattle.formula_nnf.specs.CappedCount.{capped}
+use Rattle.plain_types.specs.Capped.{capped}
 use Rattle.clausal_form.specs.declared.measure.Measure.{Measure}
 
 -- the symbols of one clause

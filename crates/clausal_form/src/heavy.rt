@@ -12,7 +12,7 @@ ghost use Rattle.fol_base.specs.declared.limits.TheConstants.{MOST_SYMBOLS};
 ghost use Rattle.formula_nnf.specs.Shape.{nnf_tree};
 ghost use Rattle.skolem.specs.Heavy.{form_has_clauses, some_form_has_clauses, all_forms_have_clauses};
 ghost use Rattle.clausal_form.specs.Heavy.{heavy_form, some_heavy_form, written_total, written_totals};
-ghost use Rattle.formula_nnf.specs.CappedCount.{capped};
+ghost use Rattle.plain_types.specs.Capped.{capped};
 
 use fol_base::{MOST_FORM_SYMBOLS, MOST_SYMBOLS};
 use formula_nnf::Nnf;

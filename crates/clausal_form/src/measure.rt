@@ -1,7 +1,7 @@
 // How many clauses a list has and how large they are, counted without making them.
 
 ghost use Rattle.std.specs.Prelude.{◌≡◌, ◌+◌, [], ◌∷◌, IfOk};
-ghost use Rattle.formula_nnf.specs.CappedCount.{capped};
+ghost use Rattle.plain_types.specs.Capped.{capped};
 ghost use Rattle.clausal_form.specs.Measure.{measure_of, capped_measure, capped_measured, sum_measure, product_measure, product_largest};
 
 use plain_types::{Mem, NoMemory};

@@ -8,7 +8,8 @@ use Rattle.tptp_tree.specs.declared.formula.Formula.{Formula}
 use Rattle.signature.proofs.OccurrenceLemmas.{drop-item, drop-end}
 use Rattle.signature.specs.Clausal.{is_large_count}
 use Rattle.formula_nnf.specs.ClauseCount.{ClauseCount, sum_count, product_count, joined_count, constant_count, clause_counts, listed_counts, product_counts, several_counts}
-use Rattle.formula_nnf.specs.CappedCount.{capped, capped_count, total_count}
+use Rattle.plain_types.specs.Capped.{capped}
+use Rattle.formula_nnf.specs.CappedCount.{capped_count, total_count}
 
 same : (a b : ClauseCount) → a.clauses ≡ b.clauses → a.defining ≡ b.defining → a ≡ b
 same a b h k = λ i. record { clauses = h i; defining = k i }

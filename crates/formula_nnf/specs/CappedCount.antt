@@ -1,14 +1,12 @@
 -- Clause counts that stop at u64's last value.
-use Rattle.std.specs.Prelude.{ℕ, ◌+◌, ◌-◌, ◌^◌, min}
+use Rattle.std.specs.Prelude.{ℕ, ◌+◌}
+use Rattle.plain_types.specs.Capped.{capped}
 use Rattle.formula_nnf.specs.declared.clauses.Count.{Count}
 use Rattle.formula_nnf.specs.ClauseCount.{ClauseCount}
 
 -- the count that the program's is
 abbrev pub count_of : Count → ClauseCount
 count_of k = record { clauses = k.clauses; defining = k.defining }
-
-abbrev pub capped : ℕ → ℕ
-capped n = min n (2 ^ 64 - 1)
 
 -- each of the two stops there
 abbrev pub capped_count : ClauseCount → ClauseCount

@@ -1,5 +1,6 @@
 -- Sizes of instances, from the sizes of the cells.
-use Rattle.std.specs.Prelude.{◌≡◌, ℕ, ◌+◌, ◌-◌, ◌<◌, ◌≤◌, ◌^◌, min, List, length, slice_index}
+use Rattle.std.specs.Prelude.{◌≡◌, ℕ, ◌+◌, ◌<◌, ◌≤◌, List, length, slice_index}
+use Rattle.plain_types.specs.Capped.{capped}
 use Rattle.fol_base.specs.Tree.{variable, tree_size, trees_size}
 use Rattle.unifier.specs.declared.cells.Cell.{Cell}
 use Rattle.unifier.specs.declared.cells.Cell.TheVariants.{Variable, Application, NoTrees, TreeThen}
@@ -11,18 +12,14 @@ abbrev pub value_size : Value → ℕ
 value_size (tree t) = tree_size t
 value_size (trees ts) = trees_size ts
 
--- a size that stops at u64's last value
-abbrev pub stopped : ℕ → ℕ
-stopped n = min n (2 ^ 64 - 1)
-
 -- the sizes of the first cells; more may follow
 pub record AreSizes (cells : List Cell) (sizes : List ℕ) (n : ℕ) : Type 0 where
   pub count : n ≤ length sizes
-  pub each : (k : ℕ) → k < n → slice_index sizes k ≡ stopped (value_size (value_at variable cells k))
+  pub each : (k : ℕ) → k < n → slice_index sizes k ≡ capped (value_size (value_at variable cells k))
 
 -- the size of a cell from those of its parts
 abbrev pub size_by : List ℕ → Cell → ℕ
 size_by sizes (Variable w) = 1
-size_by sizes (Application f l) = stopped (slice_index sizes l + 1)
+size_by sizes (Application f l) = capped (slice_index sizes l + 1)
 size_by sizes NoTrees = 0
-size_by sizes (TreeThen a b) = stopped (slice_index sizes a + slice_index sizes b)
+size_by sizes (TreeThen a b) = capped (slice_index sizes a + slice_index sizes b)

@@ -10,7 +10,7 @@ ghost use Rattle.fol_base.specs.Ground.{literals_instance};
 ghost use Rattle.term_bank.specs.Literal.{AreLiteralsOf, literals_at};
 ghost use Rattle.unifier.specs.SolvedForm.{substitution_of};
 ghost use Rattle.unifier.specs.Renaming.{AreRenamed, fits};
-ghost use Rattle.unifier.specs.Sizes.{stopped};
+ghost use Rattle.plain_types.specs.Capped.{capped};
 
 use crate::solution::Solution;
 use fol_base::{SIZE_LIMIT, Side, Subst, Term};
@@ -97,7 +97,7 @@ impl Bindings {
     pub fn instance_size(&self, bank: &Bank, side: Side, literals: &[BankLit]) -> Mem<u64>
         requires { AreLiteralsOf bank.now literals.now }
         ensures { IfOk result (λ size. size
-            ≡ stopped (sum_by literal_size (literals_instance (substitution_of self.now side) (literals_at literals.now)))) }
+            ≡ capped (sum_by literal_size (literals_instance (substitution_of self.now side) (literals_at literals.now)))) }
     {
         self.solution.instance_size(bank, side, literals)
     }
@@ -105,7 +105,7 @@ impl Bindings {
     /// The size of a side's term after the unifier, as `instance_size` tells it of literals.
     pub fn term_size(&self, side: Side, term: &Term) -> Mem<u64>
         ensures { IfOk result (λ size. size
-            ≡ stopped (tree_size (instance (substitution_of self.now side) (tree_of term.now)))) }
+            ≡ capped (tree_size (instance (substitution_of self.now side) (tree_of term.now)))) }
     {
         self.solution.size_of(side, term)
     }

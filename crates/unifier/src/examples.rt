@@ -1,6 +1,6 @@
 // Worked examples of the definitions: each is a clause of a function with an empty body.
 
-ghost use Rattle.std.specs.Prelude.{◌≡◌, ◌+◌, ◌-◌, ◌/◌, ◌^◌, [], ◌∷◌, true, false, None, Some, IsTrue, IsFalse};
+ghost use Rattle.std.specs.Prelude.{◌≡◌, ◌/◌, [], ◌∷◌, true, false, None, Some, IsTrue, IsFalse};
 ghost use Rattle.fol_base.specs.Clause.{literal_instance, literal_size};
 ghost use Rattle.fol_base.specs.declared.clause.Side.TheVariants.{Left, Right};
 ghost use Rattle.fol_base.specs.Examples.{x, a, b, f₂, p, equation, is_predicate, all_a};
@@ -8,7 +8,6 @@ ghost use Rattle.unifier.specs.SolvedForm.{code_of, substitution_of};
 ghost use Rattle.unifier.specs.Bindings.{IsUnified, LeavesOthers, occurs};
 ghost use Rattle.unifier.specs.Matching.{IsMatched, NoMatcher, are_below, with_further};
 ghost use Rattle.unifier.specs.Renaming.{AreRenamed, fits, is_within, renamed};
-ghost use Rattle.unifier.specs.Sizes.{stopped};
 ghost use Rattle.unifier.specs.Laws.{AreFunctionPairs, are_of_one_kind};
 ghost use Rattle.unifier.specs.SharedLaws.{IsAfterBoth};
 ghost use Rattle.unifier.specs.Additions.{IsSubtermOf, is_variable_of, stands};
@@ -41,8 +40,6 @@ pub fn matcher_examples()
 /// Sizes of instances, and kinds of terms.
 pub fn size_examples()
     ensures instance_of_literal { literal_size (literal_instance all_a (equation (f₂ (x 0) b) b)) ≡ 4 }
-    ensures small_size { stopped 4 ≡ 4 }
-    ensures large_size { stopped (2 ^ 64) ≡ 2 ^ 64 - 1 }
     ensures function_terms { IsTrue (are_of_one_kind is_predicate (x 0) a) }
     ensures predicate_terms { IsTrue (are_of_one_kind is_predicate (p a).left (p b).left) }
     ensures predicate_and_truth { IsTrue (are_of_one_kind is_predicate (p a).left (p b).right) }

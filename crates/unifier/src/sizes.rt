@@ -10,7 +10,8 @@ ghost use Rattle.term_bank.specs.Literal.{AreLiteralsOf, literals_at};
 ghost use Rattle.unifier.specs.Cells.{IsAfterParts};
 ghost use Rattle.unifier.specs.SolvedForm.{substitution_of};
 ghost use Rattle.unifier.specs.Solution.{solved_form};
-ghost use Rattle.unifier.specs.Sizes.{AreSizes, size_by, stopped};
+ghost use Rattle.plain_types.specs.Capped.{capped};
+ghost use Rattle.unifier.specs.Sizes.{AreSizes, size_by};
 
 use crate::cells::Cell;
 use crate::layout::code;
@@ -27,7 +28,7 @@ impl Solution {
     pub fn instance_size(&self, bank: &Bank, side: Side, literals: &[BankLit]) -> Mem<u64>
         requires { AreLiteralsOf bank.now literals.now }
         ensures { IfOk result (λ size. size
-            ≡ stopped (sum_by literal_size (literals_instance (substitution_of (solved_form self.now) side) (literals_at literals.now)))) }
+            ≡ capped (sum_by literal_size (literals_instance (substitution_of (solved_form self.now) side) (literals_at literals.now)))) }
     {
         if self.cells.len() <= FEW_CELLS {
             return Ok(self.literals_size(&self.few_sizes(), bank, side, literals));
@@ -39,7 +40,7 @@ impl Solution {
     /// The size of a side's term after the unifier, as `Bindings::term_size` has it.
     pub fn size_of(&self, side: Side, term: &Term) -> Mem<u64>
         ensures { IfOk result (λ size. size
-            ≡ stopped (tree_size (instance (substitution_of (solved_form self.now) side) (tree_of term.now)))) }
+            ≡ capped (tree_size (instance (substitution_of (solved_form self.now) side) (tree_of term.now)))) }
     {
         if self.cells.len() <= FEW_CELLS {
             return Ok(self.term_size(&self.few_sizes(), side, term));
@@ -77,7 +78,7 @@ impl Solution {
         requires sizes { AreSizes self.now.cells.items sizes.now (length self.now.cells.items) }
         requires literals { AreLiteralsOf bank.now literals.now }
         ensures { result
-            ≡ stopped (sum_by literal_size (literals_instance (substitution_of (solved_form self.now) side) (literals_at literals.now))) }
+            ≡ capped (sum_by literal_size (literals_instance (substitution_of (solved_form self.now) side) (literals_at literals.now))) }
     {
         let mut total: u64 = 0;
         for literal in literals {
@@ -92,7 +93,7 @@ impl Solution {
     #[cycle(instance)]
     fn term_size(&self, sizes: &[u64], side: Side, term: &Term) -> u64
         requires { AreSizes self.now.cells.items sizes.now (length self.now.cells.items) }
-        ensures { result ≡ stopped (tree_size (instance (substitution_of (solved_form self.now) side) (tree_of term.now))) }
+        ensures { result ≡ capped (tree_size (instance (substitution_of (solved_form self.now) side) (tree_of term.now))) }
     {
         match term {
             Term::Var(variable) => self.variable_size(sizes, side, *variable),
@@ -107,7 +108,7 @@ impl Solution {
     #[cycle(instance)]
     fn terms_size(&self, sizes: &[u64], side: Side, terms: &[Term]) -> u64
         requires { AreSizes self.now.cells.items sizes.now (length self.now.cells.items) }
-        ensures { result ≡ stopped (trees_size (instances (substitution_of (solved_form self.now) side) (trees_of (map tree_of terms.now)))) }
+        ensures { result ≡ capped (trees_size (instances (substitution_of (solved_form self.now) side) (trees_of (map tree_of terms.now)))) }
     {
         let mut total: u64 = 0;
         for term in terms {
@@ -119,7 +120,7 @@ impl Solution {
     /// The size of what stands for a side's variable.
     fn variable_size(&self, sizes: &[u64], side: Side, variable: u32) -> u64
         requires { AreSizes self.now.cells.items sizes.now (length self.now.cells.items) }
-        ensures { result ≡ stopped (tree_size (substitution_of (solved_form self.now) side variable)) }
+        ensures { result ≡ capped (tree_size (substitution_of (solved_form self.now) side variable)) }
     {
         match self.cell_of(code(self.apart, side, variable)) {
             Some(cell) => size_at(sizes, cell),

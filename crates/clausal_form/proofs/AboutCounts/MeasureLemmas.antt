@@ -13,7 +13,7 @@ use Rattle.clausal_form.specs.Written.{written}
 use Rattle.clausal_form.specs.Naming.{definition_clauses}
 use Rattle.clausal_form.specs.declared.naming.Definition.{Definition}
 use Rattle.clausal_form.specs.Measure.{literals_size, symbols_in, largest, ClauseMeasure, measured, sum_measure, product_largest, product_measure, capped_measure, measure_of, capped_measured}
-use Rattle.formula_nnf.specs.CappedCount.{capped}
+use Rattle.plain_types.specs.Capped.{capped}
 use Rattle.clausal_form.specs.declared.measure.Measure.{Measure}
 use Rattle.clausal_form.proofs.AboutNaming.PairLemmas.{pairs-unit, unit-pairs}
 

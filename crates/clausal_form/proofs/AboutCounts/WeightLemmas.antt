@@ -10,7 +10,7 @@ use Rattle.formula_nnf.specs.declared.form.Nnf.{Nnf}
 use Rattle.formula_nnf.specs.Shape.{nnf_tree}
 use Rattle.skolem.specs.Heavy.{form_has_clauses, some_form_has_clauses, all_forms_have_clauses}
 use Rattle.clausal_form.specs.Heavy.{heavy_form, some_heavy_form, written_total, written_totals}
-use Rattle.formula_nnf.specs.CappedCount.{capped}
+use Rattle.plain_types.specs.Capped.{capped}
 
 -- one member more of a disjunction or a conjunction of tests
 or-then : (made new found rest all : Bool) → new ≡ (made || found) → (made || (found || rest)) ≡ all → (new || rest) ≡ all

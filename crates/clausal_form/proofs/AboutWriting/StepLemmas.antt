@@ -13,7 +13,7 @@ use Rattle.signature.specs.Clausal.{SymbolNumbers, Made, Worked, Literals, annot
 use Rattle.signature.specs.Form.{numbered_symbols}
 use Rattle.formula_nnf.specs.Expanded.{expanded_count}
 use Rattle.formula_nnf.specs.NormalForm.{normal_form}
-use Rattle.formula_nnf.specs.CappedCount.{capped}
+use Rattle.plain_types.specs.Capped.{capped}
 use Rattle.skolem.specs.Matrix.{MatrixTree}
 use Rattle.skolem.specs.Skolemized.{AreKnown}
 use Rattle.skolem.specs.MatrixClauses.{matrix_clauses}

@@ -12,7 +12,7 @@ use Rattle.kernel_steps.specs.declared.step.Step.{Step}
 use Rattle.kernel_steps.specs.declared.step.Step.TheVariants as step
 use Rattle.bank_clause.specs.Clause.{clause_at}
 use Rattle.bank_clause.specs.declared.member.Member.{Member}
-use Rattle.unifier.specs.Sizes.{stopped}
+use Rattle.plain_types.specs.Capped.{capped}
 use Rattle.eq_rules.specs.Inferences.{IsConcluded, IsMade, alone}
 use Rattle.eq_rules.specs.Concluding.{GivesNumbered}
 use Rattle.eq_rules.specs.Steps.{IsResolutionStep, IsFactoringStep}
@@ -21,10 +21,10 @@ use Rattle.eq_rules.specs.declared.inference.Made.TheVariants.{Conclusion, Heavy
 
 -- ---- sizes
 
-pub size_above : (size n most : ℕ) → size ≡ stopped n → most < size → most < n
+pub size_above : (size n most : ℕ) → size ≡ capped n → most < size → most < n
 size_above size n most is h = omega (arith, is, h)
 
-pub size_within : (size n limit : ℕ) → limit < 2 ^ 64 - 1 → size ≡ stopped n → size ≤ limit → n ≤ limit
+pub size_within : (size n limit : ℕ) → limit < 2 ^ 64 - 1 → size ≡ capped n → size ≤ limit → n ≤ limit
 size_within size n limit low is h = omega (arith, low, is, h)
 
 -- ---- the one member

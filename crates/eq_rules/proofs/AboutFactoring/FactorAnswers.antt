@@ -13,7 +13,7 @@ use Rattle.fol_base.specs.Sides.{side_of, other_side_of}
 use Rattle.fol_base.specs.declared.clause.Side.{Side}
 use Rattle.fol_base.specs.declared.limits.TheConstants.{MOST_SYMBOLS, SIZE_LIMIT}
 use Rattle.fol_base.proofs.AboutClauses.InferenceLemmas.{literal_in_instance, side_of-instance, other_side_of-instance}
-use Rattle.unifier.specs.Sizes.{stopped}
+use Rattle.plain_types.specs.Capped.{capped}
 use Rattle.eq_rules.proofs.AboutConclusions.SideLemmas.{sides-size}
 use Rattle.eq_rules.proofs.AboutConclusions.WideLemmas.{itself}
 
@@ -44,7 +44,7 @@ pub sides_size :
 sides_size σ s l =
     sides-size s (literal_instance σ l) ∙ ap₂ (λ t u. tree_size t + tree_size u) (side_of-instance σ s l) (other_side_of-instance σ s l)
 
-pub total_size : (size n : ℕ) → size ≡ stopped n → size < SIZE_LIMIT → n ≡ size
+pub total_size : (size n : ℕ) → size ≡ capped n → size < SIZE_LIMIT → n ≡ size
 total_size size n is h = omega (arith, is, h)
 
 -- the conclusion's size as it is told

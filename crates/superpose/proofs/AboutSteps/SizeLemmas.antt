@@ -22,7 +22,7 @@ use Rattle.bank_clause.specs.Clause.{clause_at}
 use Rattle.bank_clause.specs.declared.member.Member.{Member}
 use Rattle.unifier.specs.Bindings.{IsUnified}
 use Rattle.unifier.specs.Renaming.{AreNamedTerms}
-use Rattle.unifier.specs.Sizes.{stopped}
+use Rattle.plain_types.specs.Capped.{capped}
 use Rattle.unifier.specs.SolvedForm.{SolvedForm, substitution_of}
 use Rattle.unifier.proofs.AboutClasses.SharedLemmas.{own_terms_are_named}
 use Rattle.eq_rules.specs.Inferences.{IsConcluded, IsMade}
@@ -108,8 +108,8 @@ made_by_superposition p mode clauses number c s partner d t left right (Conclusi
 pub heavy_settled :
     (m n : Member) (s : LiteralSide) (t : LiteralPlace) (b : SolvedForm) (r : SuperposesBy b (clause_at m.clause) s (clause_at n.clause) t)
     (left_told right_told : ℕ)
-    → left_told ≡ stopped (clause_size (clause_instance (substitution_of b Left) (clause_at m.clause)))
-    → right_told ≡ stopped (clause_size (clause_instance (substitution_of b Right) (clause_at n.clause)))
+    → left_told ≡ capped (clause_size (clause_instance (substitution_of b Left) (clause_at m.clause)))
+    → right_told ≡ capped (clause_size (clause_instance (substitution_of b Right) (clause_at n.clause)))
     → MOST_SYMBOLS < max left_told right_told
     → (mode : SelectionMode) (choice : Option ℕ) → AreSites mode (clause_at m.clause) s (clause_at n.clause) t choice
     → ((σ τ : Substitution) → allows (clause_at m.clause).literals s (clause_at n.clause).literals t choice σ τ ≡ true)
@@ -173,7 +173,7 @@ module _
   made_size = let all = plain_size c s d t b r left right h in omega (arith, all, left_sum, right_sum, side_same)
 
   -- told by the clauses' own sizes: no variable becomes a larger term than the side does
-  module _ (told : ℕ) (told_is : told ≡ stopped side_size) (small : told * (clause_size c + clause_size d) ≤ MOST_SYMBOLS) where
+  module _ (told : ℕ) (told_is : told ≡ capped side_size) (small : told * (clause_size c + clause_size d) ≤ MOST_SYMBOLS) where
     told_exactly : told ≡ side_size
     told_exactly =
         let l : TreeLiteral = r.starts.literal in
@@ -257,5 +257,5 @@ small_not_heavy left right side small =
     le-ltb MOST_SYMBOLS (max (max left right) (left + right - 2 * side)) (omega (arith, small))
 
 -- a size that doesn't reach the limit is told as it is
-pub stays : (told size : ℕ) → told ≡ stopped size → told < SIZE_LIMIT → told ≡ size
+pub stays : (told size : ℕ) → told ≡ capped size → told < SIZE_LIMIT → told ≡ size
 stays told size is low = omega (arith, is, low)

@@ -25,18 +25,19 @@ use Rattle.unifier.specs.InOrder.{InOrder}
 use Rattle.unifier.specs.Layout.{cell_of}
 use Rattle.unifier.specs.SolvedForm.{joint}
 use Rattle.unifier.specs.Solution.{value_at, solved_form}
-use Rattle.unifier.specs.Sizes.{value_size, stopped, AreSizes, size_by}
+use Rattle.plain_types.specs.Capped.{capped}
+use Rattle.unifier.specs.Sizes.{value_size, AreSizes, size_by}
 use Rattle.unifier.proofs.AboutLayouts.ValueLemmas.{value_at-valuation}
 use Rattle.unifier.proofs.AboutEquations.SolutionLemmas.{joint-found, joint-free}
 use Rattle.unifier.proofs.AboutClasses.CellLemmas.{list-value, tree-value}
 
 -- ---- sizes that stop
 
-stopped-sum : (a b : ℕ) → stopped (stopped a + stopped b) ≡ stopped (a + b)
-stopped-sum a b = omega arith
+capped-sum : (a b : ℕ) → capped (capped a + capped b) ≡ capped (a + b)
+capped-sum a b = omega arith
 
-stopped-one : (a : ℕ) → stopped (stopped a + 1) ≡ stopped (a + 1)
-stopped-one a = omega arith
+capped-one : (a : ℕ) → capped (capped a + 1) ≡ capped (a + 1)
+capped-one a = omega arith
 
 -- ---- cells
 
@@ -46,12 +47,12 @@ own cells = value_at variable cells
 size-from-parts :
     (cells : List Cell) (sizes : List ℕ) (n : ℕ) (x : Cell)
     → AreOrdered cells → AreKinded cells → AreSizes cells sizes n → n < length cells → IsAfterParts n x → HasKinds cells x
-    → size_by sizes x ≡ stopped (value_size (value_of variable (own cells) x))
+    → size_by sizes x ≡ capped (value_size (value_of variable (own cells) x))
 size-from-parts cells sizes n (Variable w) ordered kinded h inside after kinds = refl
 size-from-parts cells sizes n (Application f l) ordered kinded h inside after kinds =
     let list : own cells l ≡ trees (as_trees (own cells l)) =
     list-value variable cells (own cells) l (value_at-valuation variable cells ordered) (omega (arith, after)) kinds in
-    let size : get_or sizes l 0 ≡ stopped (value_size (own cells l)) = h.each l after in
+    let size : get_or sizes l 0 ≡ capped (value_size (own cells l)) = h.each l after in
     let parts : value_size (own cells l) ≡ trees_size (as_trees (own cells l)) = ap value_size list in
     omega (arith, size, parts)
 size-from-parts cells sizes n NoTrees ordered kinded h inside after kinds = refl
@@ -59,8 +60,8 @@ size-from-parts cells sizes n (TreeThen a b) ordered kinded h inside after kinds
     let made : IsValuation variable cells (own cells) = value_at-valuation variable cells ordered in
     let one : own cells a ≡ tree (as_tree (own cells a)) = tree-value variable cells (own cells) a made (omega (arith, after.0)) kinds.0 in
     let list : own cells b ≡ trees (as_trees (own cells b)) = list-value variable cells (own cells) b made (omega (arith, after.1)) kinds.1 in
-    let first_size : get_or sizes a 0 ≡ stopped (value_size (own cells a)) = h.each a after.0 in
-    let rest_size : get_or sizes b 0 ≡ stopped (value_size (own cells b)) = h.each b after.1 in
+    let first_size : get_or sizes a 0 ≡ capped (value_size (own cells a)) = h.each a after.0 in
+    let rest_size : get_or sizes b 0 ≡ capped (value_size (own cells b)) = h.each b after.1 in
     let first_parts : value_size (own cells a) ≡ tree_size (as_tree (own cells a)) = ap value_size one in
     let rest_parts : value_size (own cells b) ≡ trees_size (as_trees (own cells b)) = ap value_size list in
     omega (arith, first_size, rest_size, first_parts, rest_parts)
@@ -74,10 +75,10 @@ sizes-more :
     → InOrder cells places → AreSizes cells sizes n → n < length cells → size ≡ size_by sizes (cell_at cells n)
     → n < length new → ((k : ℕ) → k < n → get_or new k 0 ≡ get_or sizes k 0) → get_or new n 0 ≡ size → AreSizes cells new (n + 1)
 sizes-more cells places sizes new n size order h inside is long kept written =
-    let here : size ≡ stopped (value_size (own cells n)) =
+    let here : size ≡ capped (value_size (own cells n)) =
     is
     ∙ size-from-parts cells sizes n (cell_at cells n) order.ordered order.kinded h inside (order.ordered n inside) (order.kinded n inside)
-    ∙ ap (λ v. stopped (value_size v)) (sym (value_at-valuation variable cells order.ordered n inside)) in
+    ∙ ap (λ v. capped (value_size v)) (sym (value_at-valuation variable cells order.ordered n inside)) in
     record {
       count = omega (arith, long);
       each = λ k less.
@@ -85,7 +86,7 @@ sizes-more cells places sizes new n size order h inside is long kept written =
           (λ front. kept k front ∙ h.each k front)
           (λ ge.
           let same : n ≡ k = omega arith in
-          let P : ℕ → Type 0 = λ j. get_or new j 0 ≡ stopped (value_size (own cells j)) in
+          let P : ℕ → Type 0 = λ j. get_or new j 0 ≡ capped (value_size (own cells j)) in
           subst P same (written ∙ here))
           (cases_lt k n);
     }
@@ -117,26 +118,26 @@ sizes-set cells places sizes new n size order h room inside is e =
 pub size-bound :
     (b : Solution) (sizes : List ℕ) (w k size : ℕ)
     → InOrder b.cells.items b.places.items → AreSizes b.cells.items sizes (length b.cells.items)
-    → cell_of w b.places.items ≡ Some k → size ≡ get_or sizes k 0 → size ≡ stopped (tree_size (joint (solved_form b) w))
+    → cell_of w b.places.items ≡ Some k → size ≡ get_or sizes k 0 → size ≡ capped (tree_size (joint (solved_form b) w))
 size-bound b sizes w k size order h found is =
     let cells : List Cell = b.cells.items in
     let there = order.terms w k found in
     let one : own cells k ≡ tree (as_tree (own cells k)) =
     tree-value variable cells (own cells) k (value_at-valuation variable cells order.ordered) there.0 there.1 in
     is ∙ h.each k there.0
-    ∙ ap (λ v. stopped (value_size v)) one
-    ∙ ap (λ t. stopped (tree_size t)) (sym (joint-found b w k found))
+    ∙ ap (λ v. capped (value_size v)) one
+    ∙ ap (λ t. capped (tree_size t)) (sym (joint-found b w k found))
 
-pub size-free : (b : Solution) (w : ℕ) → cell_of w b.places.items ≡ None → 1 ≡ stopped (tree_size (joint (solved_form b) w))
-size-free b w none = ap (λ t. stopped (tree_size t)) (sym (joint-free b w none))
+pub size-free : (b : Solution) (w : ℕ) → cell_of w b.places.items ≡ None → 1 ≡ capped (tree_size (joint (solved_form b) w))
+size-free b w none = ap (λ t. capped (tree_size t)) (sym (joint-free b w none))
 
 -- the sizes of one more term
 pub size-more :
     (σ : Substitution) (xs : List Term) (i : ℕ) (x : Term) (total one new : ℕ)
     → i < length xs → x ≡ get_or xs i x
-    → total ≡ stopped (trees_size (instances σ (trees_of (map tree_of (take i xs)))))
-    → one ≡ stopped (tree_size (instance σ (tree_of x))) → new ≡ stopped (total + one)
-    → new ≡ stopped (trees_size (instances σ (trees_of (map tree_of (take (i + 1) xs)))))
+    → total ≡ capped (trees_size (instances σ (trees_of (map tree_of (take i xs)))))
+    → one ≡ capped (tree_size (instance σ (tree_of x))) → new ≡ capped (total + one)
+    → new ≡ capped (trees_size (instances σ (trees_of (map tree_of (take (i + 1) xs)))))
 size-more σ xs i x total one new less is h here made =
     let ts : List Tree = map tree_of (take i xs) in
     let t : Tree = tree_of x in
@@ -152,10 +153,10 @@ size-more σ xs i x total one new less is h here made =
 pub size-literal :
     (σ : Substitution) (ls : List BankLit) (i : ℕ) (l : BankLit) (total left right new : ℕ)
     → i < length ls → l ≡ get_or ls i l
-    → total ≡ stopped (sum_by literal_size (literals_instance σ (literals_at (take i ls))))
-    → left ≡ stopped (tree_size (instance σ (literal_at l).left)) → right ≡ stopped (tree_size (instance σ (literal_at l).right))
-    → new ≡ stopped (total + stopped (left + right))
-    → new ≡ stopped (sum_by literal_size (literals_instance σ (literals_at (take (i + 1) ls))))
+    → total ≡ capped (sum_by literal_size (literals_instance σ (literals_at (take i ls))))
+    → left ≡ capped (tree_size (instance σ (literal_at l).left)) → right ≡ capped (tree_size (instance σ (literal_at l).right))
+    → new ≡ capped (total + capped (left + right))
+    → new ≡ capped (sum_by literal_size (literals_instance σ (literals_at (take (i + 1) ls))))
 size-literal σ ls i l total left right new less is h one other made =
     let done : List TreeLiteral = literals_at (take i ls) in
     let m : TreeLiteral = literal_at l in

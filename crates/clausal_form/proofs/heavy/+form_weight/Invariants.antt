@@ -3,7 +3,7 @@ use Rattle.tptp_tree.specs.Formula.{formula_size, formulas_size, formulas_of}
 use Rattle.formula_nnf.specs.Shape.{nnf_tree}
 use Rattle.skolem.specs.Heavy.{some_form_has_clauses, all_forms_have_clauses}
 use Rattle.clausal_form.specs.Heavy.{some_heavy_form, written_totals}
-use Rattle.formula_nnf.specs.CappedCount.{capped}
+use Rattle.plain_types.specs.Capped.{capped}
 use Rattle.clausal_form.proofs.heavy.+form_weight.Given as goal
 
 abbrev pub decreases-form_weight : goal.decreases-form_weight

@@ -15,7 +15,7 @@ use Rattle.kernel_steps.specs.Inference.{other_side_not_above}
 use Rattle.term_bank.specs.Literal.{literals_at}
 use Rattle.bank_clause.specs.Clause.{clause_at}
 use Rattle.unifier.specs.Renaming.{AreNamedTerms}
-use Rattle.unifier.specs.Sizes.{stopped}
+use Rattle.plain_types.specs.Capped.{capped}
 use Rattle.unifier.proofs.AboutLayouts.BoundLemmas.{fits-above}
 use Rattle.eq_rules.specs.Inferences.{alone}
 use Rattle.eq_rules.proofs.AboutFactoring.FactorAnswers.{lent_there, part_size, sides_size, total_size, told_size}
@@ -43,8 +43,8 @@ is_not_below-requires c =
     let terms = c.in_ok-terms.terms in
     let h : AreNamedTerms b n 0 terms [] = own_terms b n c.variable_bound.result terms c.variable_bound.ensures.variables c.in_ok-terms.ensures in
     let σ = substitution_of b Left in
-    let size : c.in_ok-size.size ≡ stopped (clause_size (clause_instance σ d)) =
-    c.in_ok-size.ensures ∙ ap (λ ls. stopped (sum_by literal_size (literals_instance σ (literals_at ls)))) c.literals.ensures.literals in
+    let size : c.in_ok-size.size ≡ capped (clause_size (clause_instance σ d)) =
+    c.in_ok-size.ensures ∙ ap (λ ls. capped (sum_by literal_size (literals_instance σ (literals_at ls)))) c.literals.ensures.literals in
     let lent_is = lent_there c.lend-literals.result d.literals place.becomes.literal (lent_of c.literal-becomes.result) r.literal_i c.lend-literals.ensures c.literal-becomes.ensures r.i_there in
     let total = total_size c.in_ok-size.size (clause_size (clause_instance σ d)) size (omega (arith, c.if-size-ge-SIZE_LIMIT.false)) in
     let t = factor_terms (λ f. false) select_nothing (alone m) m.number d place (alone_there m) b r terms [] h in
@@ -83,8 +83,8 @@ eligible_under-requires-clause-size c =
     let terms = c.in_ok-terms.terms in
     let h : AreNamedTerms b n 0 terms [] = own_terms b n c.variable_bound.result terms c.variable_bound.ensures.variables c.in_ok-terms.ensures in
     let σ = substitution_of b Left in
-    let size : c.in_ok-size.size ≡ stopped (clause_size (clause_instance σ d)) =
-    c.in_ok-size.ensures ∙ ap (λ ls. stopped (sum_by literal_size (literals_instance σ (literals_at ls)))) c.literals.ensures.literals in
+    let size : c.in_ok-size.size ≡ capped (clause_size (clause_instance σ d)) =
+    c.in_ok-size.ensures ∙ ap (λ ls. capped (sum_by literal_size (literals_instance σ (literals_at ls)))) c.literals.ensures.literals in
     let total = total_size c.in_ok-size.size (clause_size (clause_instance σ d)) size (omega (arith, c.if-size-ge-SIZE_LIMIT.false)) in
     let t = factor_terms (λ f. false) select_nothing (alone m) m.number d place (alone_there m) b r terms [] h in
     let lent : sum_by literal_size (literals_instance (substitution terms) c.lend-literals.result) ≡ sum_by literal_size (literals_instance (substitution terms) d.literals) =
@@ -116,8 +116,8 @@ returns-then-size-gt-MOST_SYMBOLS c mode none usage used =
     let terms = c.in_ok-terms.terms in
     let h : AreNamedTerms b n 0 terms [] = own_terms b n c.variable_bound.result terms c.variable_bound.ensures.variables c.in_ok-terms.ensures in
     let σ = substitution_of b Left in
-    let size : c.in_ok-size.size ≡ stopped (clause_size (clause_instance σ d)) =
-    c.in_ok-size.ensures ∙ ap (λ ls. stopped (sum_by literal_size (literals_instance σ (literals_at ls)))) c.literals.ensures.literals in
+    let size : c.in_ok-size.size ≡ capped (clause_size (clause_instance σ d)) =
+    c.in_ok-size.ensures ∙ ap (λ ls. capped (sum_by literal_size (literals_instance σ (literals_at ls)))) c.literals.ensures.literals in
     let lent_is = lent_there c.lend-literals.result d.literals place.becomes.literal (lent_of c.literal-becomes.result) r.literal_i c.lend-literals.ensures c.literal-becomes.ensures r.i_there in
     let kinds =
     alike-kinds usage.is_predicate r.literal_i place.becomes.side r.literal_j place.other.side
@@ -144,8 +144,8 @@ overflow_sub-size c =
     let terms = c.in_ok-terms.terms in
     let h : AreNamedTerms b n 0 terms [] = own_terms b n c.variable_bound.result terms c.variable_bound.ensures.variables c.in_ok-terms.ensures in
     let σ = substitution_of b Left in
-    let size : c.in_ok-size.size ≡ stopped (clause_size (clause_instance σ d)) =
-    c.in_ok-size.ensures ∙ ap (λ ls. stopped (sum_by literal_size (literals_instance σ (literals_at ls)))) c.literals.ensures.literals in
+    let size : c.in_ok-size.size ≡ capped (clause_size (clause_instance σ d)) =
+    c.in_ok-size.ensures ∙ ap (λ ls. capped (sum_by literal_size (literals_instance σ (literals_at ls)))) c.literals.ensures.literals in
     let lent_is = lent_there c.lend-literals.result d.literals place.becomes.literal (lent_of c.literal-becomes.result) r.literal_i c.lend-literals.ensures c.literal-becomes.ensures r.i_there in
     let total = total_size c.in_ok-size.size (clause_size (clause_instance σ d)) size (omega (arith, c.if-size-ge-SIZE_LIMIT.false)) in
     let t = factor_terms (λ f. false) select_nothing (alone m) m.number d place (alone_there m) b r terms [] h in
@@ -179,8 +179,8 @@ overflow_add-size c =
     let terms = c.in_ok-terms.terms in
     let h : AreNamedTerms b n 0 terms [] = own_terms b n c.variable_bound.result terms c.variable_bound.ensures.variables c.in_ok-terms.ensures in
     let σ = substitution_of b Left in
-    let size : c.in_ok-size.size ≡ stopped (clause_size (clause_instance σ d)) =
-    c.in_ok-size.ensures ∙ ap (λ ls. stopped (sum_by literal_size (literals_instance σ (literals_at ls)))) c.literals.ensures.literals in
+    let size : c.in_ok-size.size ≡ capped (clause_size (clause_instance σ d)) =
+    c.in_ok-size.ensures ∙ ap (λ ls. capped (sum_by literal_size (literals_instance σ (literals_at ls)))) c.literals.ensures.literals in
     let lent_is = lent_there c.lend-literals.result d.literals place.becomes.literal (lent_of c.literal-becomes.result) r.literal_i c.lend-literals.ensures c.literal-becomes.ensures r.i_there in
     let total = total_size c.in_ok-size.size (clause_size (clause_instance σ d)) size (omega (arith, c.if-size-ge-SIZE_LIMIT.false)) in
     let t = factor_terms (λ f. false) select_nothing (alone m) m.number d place (alone_there m) b r terms [] h in
@@ -214,8 +214,8 @@ returns-then-size-goes-gt-MOST_SYMBOLS c mode none usage used =
     let terms = c.in_ok-terms.terms in
     let h : AreNamedTerms b n 0 terms [] = own_terms b n c.variable_bound.result terms c.variable_bound.ensures.variables c.in_ok-terms.ensures in
     let σ = substitution_of b Left in
-    let size : c.in_ok-size.size ≡ stopped (clause_size (clause_instance σ d)) =
-    c.in_ok-size.ensures ∙ ap (λ ls. stopped (sum_by literal_size (literals_instance σ (literals_at ls)))) c.literals.ensures.literals in
+    let size : c.in_ok-size.size ≡ capped (clause_size (clause_instance σ d)) =
+    c.in_ok-size.ensures ∙ ap (λ ls. capped (sum_by literal_size (literals_instance σ (literals_at ls)))) c.literals.ensures.literals in
     let lent_is = lent_there c.lend-literals.result d.literals place.becomes.literal (lent_of c.literal-becomes.result) r.literal_i c.lend-literals.ensures c.literal-becomes.ensures r.i_there in
     let total = total_size c.in_ok-size.size (clause_size (clause_instance σ d)) size (omega (arith, c.if-size-ge-SIZE_LIMIT.false)) in
     let t = factor_terms (λ f. false) select_nothing (alone m) m.number d place (alone_there m) b r terms [] h in
@@ -291,8 +291,8 @@ returns c mode none usage used =
     let terms = c.in_ok-terms.terms in
     let h : AreNamedTerms b n 0 terms [] = own_terms b n c.variable_bound.result terms c.variable_bound.ensures.variables c.in_ok-terms.ensures in
     let σ = substitution_of b Left in
-    let size : c.in_ok-size.size ≡ stopped (clause_size (clause_instance σ d)) =
-    c.in_ok-size.ensures ∙ ap (λ ls. stopped (sum_by literal_size (literals_instance σ (literals_at ls)))) c.literals.ensures.literals in
+    let size : c.in_ok-size.size ≡ capped (clause_size (clause_instance σ d)) =
+    c.in_ok-size.ensures ∙ ap (λ ls. capped (sum_by literal_size (literals_instance σ (literals_at ls)))) c.literals.ensures.literals in
     let lent_is = lent_there c.lend-literals.result d.literals place.becomes.literal (lent_of c.literal-becomes.result) r.literal_i c.lend-literals.ensures c.literal-becomes.ensures r.i_there in
     let total = total_size c.in_ok-size.size (clause_size (clause_instance σ d)) size (omega (arith, c.if-size-ge-SIZE_LIMIT.false)) in
     let t = factor_terms (λ f. false) select_nothing (alone m) m.number d place (alone_there m) b r terms [] h in

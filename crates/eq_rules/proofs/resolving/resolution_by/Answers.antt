@@ -11,7 +11,7 @@ use Rattle.fol_base.specs.declared.limits.TheConstants.{MOST_SYMBOLS, SIZE_LIMIT
 use Rattle.term_bank.specs.Literal.{literals_at}
 use Rattle.bank_clause.specs.Clause.{clause_at}
 use Rattle.unifier.specs.Renaming.{AreNamedTerms}
-use Rattle.unifier.specs.Sizes.{stopped}
+use Rattle.plain_types.specs.Capped.{capped}
 use Rattle.unifier.proofs.AboutLayouts.BoundLemmas.{fits-above}
 use Rattle.eq_rules.specs.Inferences.{alone}
 use Rattle.eq_rules.proofs.AboutConclusions.MadeLemmas.{size_above, size_within, alone_there, made_by_resolution}
@@ -33,8 +33,8 @@ returns-then-size-gt-MOST_SYMBOLS c mode choice_is usage used =
     let i = c.args.index in
     let b = c.args.unifier.now in
     let σ = substitution_of b Left in
-    let size : c.in_ok-size.size ≡ stopped (clause_size (clause_instance σ d)) =
-    c.in_ok-size.ensures ∙ ap (λ ls. stopped (sum_by literal_size (literals_instance σ (literals_at ls)))) c.literals.ensures.literals in
+    let size : c.in_ok-size.size ≡ capped (clause_size (clause_instance σ d)) =
+    c.in_ok-size.ensures ∙ ap (λ ls. capped (sum_by literal_size (literals_instance σ (literals_at ls)))) c.literals.ensures.literals in
     resolution_heavy usage.is_predicate mode (alone m) m.number d i (alone_there m) b c.requires.unified
     (ap (λ o. eligible (literals_instance σ d.literals) i o false) (sym choice_is)
     ∙ chosen_eligible c.args.choice (literals_instance σ d.literals) i false (sym c.is_some.ensures ∙ c.if-is_some.true) c.requires.not_other)
@@ -58,8 +58,8 @@ eligible_under-requires-clause-size c =
     let h : AreNamedTerms b n 0 terms [] = own_terms b n c.variable_bound.result terms c.variable_bound.ensures.variables c.in_ok-terms.ensures in
     let t : Terms d r.literal.left r.literal.right b terms =
     terms_of d r.literal.left r.literal.right b terms [] r.unified below.0 below.1 h in
-    let size : c.in_ok-size.size ≡ stopped (clause_size (clause_instance σ d)) =
-    c.in_ok-size.ensures ∙ ap (λ ls. stopped (sum_by literal_size (literals_instance σ (literals_at ls)))) c.literals.ensures.literals in
+    let size : c.in_ok-size.size ≡ capped (clause_size (clause_instance σ d)) =
+    c.in_ok-size.ensures ∙ ap (λ ls. capped (sum_by literal_size (literals_instance σ (literals_at ls)))) c.literals.ensures.literals in
     let lent : sum_by literal_size (literals_instance (substitution terms) c.lend.result) ≡ sum_by literal_size (literals_instance (substitution terms) d.literals) =
     ap (λ ls. sum_by literal_size (literals_instance (substitution terms) ls)) c.lend.ensures in
     let small : c.in_ok-size.size ≤ SIZE_LIMIT = omega (arith, c.if-size-ge-SIZE_LIMIT.false) in
@@ -90,8 +90,8 @@ returns-then-size-gt-MOST_SYMBOLS-2 c mode choice_is usage used =
     let n = bound_of (clause_variables d) in
     let terms = c.in_ok-terms.terms in
     let h : AreNamedTerms b n 0 terms [] = own_terms b n c.variable_bound.result terms c.variable_bound.ensures.variables c.in_ok-terms.ensures in
-    let size : c.in_ok-size.size ≡ stopped (clause_size (clause_instance σ d)) =
-    c.in_ok-size.ensures ∙ ap (λ ls. stopped (sum_by literal_size (literals_instance σ (literals_at ls)))) c.literals.ensures.literals in
+    let size : c.in_ok-size.size ≡ capped (clause_size (clause_instance σ d)) =
+    c.in_ok-size.ensures ∙ ap (λ ls. capped (sum_by literal_size (literals_instance σ (literals_at ls)))) c.literals.ensures.literals in
     resolution_heavy usage.is_predicate mode (alone m) m.number d i (alone_there m) b c.requires.unified
     (eligible_before usage.is_predicate mode (alone m) m.number d i (alone_there m) b c.requires.unified terms [] h
     (ap (λ o. eligible (literals_instance (substitution terms) d.literals) i o false) (sym choice_is)
@@ -137,8 +137,8 @@ returns c mode choice_is usage used =
     let n = bound_of (clause_variables d) in
     let terms = c.in_ok-terms.terms in
     let h : AreNamedTerms b n 0 terms [] = own_terms b n c.variable_bound.result terms c.variable_bound.ensures.variables c.in_ok-terms.ensures in
-    let size : c.in_ok-size.size ≡ stopped (clause_size (clause_instance σ d)) =
-    c.in_ok-size.ensures ∙ ap (λ ls. stopped (sum_by literal_size (literals_instance σ (literals_at ls)))) c.literals.ensures.literals in
+    let size : c.in_ok-size.size ≡ capped (clause_size (clause_instance σ d)) =
+    c.in_ok-size.ensures ∙ ap (λ ls. capped (sum_by literal_size (literals_instance σ (literals_at ls)))) c.literals.ensures.literals in
     made_by_resolution usage.is_predicate mode (alone m) m.number d i terms c.in_ok-conclude_resolution.field-0 c.in_ok-conclude_resolution.ensures
     (resolution_concluded usage.is_predicate mode (alone m) m.number d i (alone_there m) b r terms [] h
     (literal-kind usage d i r.literal used r.there)

@@ -13,7 +13,7 @@ use Rattle.fol_base.specs.declared.limits.TheConstants.{MOST_SYMBOLS}
 use Rattle.term_bank.specs.Literal.{literals_at}
 use Rattle.bank_clause.specs.Clause.{clause_at}
 use Rattle.unifier.specs.Renaming.{AreNamedTerms}
-use Rattle.unifier.specs.Sizes.{stopped}
+use Rattle.plain_types.specs.Capped.{capped}
 use Rattle.unifier.specs.SolvedForm.{substitution_of}
 use Rattle.unifier.proofs.AboutClasses.SharedLemmas.{own_terms_are_named}
 use Rattle.superpose.specs.Superposing.{is_heavy, size_under}
@@ -43,8 +43,8 @@ ordered_superposition-requires-clause-left_small c =
     let equation : lent_of c.literal-equation.result ≡ r.starts.literal =
     same_Some (lent_of c.literal-equation.result) r.starts.literal
     (sym c.literal-equation.ensures ∙ ap (λ (ls : List TreeLiteral). slice_get ls s.literal) c.lend-literals.ensures ∙ r.starts.there) in
-    let told_is : c.in_ok-unified_size.unified_size ≡ stopped (side_size m n s t b r left right h) =
-    c.in_ok-unified_size.ensures ∙ ap (λ (u : Tree). stopped (tree_size (instance (substitution_of b Left) u))) (c.side.ensures ∙ ap (side_of s.side) equation) in
+    let told_is : c.in_ok-unified_size.unified_size ≡ capped (side_size m n s t b r left right h) =
+    c.in_ok-unified_size.ensures ∙ ap (λ (u : Tree). capped (tree_size (instance (substitution_of b Left) u))) (c.side.ensures ∙ ap (side_of s.side) equation) in
     let small : size_under b Left first + size_under b Right second ≤ MOST_SYMBOLS =
     surely_small m n s t b r left right h c.in_ok-unified_size.unified_size told_is (c.are_surely_small.ensures.0 c.if-are_surely_small.true) in
     omega (arith, small)
@@ -67,8 +67,8 @@ ordered_superposition-requires-clause-right_small c =
     let equation : lent_of c.literal-equation.result ≡ r.starts.literal =
     same_Some (lent_of c.literal-equation.result) r.starts.literal
     (sym c.literal-equation.ensures ∙ ap (λ (ls : List TreeLiteral). slice_get ls s.literal) c.lend-literals.ensures ∙ r.starts.there) in
-    let told_is : c.in_ok-unified_size.unified_size ≡ stopped (side_size m n s t b r left right h) =
-    c.in_ok-unified_size.ensures ∙ ap (λ (u : Tree). stopped (tree_size (instance (substitution_of b Left) u))) (c.side.ensures ∙ ap (side_of s.side) equation) in
+    let told_is : c.in_ok-unified_size.unified_size ≡ capped (side_size m n s t b r left right h) =
+    c.in_ok-unified_size.ensures ∙ ap (λ (u : Tree). capped (tree_size (instance (substitution_of b Left) u))) (c.side.ensures ∙ ap (side_of s.side) equation) in
     let small : size_under b Left first + size_under b Right second ≤ MOST_SYMBOLS =
     surely_small m n s t b r left right h c.in_ok-unified_size.unified_size told_is (c.are_surely_small.ensures.0 c.if-are_surely_small.true) in
     omega (arith, small)
@@ -91,8 +91,8 @@ ordered_superposition-requires-clause-heavy c l there =
     let equation : lent_of c.literal-equation.result ≡ r.starts.literal =
     same_Some (lent_of c.literal-equation.result) r.starts.literal
     (sym c.literal-equation.ensures ∙ ap (λ (ls : List TreeLiteral). slice_get ls s.literal) c.lend-literals.ensures ∙ r.starts.there) in
-    let told_is : c.in_ok-unified_size.unified_size ≡ stopped (side_size m n s t b r left right h) =
-    c.in_ok-unified_size.ensures ∙ ap (λ (u : Tree). stopped (tree_size (instance (substitution_of b Left) u))) (c.side.ensures ∙ ap (side_of s.side) equation) in
+    let told_is : c.in_ok-unified_size.unified_size ≡ capped (side_size m n s t b r left right h) =
+    c.in_ok-unified_size.ensures ∙ ap (λ (u : Tree). capped (tree_size (instance (substitution_of b Left) u))) (c.side.ensures ∙ ap (side_of s.side) equation) in
     let small : size_under b Left first + size_under b Right second ≤ MOST_SYMBOLS =
     surely_small m n s t b r left right h c.in_ok-unified_size.unified_size told_is (c.are_surely_small.ensures.0 c.if-are_surely_small.true) in
     sym (small_not_heavy (size_under b Left first) (size_under b Right second) (tree_size (instance (substitution_of b Left) (side_of s.side l))) small)
@@ -111,10 +111,10 @@ returns-then-are_settled c mode sites =
     let second_bound = bound_of (clause_variables second) in
     let left_told = c.in_ok-left_size.left_size in
     let right_told = c.in_ok-right_size.right_size in
-    let left_is : left_told ≡ stopped (size_under b Left first) =
-    c.in_ok-left_size.ensures ∙ ap (λ ls. stopped (sum_by literal_size (literals_instance (substitution_of b Left) (literals_at ls)))) c.literals.ensures.literals in
-    let right_is : right_told ≡ stopped (size_under b Right second) =
-    c.in_ok-right_size.ensures ∙ ap (λ ls. stopped (sum_by literal_size (literals_instance (substitution_of b Right) (literals_at ls)))) c.literals-2.ensures.literals in
+    let left_is : left_told ≡ capped (size_under b Left first) =
+    c.in_ok-left_size.ensures ∙ ap (λ ls. capped (sum_by literal_size (literals_instance (substitution_of b Left) (literals_at ls)))) c.literals.ensures.literals in
+    let right_is : right_told ≡ capped (size_under b Right second) =
+    c.in_ok-right_size.ensures ∙ ap (λ ls. capped (sum_by literal_size (literals_instance (substitution_of b Right) (literals_at ls)))) c.literals-2.ensures.literals in
     heavy_settled m n s t b r left_told right_told left_is right_is
     (omega (arith, c.max.ensures, c.if-max-gt-MOST_SYMBOLS.true)) mode c.args.second.now.sites.now.choice sites
     (c.are_settled.ensures c.if-are_settled.true)
@@ -137,14 +137,14 @@ is_heavy-heavy-requires-clause-unified c =
     let equation : lent_of c.literal-equation.result ≡ r.starts.literal =
     same_Some (lent_of c.literal-equation.result) r.starts.literal
     (sym c.literal-equation.ensures ∙ ap (λ (ls : List TreeLiteral). slice_get ls s.literal) c.lend-literals.ensures ∙ r.starts.there) in
-    let told_is : c.in_ok-unified_size.unified_size ≡ stopped (side_size m n s t b r left right h) =
-    c.in_ok-unified_size.ensures ∙ ap (λ (u : Tree). stopped (tree_size (instance (substitution_of b Left) u))) (c.side.ensures ∙ ap (side_of s.side) equation) in
+    let told_is : c.in_ok-unified_size.unified_size ≡ capped (side_size m n s t b r left right h) =
+    c.in_ok-unified_size.ensures ∙ ap (λ (u : Tree). capped (tree_size (instance (substitution_of b Left) u))) (c.side.ensures ∙ ap (side_of s.side) equation) in
     let left_told = c.in_ok-left_size.left_size in
     let right_told = c.in_ok-right_size.right_size in
-    let left_is : left_told ≡ stopped (size_under b Left first) =
-    c.in_ok-left_size.ensures ∙ ap (λ ls. stopped (sum_by literal_size (literals_instance (substitution_of b Left) (literals_at ls)))) c.literals.ensures.literals in
-    let right_is : right_told ≡ stopped (size_under b Right second) =
-    c.in_ok-right_size.ensures ∙ ap (λ ls. stopped (sum_by literal_size (literals_instance (substitution_of b Right) (literals_at ls)))) c.literals-2.ensures.literals in
+    let left_is : left_told ≡ capped (size_under b Left first) =
+    c.in_ok-left_size.ensures ∙ ap (λ ls. capped (sum_by literal_size (literals_instance (substitution_of b Left) (literals_at ls)))) c.literals.ensures.literals in
+    let right_is : right_told ≡ capped (size_under b Right second) =
+    c.in_ok-right_size.ensures ∙ ap (λ ls. capped (sum_by literal_size (literals_instance (substitution_of b Right) (literals_at ls)))) c.literals-2.ensures.literals in
     let left_same : left_told ≡ size_under b Left first = stays left_told (size_under b Left first) left_is (omega (arith, c.if-left_size-ge-SIZE_LIMIT.false)) in
     let right_same : right_told ≡ size_under b Right second = stays right_told (size_under b Right second) right_is (omega (arith, c.if-right_size-ge-SIZE_LIMIT.false)) in
     let low = side_low m n s t b r left right h in
@@ -167,10 +167,10 @@ ordered_superposition-requires-2-clause-left_small c =
     let second_bound = bound_of (clause_variables second) in
     let left_told = c.in_ok-left_size.left_size in
     let right_told = c.in_ok-right_size.right_size in
-    let left_is : left_told ≡ stopped (size_under b Left first) =
-    c.in_ok-left_size.ensures ∙ ap (λ ls. stopped (sum_by literal_size (literals_instance (substitution_of b Left) (literals_at ls)))) c.literals.ensures.literals in
-    let right_is : right_told ≡ stopped (size_under b Right second) =
-    c.in_ok-right_size.ensures ∙ ap (λ ls. stopped (sum_by literal_size (literals_instance (substitution_of b Right) (literals_at ls)))) c.literals-2.ensures.literals in
+    let left_is : left_told ≡ capped (size_under b Left first) =
+    c.in_ok-left_size.ensures ∙ ap (λ ls. capped (sum_by literal_size (literals_instance (substitution_of b Left) (literals_at ls)))) c.literals.ensures.literals in
+    let right_is : right_told ≡ capped (size_under b Right second) =
+    c.in_ok-right_size.ensures ∙ ap (λ ls. capped (sum_by literal_size (literals_instance (substitution_of b Right) (literals_at ls)))) c.literals-2.ensures.literals in
     let left_same : left_told ≡ size_under b Left first = stays left_told (size_under b Left first) left_is (omega (arith, c.if-left_size-ge-SIZE_LIMIT.false)) in
     let right_same : right_told ≡ size_under b Right second = stays right_told (size_under b Right second) right_is (omega (arith, c.if-right_size-ge-SIZE_LIMIT.false)) in
     omega (arith, left_same, c.if-left_size-ge-SIZE_LIMIT.false)
@@ -189,10 +189,10 @@ ordered_superposition-requires-2-clause-right_small c =
     let second_bound = bound_of (clause_variables second) in
     let left_told = c.in_ok-left_size.left_size in
     let right_told = c.in_ok-right_size.right_size in
-    let left_is : left_told ≡ stopped (size_under b Left first) =
-    c.in_ok-left_size.ensures ∙ ap (λ ls. stopped (sum_by literal_size (literals_instance (substitution_of b Left) (literals_at ls)))) c.literals.ensures.literals in
-    let right_is : right_told ≡ stopped (size_under b Right second) =
-    c.in_ok-right_size.ensures ∙ ap (λ ls. stopped (sum_by literal_size (literals_instance (substitution_of b Right) (literals_at ls)))) c.literals-2.ensures.literals in
+    let left_is : left_told ≡ capped (size_under b Left first) =
+    c.in_ok-left_size.ensures ∙ ap (λ ls. capped (sum_by literal_size (literals_instance (substitution_of b Left) (literals_at ls)))) c.literals.ensures.literals in
+    let right_is : right_told ≡ capped (size_under b Right second) =
+    c.in_ok-right_size.ensures ∙ ap (λ ls. capped (sum_by literal_size (literals_instance (substitution_of b Right) (literals_at ls)))) c.literals-2.ensures.literals in
     let left_same : left_told ≡ size_under b Left first = stays left_told (size_under b Left first) left_is (omega (arith, c.if-left_size-ge-SIZE_LIMIT.false)) in
     let right_same : right_told ≡ size_under b Right second = stays right_told (size_under b Right second) right_is (omega (arith, c.if-right_size-ge-SIZE_LIMIT.false)) in
     omega (arith, right_same, c.if-right_size-ge-SIZE_LIMIT.false)
@@ -215,14 +215,14 @@ ordered_superposition-requires-2-clause-heavy c l there =
     let equation : lent_of c.literal-equation.result ≡ r.starts.literal =
     same_Some (lent_of c.literal-equation.result) r.starts.literal
     (sym c.literal-equation.ensures ∙ ap (λ (ls : List TreeLiteral). slice_get ls s.literal) c.lend-literals.ensures ∙ r.starts.there) in
-    let told_is : c.in_ok-unified_size.unified_size ≡ stopped (side_size m n s t b r left right h) =
-    c.in_ok-unified_size.ensures ∙ ap (λ (u : Tree). stopped (tree_size (instance (substitution_of b Left) u))) (c.side.ensures ∙ ap (side_of s.side) equation) in
+    let told_is : c.in_ok-unified_size.unified_size ≡ capped (side_size m n s t b r left right h) =
+    c.in_ok-unified_size.ensures ∙ ap (λ (u : Tree). capped (tree_size (instance (substitution_of b Left) u))) (c.side.ensures ∙ ap (side_of s.side) equation) in
     let left_told = c.in_ok-left_size.left_size in
     let right_told = c.in_ok-right_size.right_size in
-    let left_is : left_told ≡ stopped (size_under b Left first) =
-    c.in_ok-left_size.ensures ∙ ap (λ ls. stopped (sum_by literal_size (literals_instance (substitution_of b Left) (literals_at ls)))) c.literals.ensures.literals in
-    let right_is : right_told ≡ stopped (size_under b Right second) =
-    c.in_ok-right_size.ensures ∙ ap (λ ls. stopped (sum_by literal_size (literals_instance (substitution_of b Right) (literals_at ls)))) c.literals-2.ensures.literals in
+    let left_is : left_told ≡ capped (size_under b Left first) =
+    c.in_ok-left_size.ensures ∙ ap (λ ls. capped (sum_by literal_size (literals_instance (substitution_of b Left) (literals_at ls)))) c.literals.ensures.literals in
+    let right_is : right_told ≡ capped (size_under b Right second) =
+    c.in_ok-right_size.ensures ∙ ap (λ ls. capped (sum_by literal_size (literals_instance (substitution_of b Right) (literals_at ls)))) c.literals-2.ensures.literals in
     let left_same : left_told ≡ size_under b Left first = stays left_told (size_under b Left first) left_is (omega (arith, c.if-left_size-ge-SIZE_LIMIT.false)) in
     let right_same : right_told ≡ size_under b Right second = stays right_told (size_under b Right second) right_is (omega (arith, c.if-right_size-ge-SIZE_LIMIT.false)) in
     let low = side_low m n s t b r left right h in

@@ -5,9 +5,9 @@ use Rattle.fol_base.specs.Ground.{literals_instance}
 use Rattle.term_bank.specs.Literal.{literals_at}
 use Rattle.unifier.specs.Solution.{solved_form}
 use Rattle.unifier.specs.SolvedForm.{substitution_of}
-use Rattle.unifier.specs.Sizes.{stopped}
+use Rattle.plain_types.specs.Capped.{capped}
 use Rattle.unifier.proofs.solution.Solution.literals_size.Given as goal
 
 abbrev pub invariant-loop-literal : goal.invariant-loop-literal
 invariant-loop-literal l =
-    l.total ≡ stopped (sum_by literal_size (literals_instance (substitution_of (solved_form l.self) l.side) (literals_at (take l.literal-index l.literals))))
+    l.total ≡ capped (sum_by literal_size (literals_instance (substitution_of (solved_form l.self) l.side) (literals_at (take l.literal-index l.literals))))
