@@ -1,7 +1,7 @@
 -- A reduced clause that goes on by a move is a reduced clause.
-use Rattle.std.proofs.Common.{◌≡◌, ℕ, suc, ◌+◌, ◌==◌, Bool, true, false, ◌||◌, List, [], ◌∷◌, ◌++◌, append-nil, Option, Some, None, refl, ap, sym, ◌∙◌, subst, ⊎_elim}
+use Rattle.std.proofs.Common.{◌≡◌, ℕ, suc, ◌+◌, ◌==◌, Bool, true, ◌||◌, List, [], ◌∷◌, ◌++◌, append-nil, Option, Some, None, refl, ap, sym, ◌∙◌, subst, ⊎_elim}
 use Rattle.std.specs.Prelude.{filter, flat_map, All, Contains, is_some, option_map, nat_lt, if◌then◌else◌}
-use Rattle.std.proofs.lemmas.Bool.{cond-true, cond-false, cases_Bool, eqb-true, eq-eqb, or_left, true≢false}
+use Rattle.std.proofs.lemmas.Bool.{cond-true, cond-false, cases_Bool, or_left}
 use Rattle.std.proofs.lemmas.Grind.{flat_map-append}
 use Rattle.std.proofs.lemmas.List.Elements.{All-append, All-nil, All-cons, All-weaker, All-contains, filter-append, filter_map-append, Contains-append_left, Contains-push}
 use Rattle.std.proofs.lemmas.List.Sums.{fold-append}
@@ -16,28 +16,28 @@ use Rattle.kernel_steps.specs.Derivation.{reduced_parents}
 use Rattle.kernel_steps.specs.Lines.{AreLines, IsNumbered, clause_parents, clauses_named, has_small_terms, is_on_literals, step_parents}
 use Rattle.kernel_steps.specs.Moves.{Move, AreMoves, MovesTo, end_of_moves, units_of}
 use Rattle.kernel_steps.specs.Soundness.{binds_each}
+use Rattle.kernel_steps.specs.Split.{has_number}
 use Rattle.kernel_steps.specs.Symbols.{symbols_pass, clause_symbols_pass, bound_symbols_pass}
 use Rattle.kernel_steps.specs.declared.step.TheConstants.{CLAUSE_NUMBERS}
 use Rattle.kernel_steps.specs.declared.step.Line.{Line}
 use Rattle.kernel_steps.specs.declared.step.Reduced.{Reduced}
 use Rattle.reduction.specs.Reduced.{IsReduced, BindsSymbolsOf, last_clause, with_number}
 use Rattle.reduction.specs.Extending.{AreLinesOfMove, IsExtended, MovesExtend, StepsGoOn, last_number, noted, unit_numbers}
-use Rattle.reduction.proofs.VerdictLemmas.{has_number}
 use Rattle.reduction.proofs.LineLemmas.{steps-joined}
 use Rattle.reduction.proofs.SymbolLemmas.{last-passes, Contains-has}
 
 -- ---- numbers that are noted
 
-met-has : (n : ℕ) (ns : List ℕ) → is_some (place_of n ns) ≡ has_number ns n
+met-has : (n : ℕ) (ns : List ℕ) → is_some (place_of n ns) ≡ has_number n ns
 met-has n [] = refl
 met-has n (k ∷ ns) =
     ⊎_elim
-    (λ here. ap (λ o. is_some o) (cond-true (n == k) (Some 0) (later n ns) here) ∙ sym (or_left (k == n) (has_number ns n) (eq-eqb k n (sym (eqb-true n k here)))))
+    (λ here. ap (λ o. is_some o) (cond-true (n == k) (Some 0) (later n ns) here) ∙ sym (or_left (n == k) (has_number n ns) here))
     (λ other.
     ap (λ o. is_some o) (cond-false (n == k) (Some 0) (later n ns) other)
     ∙ some-suc (place_of n ns)
     ∙ met-has n ns
-    ∙ ap (λ b. b || has_number ns n) (sym (apart n k other)))
+    ∙ ap (λ b. b || has_number n ns) (sym other))
     (cases_Bool (n == k))
   where
     later : ℕ → List ℕ → Option ℕ
@@ -46,10 +46,6 @@ met-has n (k ∷ ns) =
     some-suc : (o : Option ℕ) → is_some (option_map suc o) ≡ is_some o
     some-suc None = refl
     some-suc (Some k) = refl
-
-    apart : (n k : ℕ) → (n == k) ≡ false → (k == n) ≡ false
-    apart n k h =
-        ⊎_elim (λ same. absurd (true≢false (sym (eq-eqb n k (sym (eqb-true k n same))) ∙ h))) (λ differ. differ) (cases_Bool (k == n))
 
 noted-more : (n : ℕ) (ns : List ℕ) → with_number n (distinct ns) ≡ distinct (ns ++ n ∷ [])
 noted-more n ns =
@@ -66,16 +62,16 @@ noted-distinct (Some n) ns = noted-more n ns
 pub with_number-keeps : (n m : ℕ) (ns : List ℕ) → Contains ns m → Contains (with_number n ns) m
 with_number-keeps n m ns there =
     ⊎_elim
-    (λ listed. subst (λ ks. Contains ks m) (sym (cond-true (has_number ns n) ns (ns ++ n ∷ []) listed)) there)
-    (λ new. subst (λ ks. Contains ks m) (sym (cond-false (has_number ns n) ns (ns ++ n ∷ []) new)) (Contains-append_left ns (n ∷ []) m there))
-    (cases_Bool (has_number ns n))
+    (λ listed. subst (λ ks. Contains ks m) (sym (cond-true (has_number n ns) ns (ns ++ n ∷ []) listed)) there)
+    (λ new. subst (λ ks. Contains ks m) (sym (cond-false (has_number n ns) ns (ns ++ n ∷ []) new)) (Contains-append_left ns (n ∷ []) m there))
+    (cases_Bool (has_number n ns))
 
 pub with_number-has : (n : ℕ) (ns : List ℕ) → Contains (with_number n ns) n
 with_number-has n ns =
     ⊎_elim
-    (λ listed. subst (λ ks. Contains ks n) (sym (cond-true (has_number ns n) ns (ns ++ n ∷ []) listed)) (Contains-has n ns listed))
-    (λ new. subst (λ ks. Contains ks n) (sym (cond-false (has_number ns n) ns (ns ++ n ∷ []) new)) (Contains-push ns n))
-    (cases_Bool (has_number ns n))
+    (λ listed. subst (λ ks. Contains ks n) (sym (cond-true (has_number n ns) ns (ns ++ n ∷ []) listed)) (Contains-has n ns listed))
+    (λ new. subst (λ ks. Contains ks n) (sym (cond-false (has_number n ns) ns (ns ++ n ∷ []) new)) (Contains-push ns n))
+    (cases_Bool (has_number n ns))
 
 noted-keeps : (by : Option ℕ) (m : ℕ) (ns : List ℕ) → Contains ns m → Contains (noted by ns) m
 noted-keeps None m ns there = there
@@ -92,12 +88,12 @@ noted-all ms (Some n) ns all =
     let before : All (Contains (ms ++ n ∷ [])) ns =
     All-weaker (Contains ms) (Contains (ms ++ n ∷ [])) (λ k there. Contains-append_left ms (n ∷ []) k there) ns all in
     ⊎_elim
-    (λ listed. subst (All (Contains (ms ++ n ∷ []))) (sym (cond-true (has_number ns n) ns (ns ++ n ∷ []) listed)) before)
+    (λ listed. subst (All (Contains (ms ++ n ∷ []))) (sym (cond-true (has_number n ns) ns (ns ++ n ∷ []) listed)) before)
     (λ new.
-    subst (All (Contains (ms ++ n ∷ []))) (sym (cond-false (has_number ns n) ns (ns ++ n ∷ []) new))
+    subst (All (Contains (ms ++ n ∷ []))) (sym (cond-false (has_number n ns) ns (ns ++ n ∷ []) new))
     (All-append (Contains (ms ++ n ∷ [])) ns (n ∷ []) before
     (All-cons (Contains (ms ++ n ∷ [])) n [] (Contains-push ms n) (All-nil (Contains (ms ++ n ∷ []))))))
-    (cases_Bool (has_number ns n))
+    (cases_Bool (has_number n ns))
 
 -- ---- lists that are joined
 

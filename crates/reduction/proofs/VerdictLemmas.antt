@@ -1,6 +1,5 @@
 -- The conclusion of a step on literals, by its parents alone.
-use Rattle.std.proofs.Common.{◌≡◌, ℕ, ◌==◌, Bool, true, List, [], ◌∷◌, Option, Some, refl, ap, ap₂, sym, ◌∙◌}
-use Rattle.std.specs.List.{list_any}
+use Rattle.std.proofs.Common.{◌≡◌, ℕ, ◌==◌, true, List, [], ◌∷◌, Option, Some, refl, ap, ap₂, sym, ◌∙◌}
 use Rattle.std.proofs.lemmas.Bool.{true≢false, or_left, or_right, eq-eqb}
 use Rattle.fol_base.specs.Tree.{Tree}
 use Rattle.fol_base.specs.Clause.{TreeLiteral, TreeClause}
@@ -8,19 +7,16 @@ use Rattle.fol_base.specs.Rules.{superposed, resolved, factored, merged}
 use Rattle.kernel_steps.specs.Parents.{Parent, Parents}
 use Rattle.kernel_steps.specs.Conclusion.{verdict, concludes, by_one, by_two}
 use Rattle.kernel_steps.specs.Lines.{is_on_literals, step_parents}
+use Rattle.kernel_steps.specs.Split.{has_number}
 use Rattle.kernel_steps.specs.declared.step.Step.{Step}
 use Rattle.kernel_steps.specs.declared.step.Step.TheVariants.{Para, Refl, Factor, Merge}
 use Rattle.kernel_steps.proofs.AboutCalls.VerdictParts.{by_one-parts, by_two-parts}
 
--- whether a number is in a list
-abbrev pub has_number : List ℕ → ℕ → Bool
-has_number ns n = list_any (λ m. m == n) ns
+has-first : (n : ℕ) (ns : List ℕ) → has_number n (n ∷ ns) ≡ true
+has-first n ns = or_left (n == n) (has_number n ns) (eq-eqb n n refl)
 
-has-first : (n : ℕ) (ns : List ℕ) → has_number (n ∷ ns) n ≡ true
-has-first n ns = or_left (n == n) (has_number ns n) (eq-eqb n n refl)
-
-has-second : (n m : ℕ) (ns : List ℕ) → has_number (n ∷ m ∷ ns) m ≡ true
-has-second n m ns = or_right (n == m) (has_number (m ∷ ns) m) (has-first m ns)
+has-second : (n m : ℕ) (ns : List ℕ) → has_number m (n ∷ m ∷ ns) ≡ true
+has-second n m ns = or_right (m == n) (has_number m (m ∷ ns)) (has-first m ns)
 
 pub by_one-onward :
     (before after : Option Parent) (bind : List Tree) (rule : List TreeLiteral → Option (List TreeLiteral)) (c : TreeClause)
@@ -34,7 +30,7 @@ by_one-onward before after bind rule c onward h =
 pub conclusion-onward :
     (step : Step) (before after : Parents) (c : TreeClause)
     → is_on_literals step ≡ true
-    → ((n : ℕ) (p : Parent) → has_number (step_parents step) n ≡ true → before n ≡ Some p → after n ≡ Some p)
+    → ((n : ℕ) (p : Parent) → has_number n (step_parents step) ≡ true → before n ≡ Some p → after n ≡ Some p)
     → verdict step before ≡ concludes c → verdict step after ≡ concludes c
 conclusion-onward (Para first second from from_side into into_side place first_bind second_bind) before after c kind onward h =
     let rule : List TreeLiteral → List TreeLiteral → Option (List TreeLiteral) = λ ls ks. superposed ls from from_side ks into into_side place in

@@ -1,13 +1,13 @@
 -- Reduced clauses. Lines of kernel steps lead from the clause that was handed in to the result, and the result comes about by reducing
 -- steps; a reducing step may take several lines, as a cut does.
-use Rattle.std.specs.Prelude.{◌≡◌, ℕ, ◌+◌, Bool, ◌==◌, List, [], ◌∷◌, ◌++◌, Option, Some, All, Contains, IsTrue, if◌then◌else◌}
-use Rattle.std.specs.List.{list_any}
+use Rattle.std.specs.Prelude.{◌≡◌, ℕ, ◌+◌, Bool, List, [], ◌∷◌, ◌++◌, Option, Some, All, Contains, IsTrue, if◌then◌else◌}
 use Rattle.fol_base.specs.Tree.{true_symbol}
 use Rattle.fol_base.specs.Clause.{TreeClause}
 use Rattle.fol_base.specs.Canonical.{distinct}
 use Rattle.fol_base.specs.Literal.{clause_of}
 use Rattle.kernel_steps.specs.Derivation.{reduced_parents}
 use Rattle.kernel_steps.specs.Lines.{AreLines, clause_parents, clauses_named}
+use Rattle.kernel_steps.specs.Split.{has_number}
 use Rattle.kernel_steps.specs.Moves.{Move, AreMoves, end_of_moves, units_of}
 use Rattle.kernel_steps.specs.Symbols.{clause_symbols_pass, bound_symbols_pass}
 use Rattle.kernel_steps.specs.declared.step.TheConstants.{CLAUSE_NUMBERS}
@@ -25,7 +25,7 @@ last_clause c (l ∷ ls) = last_clause (clause_of l.clause) ls
 
 -- a number put at the end of a list, unless it is there
 abbrev pub with_number : ℕ → List ℕ → List ℕ
-with_number n ns = if list_any (λ m. m == n) ns then ns else ns ++ n ∷ []
+with_number n ns = if has_number n ns then ns else ns ++ n ∷ []
 
 -- the clause with one of the numbers
 pub record IsOneOf (clauses : ℕ → Option TreeClause) (numbers : List ℕ) (c : TreeClause) : Type 0 where

@@ -1,9 +1,9 @@
 // What a caller that reduces clauses begins with, and how it notes the clauses that it used.
 
-ghost use Rattle.std.specs.Prelude.{◌≡◌, ◌==◌, ℕ, Bool, [], IfOk, OnErr, Option};
-ghost use Rattle.std.specs.List.{list_any};
+ghost use Rattle.std.specs.Prelude.{◌≡◌, ℕ, Bool, [], IfOk, OnErr, Option};
 ghost use Rattle.fol_base.specs.Clause.{TreeClause};
 ghost use Rattle.fol_base.specs.Literal.{clause_of};
+ghost use Rattle.kernel_steps.specs.Split.{has_number};
 ghost use Rattle.reduction.specs.Reduced.{IsReduced, with_number};
 
 use fol_base::Clause;
@@ -49,7 +49,7 @@ pub fn put_used(used: &mut Numbers, number: u32) -> Mem<()>
 
 /// Whether a number stands in a list.
 pub(crate) fn is_listed(numbers: &[u64], number: u64) -> bool
-    ensures { result ≡ list_any (λ m. m == number) numbers.now }
+    ensures { result ≡ has_number number numbers.now }
 {
-    numbers.iter().any(|known| *known == number)
+    numbers.iter().any(|known| number == *known)
 }

@@ -43,7 +43,7 @@ all-from P [] each = All-nil P
 all-from P (x ∷ xs) each = All-cons P x xs (each x (Contains-here x xs)) (all-from P xs (λ y there. each y (Contains-later x y xs there)))
 
 pub Contains-distinct : (ns : List ℕ) (n : ℕ) → Contains ns n → Contains (distinct ns) n
-Contains-distinct ns n h = Contains-has n (distinct ns) (has-distinct n ns (any-from (λ m. m == n) ns n h (eq-eqb n n refl)))
+Contains-distinct ns n h = Contains-has n (distinct ns) (has-distinct n ns (any-from (λ m. n == m) ns n h (eq-eqb n n refl)))
 
 Contains-flat_mapped :
     {X : Type 0} (f : X → List ℕ) (xs : List X) (n : ℕ) → Contains (flat_map f xs) n → (x : X) × Contains xs x × Contains (f x) n
