@@ -5,6 +5,7 @@ mod chain;
 mod conclude;
 mod instance;
 mod key;
+mod marks;
 mod name_set;
 mod names;
 mod parents;
@@ -14,6 +15,7 @@ mod step;
 
 pub use conclude::{binds, bound_size, conclusion};
 pub use key::Key;
+pub use marks::{last_marked, marked};
 pub use names::sorted_names;
 pub use parents::{LendsParents, ParentRef};
 pub use rules::{Bound, factor, merge, para, refl};

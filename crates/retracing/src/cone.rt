@@ -1,13 +1,13 @@
 // The steps that the last one needs: one pass from it backwards, since the parents of a step are earlier.
 
-ghost use Rattle.std.specs.Prelude.{◌≡◌, ◌+◌, ◌<◌, ◌||◌, ◌&&◌, ◌==◌, ℕ, length, IfOk, IsTrue};
+ghost use Rattle.std.specs.Prelude.{◌≡◌, ◌<◌, ◌||◌, ◌&&◌, ◌==◌, ℕ, length, IfOk, IsTrue};
 ghost use Rattle.std.specs.List.{list_all};
 ghost use Rattle.kernel_steps.specs.Lines.{step_parents, is_plain_step};
 ghost use Rattle.kernel_steps.specs.Split.{has_number};
 ghost use Rattle.retracing.specs.Needed.{HaveEarlierParents, AreNeeded};
-ghost use Rattle.kernel_steps.specs.Marks.{is_marked, marked_numbers};
+ghost use Rattle.kernel_steps.specs.Marks.{is_marked};
 
-use kernel_steps::Step;
+use kernel_steps::{Step, last_marked, marked};
 use plain_types::{Mem, Numbers};
 use std::alloc::Global;
 
@@ -26,17 +26,6 @@ pub fn needed(alloc: Global, steps: &[Step]) -> Mem<Numbers>
         visit(&mut marks, left, &steps[left]);
     }
     marked(alloc, marks.as_slice())
-}
-
-/// Marks for the steps up to the last, which alone is marked.
-fn last_marked(alloc: Global, last: usize) -> Mem<Vec<bool>>
-    ensures room { IfOk result (λ marks. length marks.items ≡ last + 1) }
-    ensures only { IfOk result (λ marks. (n : ℕ) → n < last + 1 → is_marked marks.items n ≡ (last == n)) }
-{
-    let mut marks = Vec::with_capacity(alloc, last.saturating_add(1))?;
-    marks.resize(last, false)?;
-    marks.push(true)?;
-    Ok(marks)
 }
 
 /// Marks the parents of a step, where it is marked.
@@ -80,17 +69,4 @@ fn mark(marks: &mut Vec<bool>, number: u64)
     if let Some(mark) = marks.get_mut(number as usize) {
         *mark = true;
     }
-}
-
-/// The numbers that are marked.
-fn marked(alloc: Global, marks: &[bool]) -> Mem<Numbers>
-    ensures { IfOk result (λ numbers. numbers ≡ marked_numbers 0 marks.now) }
-{
-    let mut numbers = Numbers::new(alloc);
-    for number in 0..marks.len() {
-        if marks[number] {
-            numbers.push(number as u64)?;
-        }
-    }
-    Ok(numbers)
 }

@@ -7,9 +7,9 @@ ghost use Rattle.tstp_writer.specs.Marks.{comes_at};
 ghost use Rattle.kernel_steps.specs.Marks.{is_marked};
 ghost use Rattle.tstp_writer.specs.Scripts.{script_in};
 
-use crate::marks::{mark, marked, unmarked};
+use crate::marks::{mark, unmarked};
 use crate::script::Script;
-use kernel_steps::{Line, Step};
+use kernel_steps::{Line, Step, marked};
 use plain_types::{Mem, Numbers};
 use std::alloc::Global;
 

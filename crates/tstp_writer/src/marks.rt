@@ -1,9 +1,9 @@
 // Marks at the places of a list.
 
 ghost use Rattle.std.specs.Prelude.{◌≡◌, ◌<◌, ◌||◌, ◌==◌, ℕ, false, length, IfOk};
-ghost use Rattle.kernel_steps.specs.Marks.{is_marked, marked_numbers};
+ghost use Rattle.kernel_steps.specs.Marks.{is_marked};
 
-use plain_types::{Mem, Numbers};
+use plain_types::Mem;
 use std::alloc::Global;
 
 /// So many places, none of them marked.
@@ -24,17 +24,4 @@ pub(crate) fn mark(marks: &mut Vec<bool>, place: u64)
     if let Some(mark) = marks.get_mut(place as usize) {
         *mark = true;
     }
-}
-
-/// The places that are marked.
-pub(crate) fn marked(alloc: Global, marks: &[bool]) -> Mem<Numbers>
-    ensures { IfOk result (λ numbers. numbers ≡ marked_numbers 0 marks.now) }
-{
-    let mut numbers = Numbers::new(alloc);
-    for place in 0..marks.len() {
-        if marks[place] {
-            numbers.push(place as u64)?;
-        }
-    }
-    Ok(numbers)
 }

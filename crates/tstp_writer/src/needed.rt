@@ -6,9 +6,9 @@ ghost use Rattle.tstp_writer.specs.Cone.{has_number, NeedEarlier, IsCone};
 ghost use Rattle.tstp_writer.specs.Marks.{defines_one, has_line, IsAdded, IsVisited};
 ghost use Rattle.kernel_steps.specs.Marks.{is_marked, marked_numbers};
 
-use crate::marks::{mark, marked};
+use crate::marks::mark;
 use indexmap::IndexSet;
-use kernel_steps::{Derivation, Line, Step};
+use kernel_steps::{Derivation, Line, Step, last_marked, marked};
 use plain_types::{Mem, Numbers};
 use std::alloc::Global;
 
@@ -45,9 +45,7 @@ impl Marks {
         ensures only { IfOk result (λ marks. (n : ℕ) → n < last + 1 → is_marked marks.lines.items n ≡ (last == n)) }
         ensures names { IfOk result (λ marks. marks.names.keys ≡ []) }
     {
-        let mut lines = Vec::new(alloc);
-        lines.resize(last, false)?;
-        lines.push(true)?;
+        let lines = last_marked(alloc, last)?;
         Ok(Marks {
             lines,
             names: IndexSet::new(alloc),
