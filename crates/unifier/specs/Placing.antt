@@ -67,13 +67,6 @@ PartsInside c p (Application f l) = HasLookUp c p l
 PartsInside c p NoTrees = ⊤
 PartsInside c p (TreeThen a b) = HasLookUp c p a × HasLookUp c p b
 
--- a cell's parts are below a number
-abbrev pub PartsBelow : ℕ → Cell → Type 0
-PartsBelow n (Variable w) = ⊤
-PartsBelow n (Application f l) = l < n
-PartsBelow n NoTrees = ⊤
-PartsBelow n (TreeThen a b) = (a < n) × (b < n)
-
 -- the smallest cells of a cell's parts' classes
 abbrev pub parts_of : Classes → Cell → List ℕ
 parts_of c (Variable w) = []

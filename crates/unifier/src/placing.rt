@@ -1,7 +1,8 @@
 // Putting the classes into an order in which parts come first.
 
 ghost use Rattle.std.specs.Prelude.{◌≡◌, ℕ, ◌<◌, ◌≤◌, None, Some, true, length, IfOk, OnOk, MatchOption, slice_set};
-ghost use Rattle.unifier.specs.Placing.{AddsParts, PartsBelow};
+ghost use Rattle.unifier.specs.Cells.{IsAfterParts};
+ghost use Rattle.unifier.specs.Placing.{AddsParts};
 
 use crate::cells::Cell;
 use crate::classes::Classes;
@@ -39,7 +40,7 @@ pub enum Visit {
 
 /// Adds the smallest cells of a cell's parts' classes.
 fn push_parts(due: &mut Vec<usize>, classes: &Classes, cell: Cell) -> Mem<()>
-    requires parts { PartsBelow (length classes.now.parents.items) cell }
+    requires parts { IsAfterParts (length classes.now.parents.items) cell }
     ensures { OnOk result (AddsParts classes.now cell due.old.items due.new.items) }
 {
     match cell {

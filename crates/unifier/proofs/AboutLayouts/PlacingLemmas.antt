@@ -14,7 +14,7 @@ use Rattle.unifier.specs.declared.placing.Sweep.TheVariants.{Stuck}
 use Rattle.unifier.specs.declared.placing.Visit.TheVariants.{Placed, Waiting, Kept}
 use Rattle.unifier.specs.Cells.{cell_at, AreOrdered, IsAfterParts}
 use Rattle.unifier.specs.Classes.{parent, schema, AreClasses}
-use Rattle.unifier.specs.Placing.{place, IsPlacedAs, Waits, HasPlace, IsPlacing, waiting, IsPlaced, PartsInside, PartsBelow, parts_of, AddsParts, VisitDone, SweepDone, IsOrdering}
+use Rattle.unifier.specs.Placing.{place, IsPlacedAs, Waits, HasPlace, IsPlacing, waiting, IsPlaced, PartsInside, parts_of, AddsParts, VisitDone, SweepDone, IsOrdering}
 use Rattle.unifier.proofs.AboutLayouts.LayoutLemmas.{ordered-push, cell_at-front, cell_at-last}
 use Rattle.unifier.proofs.AboutClasses.ClassLemmas.{set-read, length-put, eq_or}
 
@@ -333,7 +333,7 @@ walk-visits cells c old now new i v due rest entered h e placing done =
       both.1,
     )
 
-parts-of-below : (n : ℕ) (c : Classes) (x : Cell) → AreClasses n c → PartsBelow n x → All (λ i. i < n) (parts_of c x)
+parts-of-below : (n : ℕ) (c : Classes) (x : Cell) → AreClasses n c → IsAfterParts n x → All (λ i. i < n) (parts_of c x)
 parts-of-below n c (Variable w) h below = All-nil (λ i. i < n)
 parts-of-below n c (Application f l) h below =
     All-from_recursion (λ i. i < n) (parent c l ∷ []) (omega (arith, h.down l below, below), tt)
@@ -350,7 +350,7 @@ below-push n xs new i h inside e =
 pub below-last : (n : ℕ) (xs rest : List ℕ) (i : ℕ) → All (λ j. j < n) xs → xs ≡ rest ++ i ∷ [] → i < n
 below-last n xs rest i h e = (All-pop (λ j. j < n) xs rest (Some i) e h).1
 
-after-below : (n s : ℕ) (x : Cell) → s < n → IsAfterParts s x → PartsBelow n x
+after-below : (n s : ℕ) (x : Cell) → s < n → IsAfterParts s x → IsAfterParts n x
 after-below n s (Variable w) inside after = tt
 after-below n s (Application f l) inside after = omega (arith, after)
 after-below n s NoTrees inside after = tt
@@ -358,7 +358,7 @@ after-below n s (TreeThen a b) inside after = (omega (arith, after.0), omega (ar
 
 pub schema-below :
     (cells : List Cell) (c : Classes) (i s : ℕ)
-    → AreClasses (length cells) c → AreOrdered cells → i < length cells → s ≡ schema c i → PartsBelow (length cells) (cell_at cells s)
+    → AreClasses (length cells) c → AreOrdered cells → i < length cells → s ≡ schema c i → IsAfterParts (length cells) (cell_at cells s)
 schema-below cells c i s h ordered inside e =
     let P : ℕ → Type 0 = λ k. k < length cells in
     let s_in : s < length cells = subst P (sym e) (h.inside i inside) in
