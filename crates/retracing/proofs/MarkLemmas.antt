@@ -4,9 +4,9 @@ use Rattle.std.specs.Prelude.{slice_get, unwrap_or, IsTrue}
 use Rattle.std.proofs.lemmas.Bool.{or_cases, or_left, or_right, eqb-true, eq-eqb, ne_eqb, and_parts, and_from, cases_lt, lt-ltb, false≢true}
 use Rattle.std.proofs.lemmas.Option.{same_Some, slice_get_past, slice_get_within}
 use Rattle.kernel_steps.specs.Lines.{step_parents}
-use Rattle.kernel_steps.specs.Split.{has_number, rises_from}
+use Rattle.kernel_steps.specs.Split.{has_number, rises_from, is_rising}
 use Rattle.kernel_steps.specs.declared.step.Step.{Step}
-use Rattle.retracing.specs.Needed.{HaveEarlierParents, IsNeeded, is_rising, AreNeeded}
+use Rattle.retracing.specs.Needed.{HaveEarlierParents, IsNeeded, AreNeeded}
 use Rattle.kernel_steps.specs.Marks.{is_marked, marked_numbers}
 
 -- the marks after the visit of a step

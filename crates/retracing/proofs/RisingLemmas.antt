@@ -4,8 +4,7 @@ use Rattle.std.specs.Prelude.{slice_get, nat_lt, nat_le}
 use Rattle.std.proofs.lemmas.Bool.{and_parts, or_cases, or_left, or_right, eqb-true, eq-eqb, ltb-true, leb-true, le-leb, cases_Bool, cases_lt, false≢true}
 use Rattle.std.proofs.lemmas.Option.{none-some, same_Some, slice_get_within, slice_get-get_or, get_or_from_slice_get}
 use Rattle.std.proofs.lemmas.List.Sums.{position_or_len_is}
-use Rattle.kernel_steps.specs.Split.{has_number, rises_from}
-use Rattle.retracing.specs.Needed.{is_rising}
+use Rattle.kernel_steps.specs.Split.{has_number, rises_from, is_rising}
 use Rattle.retracing.specs.Renumbered.{place_among}
 
 -- ---- by places

@@ -1,7 +1,7 @@
 -- The steps that the last one of a list needs.
-use Rattle.std.specs.Prelude.{◌≡◌, ℕ, ◌-◌, ◌<◌, Bool, true, List, [], ◌∷◌, Some, length, slice_get, ◌↔◌, IsTrue}
+use Rattle.std.specs.Prelude.{◌≡◌, ℕ, ◌-◌, ◌<◌, Bool, List, Some, length, slice_get, ◌↔◌, IsTrue}
 use Rattle.kernel_steps.specs.Lines.{step_parents}
-use Rattle.kernel_steps.specs.Split.{has_number, rises_from}
+use Rattle.kernel_steps.specs.Split.{has_number, is_rising}
 use Rattle.kernel_steps.specs.declared.step.Step.{Step}
 
 -- each step concludes from earlier ones
@@ -17,11 +17,6 @@ IsClosed steps set =
 -- What the last step needs is itself, its parents, theirs, and so on: all that stands in each closed set that has it.
 abbrev pub IsNeeded : List Step → ℕ → Type 0
 IsNeeded steps n = (set : ℕ → Bool) → IsTrue (set (length steps - 1)) → IsClosed steps set → IsTrue (set n)
-
--- each number is less than those behind it
-abbrev pub is_rising : List ℕ → Bool
-is_rising [] = true
-is_rising (n ∷ ns) = rises_from n ns
 
 -- the numbers of the steps that the last one needs, each once, in order
 pub record AreNeeded (steps : List Step) (numbers : List ℕ) : Type 0 where

@@ -2,7 +2,7 @@
 
 ghost use Rattle.std.specs.Prelude.{◌≡◌, IfOk, IsTrue};
 ghost use Rattle.kernel_steps.specs.Lines.{is_plain_step};
-ghost use Rattle.retracing.specs.Needed.{is_rising};
+ghost use Rattle.kernel_steps.specs.Split.{is_rising};
 ghost use Rattle.retracing.specs.Renumbered.{place_among, renumbered};
 
 use kernel_steps::Step;

@@ -7,7 +7,8 @@ ghost use Rattle.fol_base.specs.Literal.{clause_of};
 ghost use Rattle.kernel_steps.specs.Conclusion.{is_rule_step, verdict, concludes};
 ghost use Rattle.kernel_steps.specs.Derivation.{line_parents, ComesBy, IsRefutation};
 ghost use Rattle.kernel_steps.specs.Lines.{is_plain_step};
-ghost use Rattle.retracing.specs.Needed.{is_rising, HaveEarlierParents};
+ghost use Rattle.kernel_steps.specs.Split.{is_rising};
+ghost use Rattle.retracing.specs.Needed.{HaveEarlierParents};
 ghost use Rattle.retracing.specs.Renumbered.{place_among, renumbered};
 ghost use Rattle.retracing.specs.Retraced.{AreRefutingSteps, IsRetracing};
 

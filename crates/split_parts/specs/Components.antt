@@ -3,17 +3,13 @@ use mathlib.Core.Bool.{beq}
 use Rattle.std.specs.Prelude.{◌≡◌, ℕ, Bool, true, List, [], ◌∷◌, length, map, IsTrue}
 use Rattle.std.specs.List.{list_all}
 use Rattle.fol_base.specs.Clause.{TreeLiteral}
-use Rattle.kernel_steps.specs.Split.{is_part, rises_from, share_out, literals_at, share_variable, share_no_variables}
+use Rattle.kernel_steps.specs.Split.{is_part, is_rising, share_out, literals_at, share_variable, share_no_variables}
 
 -- the first place of each part
 abbrev pub first_places : List (List ℕ) → List ℕ
 first_places [] = []
 first_places ([] ∷ parts) = first_places parts
 first_places ((k ∷ ks) ∷ parts) = k ∷ first_places parts
-
-abbrev pub rise : List ℕ → Bool
-rise [] = true
-rise (k ∷ ks) = rises_from k ks
 
 -- a property of places that is the same wherever two literals share a variable
 abbrev pub FollowsVariables : List TreeLiteral → (ℕ → Bool) → Type 0
@@ -30,5 +26,5 @@ pub record IsComponents (ls : List TreeLiteral) (parts : List (List ℕ)) : Type
   pub are_parts : IsTrue (list_all is_part parts)
   pub shared_out : IsTrue (share_out (length ls) parts)
   pub apart : IsTrue (share_no_variables (map (literals_at ls) parts))
-  pub in_order : IsTrue (rise (first_places parts))
+  pub in_order : IsTrue (is_rising (first_places parts))
   pub whole : (f : ℕ → Bool) → FollowsVariables ls f → IsTrue (list_all (is_constant_on f) parts)

@@ -7,8 +7,8 @@ use Rattle.std.proofs.lemmas.Bool.{or_cases, or_left, or_right, and_from, and_pa
 use Rattle.std.proofs.lemmas.List.Folds.{list_any-append}
 use lib.ListN.{length-append}
 use Rattle.fol_base.specs.Clause.{TreeLiteral, literal_variables}
-use Rattle.kernel_steps.specs.Split.{has_number, has_all_below, is_part, rises_from, literals_at, share_variable, share_no_variables}
-use Rattle.split_parts.specs.Components.{IsComponents, first_places, rise, is_constant_on}
+use Rattle.kernel_steps.specs.Split.{has_number, has_all_below, is_part, rises_from, literals_at, share_variable, share_no_variables, is_rising}
+use Rattle.split_parts.specs.Components.{IsComponents, first_places, is_constant_on}
 use Rattle.split_parts.proofs.AboutParts.PlaceLemmas.{all-pass, has-more, passing, has-at_places, follows-variable}
 use Rattle.split_parts.proofs.AboutParts.ComponentLemmas.{same-says}
 use Rattle.pool_core.specs.Components.{places, component_of, begins_at, components_of}
@@ -81,7 +81,7 @@ module _ (ls : List TreeLiteral) where
       one-component k m one.0 k_below m_below k_first m_first one.1.0
       (follows-variable ls (λ j. has_number j (component_of ls m)) found.0 one.0 other.0 (component-follows ls m m_below) one.1.1 other.1.1 ∙ other.1.0)
 
-  apart : (ks : List ℕ) → rise ks ≡ true → ((k : ℕ) → has_number k ks ≡ true → (k < length ls) × (begins k ≡ true)) → share_no_variables (map (literals_at ls) (map (component_of ls) ks)) ≡ true
+  apart : (ks : List ℕ) → is_rising ks ≡ true → ((k : ℕ) → has_number k ks ≡ true → (k < length ls) × (begins k ≡ true)) → share_no_variables (map (literals_at ls) (map (component_of ls) ks)) ≡ true
   apart [] rises each = refl
   apart (k ∷ ks) rises each =
       and_from (list_all (λ js. not (share_variable (literals_at ls (component_of ls k)) js)) (map (literals_at ls) (map (component_of ls) ks)))
@@ -101,7 +101,7 @@ module _ (ls : List TreeLiteral) where
           (λ later. omega (arith, ltb-true k j parts.0, above j js parts.1 m later))
           (or_cases (m == j) (has_number m js) h)
 
-      rise-rest : (k : ℕ) (ks : List ℕ) → rises_from k ks ≡ true → rise ks ≡ true
+      rise-rest : (k : ℕ) (ks : List ℕ) → rises_from k ks ≡ true → is_rising ks ≡ true
       rise-rest k [] rises = refl
       rise-rest k (j ∷ js) rises = (and_parts (nat_lt k j) (rises_from j js) rises).1
 
@@ -179,7 +179,7 @@ module _ (ls : List TreeLiteral) where
   total-none (k ∷ ks) = omega (arith, total-none ks)
 
   -- a number stands once in a list that rises
-  total-one : (f : ℕ) (ks : List ℕ) → rise ks ≡ true → has_number f ks ≡ true → total (λ k. one_if (k == f)) ks ≡ 1
+  total-one : (f : ℕ) (ks : List ℕ) → is_rising ks ≡ true → has_number f ks ≡ true → total (λ k. one_if (k == f)) ks ≡ 1
   total-one f [] rises h = absurd (true≢false (sym h))
   total-one f (k ∷ ks) rises h =
       ⊎_elim
@@ -202,7 +202,7 @@ module _ (ls : List TreeLiteral) where
           (λ later. omega (arith, ltb-true k j parts.0, above j js parts.1 m later))
           (or_cases (m == j) (has_number m js) h)
 
-      rise-rest : (k : ℕ) (ks : List ℕ) → rises_from k ks ≡ true → rise ks ≡ true
+      rise-rest : (k : ℕ) (ks : List ℕ) → rises_from k ks ≡ true → is_rising ks ≡ true
       rise-rest k [] rises = refl
       rise-rest k (j ∷ js) rises = (and_parts (nat_lt k j) (rises_from j js) rises).1
 
@@ -277,6 +277,6 @@ module _ (ls : List TreeLiteral) where
         (eq-eqb (length (flat_map (λ part. part) (components_of ls))) (length ls) count-all)
         (all-below (length ls) (omega arith));
     apart = apart firsts (filter-rise begins 0 (length ls)) first-says;
-    in_order = ap rise (first-places firsts (λ k h. (first-says k h).1)) ∙ filter-rise begins 0 (length ls);
+    in_order = ap is_rising (first-places firsts (λ k h. (first-says k h).1)) ∙ filter-rise begins 0 (length ls);
     whole = λ f follows. all-parts (is_constant_on f) firsts (λ k h. constant f (f k) (component_of ls k) (λ j there. same-on_component ls f follows k j there));
   }

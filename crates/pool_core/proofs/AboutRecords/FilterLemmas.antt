@@ -3,8 +3,7 @@ use Rattle.std.proofs.Common.{◌≡◌, ℕ, zero, suc, ◌+◌, ◌<◌, ◌�
 use Rattle.std.specs.Prelude.{nat_lt, filter}
 use Rattle.std.specs.List.{range_with_len}
 use Rattle.std.proofs.lemmas.Bool.{cases_Bool, or_cases, or_left, or_right, eqb-true, eqb-false, true≢false, and_from, lt-ltb}
-use Rattle.kernel_steps.specs.Split.{has_number, is_part, rises_from}
-use Rattle.split_parts.specs.Components.{rise}
+use Rattle.kernel_steps.specs.Split.{has_number, is_part, rises_from, is_rising}
 
 -- ---- what passes
 
@@ -93,13 +92,13 @@ filter-part p a (suc n) j h = either (p a) h (filter-part p (a + 1) n j)
     either true there rest = filter-rises p a (a + 1) n (omega arith)
     either false there rest = rest there
 
-pub filter-rise : (p : ℕ → Bool) (a n : ℕ) → rise (filter p (range_with_len a n)) ≡ true
+pub filter-rise : (p : ℕ → Bool) (a n : ℕ) → is_rising (filter p (range_with_len a n)) ≡ true
 filter-rise p a zero = refl
 filter-rise p a (suc n) = either (p a) (filter-rise p (a + 1) n)
   where
     either :
-        (b : Bool) → rise (filter p (range_with_len (a + 1) n)) ≡ true
-        → rise (cond b (a ∷ filter p (range_with_len (a + 1) n)) (filter p (range_with_len (a + 1) n))) ≡ true
+        (b : Bool) → is_rising (filter p (range_with_len (a + 1) n)) ≡ true
+        → is_rising (cond b (a ∷ filter p (range_with_len (a + 1) n)) (filter p (range_with_len (a + 1) n))) ≡ true
     either true rest = filter-rises p a (a + 1) n (omega arith)
     either false rest = rest
 

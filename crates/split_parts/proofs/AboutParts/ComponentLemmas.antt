@@ -7,8 +7,8 @@ use Rattle.std.proofs.lemmas.Bool.{and_from, lt-ltb, eq-eqb, true≢false, or_ri
 use Rattle.std.proofs.lemmas.List.Concat.{length-flat_map}
 use Rattle.std.proofs.lemmas.List.Folds.{list_all-map, list_any-append}
 use Rattle.fol_base.specs.Clause.{TreeLiteral, literal_variables}
-use Rattle.kernel_steps.specs.Split.{has_number, has_all_below, is_part, rises_from, literals_at, share_variable, share_no_variables}
-use Rattle.split_parts.specs.Components.{IsComponents, first_places, rise, is_constant_on}
+use Rattle.kernel_steps.specs.Split.{has_number, has_all_below, is_part, rises_from, literals_at, share_variable, share_no_variables, is_rising}
+use Rattle.split_parts.specs.Components.{IsComponents, first_places, is_constant_on}
 use Rattle.split_parts.specs.Forest.{IsGrouped, IsLinked}
 use Rattle.split_parts.proofs.AboutParts.PlaceLemmas.{passing, all-pass, has-at_places, has-more}
 use Rattle.split_parts.proofs.AboutParts.GroupLemmas.{first-in}
@@ -26,7 +26,7 @@ pub firsts-rise :
     (parts : List (List ℕ))
     → ((p : ℕ) → p < length parts → is_part (slice_index_or parts p []) ≡ true)
     → ((p q : ℕ) → p < q → q < length parts → slice_index (slice_index_or parts p []) 0 < slice_index (slice_index_or parts q []) 0)
-    → rise (first_places parts) ≡ true
+    → is_rising (first_places parts) ≡ true
 firsts-rise [] each order = refl
 firsts-rise ([] ∷ parts) each order = absurd (true≢false (sym (each 0 (omega arith))))
 firsts-rise ((k ∷ ks) ∷ []) each order = refl

@@ -8,8 +8,8 @@ use Rattle.std.proofs.lemmas.List.{length-map}
 use Rattle.std.proofs.lemmas.List.Folds.{list_all-map, list_any-append}
 use Rattle.std.proofs.lemmas.Map.Steps.{le-length_from_below}
 use Rattle.fol_base.specs.Clause.{TreeLiteral, literal_variables}
-use Rattle.kernel_steps.specs.Split.{has_number, has_all_below, is_part, rises_from, literals_at, share_variable, share_no_variables}
-use Rattle.split_parts.specs.Components.{IsComponents, FollowsVariables, first_places, rise, is_constant_on}
+use Rattle.kernel_steps.specs.Split.{has_number, has_all_below, is_part, rises_from, literals_at, share_variable, share_no_variables, is_rising}
+use Rattle.split_parts.specs.Components.{IsComponents, FollowsVariables, first_places, is_constant_on}
 use Rattle.split_parts.specs.Forest.{variables_at}
 use Rattle.split_parts.proofs.AboutParts.PlaceLemmas.{passing, some-passes, has-in_places, variables_at-within}
 use Rattle.split_parts.proofs.AboutParts.GroupLemmas.{first-in}
@@ -27,7 +27,7 @@ above k (j ∷ ks) i rises h =
     (λ later. omega (arith, first, above j ks i parts.1 later))
     (or_cases (i == j) (has_number i ks) h)
 
-pub rise-tail : (k : ℕ) (ks : List ℕ) → rises_from k ks ≡ true → rise ks ≡ true
+pub rise-tail : (k : ℕ) (ks : List ℕ) → rises_from k ks ≡ true → is_rising ks ≡ true
 rise-tail k [] h = refl
 rise-tail k (j ∷ ks) h = (and_parts (nat_lt k j) (rises_from j ks) h).1
 
@@ -42,7 +42,7 @@ absent : (k : ℕ) (ks : List ℕ) → rises_from k ks ≡ true → has_number k
 absent k ks rises = ⊎_elim (λ h. absurd (omega (arith, above k ks k rises h))) (λ h. h) (cases_Bool (has_number k ks))
 
 -- lists that rise are equal where they have the same numbers
-rise-equal : (ks js : List ℕ) → rise ks ≡ true → rise js ≡ true → ((i : ℕ) → has_number i ks ≡ has_number i js) → ks ≡ js
+rise-equal : (ks js : List ℕ) → is_rising ks ≡ true → is_rising js ≡ true → ((i : ℕ) → has_number i ks ≡ has_number i js) → ks ≡ js
 rise-equal [] [] one other same = refl
 rise-equal [] (j ∷ js) one other same = absurd (true≢false (sym (has-first j js) ∙ sym (same j)))
 rise-equal (k ∷ ks) [] one other same = absurd (true≢false (sym (has-first k ks) ∙ same k))
@@ -61,7 +61,7 @@ rise-equal (k ∷ ks) (j ∷ js) one other same =
     ∙ ap (λ b. b || has_number i js) (ne_eqb i j (λ e. differ (e ∙ sym first))))
     (cases_eq i k)))
 
-pub part-rises : (part : List ℕ) → is_part part ≡ true → rise part ≡ true
+pub part-rises : (part : List ℕ) → is_part part ≡ true → is_rising part ≡ true
 part-rises [] h = absurd (true≢false (sym h))
 part-rises (k ∷ ks) h = h
 
@@ -114,7 +114,7 @@ first-least k j ks js parts others each rises among = let found = among 0 (omega
 parts-equal :
     (parts others : List (List ℕ))
     → list_all is_part parts ≡ true → list_all is_part others ≡ true
-    → rise (first_places parts) ≡ true → rise (first_places others) ≡ true
+    → is_rising (first_places parts) ≡ true → is_rising (first_places others) ≡ true
     → AreAmong parts others → AreAmong others parts → parts ≡ others
 parts-equal [] [] each each' order order' among among' = refl
 parts-equal [] (part ∷ others) each each' order order' among among' = absurd (let found = among' 0 (omega arith) in omega (arith, found.1.0))

@@ -5,8 +5,8 @@ use Rattle.std.specs.List.{range_with_len, cons_option}
 use Rattle.std.proofs.lemmas.Bool.{and_from, lt-ltb, eq-eqb, eqb-true, ne_eqb, true≢false, or_right, or_cases, cond-true, cond-false, cases_eq, cases_Bool}
 use Rattle.std.proofs.lemmas.List.FromFn.{length-range_with_len, get_or-range_with_len}
 use Rattle.fol_base.specs.Clause.{TreeLiteral, literal_variables}
-use Rattle.kernel_steps.specs.Split.{has_number, has_all_below, is_part, rises_from, literals_at}
-use Rattle.split_parts.specs.Components.{IsComponents, FollowsVariables, rise, is_constant_on}
+use Rattle.kernel_steps.specs.Split.{has_number, has_all_below, is_part, rises_from, literals_at, is_rising}
+use Rattle.split_parts.specs.Components.{IsComponents, FollowsVariables, is_constant_on}
 use Rattle.split_parts.specs.Forest.{variables_at}
 use Rattle.split_parts.proofs.AboutParts.PlaceLemmas.{passing, has-at, has-more, follows-variable}
 use Rattle.split_parts.proofs.AboutParts.ComponentLemmas.{all-below, constant, firsts-rise, has-in_parts}
@@ -43,7 +43,7 @@ index-here i k ks e = cond-true (i == k) 0 (suc (index_of i ks)) (eq-eqb i k e)
 index-later : (i k : ℕ) (ks : List ℕ) → ¬ (i ≡ k) → index_of i (k ∷ ks) ≡ suc (index_of i ks)
 index-later i k ks differ = cond-false (i == k) 0 (suc (index_of i ks)) (ne_eqb i k differ)
 
-index-at : (ks : List ℕ) (t : ℕ) → rise ks ≡ true → t < length ks → index_of (get_or ks t 0) ks ≡ t
+index-at : (ks : List ℕ) (t : ℕ) → is_rising ks ≡ true → t < length ks → index_of (get_or ks t 0) ks ≡ t
 index-at [] t rises within = absurd (omega (arith, within))
 index-at (k ∷ ks) zero rises within = index-here k k ks refl
 index-at (k ∷ ks) (suc t) rises within =
