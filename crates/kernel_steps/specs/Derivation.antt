@@ -43,6 +43,10 @@ negative_of name = record { positive = false; name = name }
 abbrev pub positive_of : ℕ → NameLit
 positive_of name = record { positive = true; name = name }
 
+-- the clause of these literals, under these names
+abbrev pub under_names : List TreeLiteral → List NameLit → TreeClause
+under_names ls names = record { literals = ls; names = names }
+
 abbrev pub is_component_of : ℕ → Step → Bool
 is_component_of name (Component n) = n == name
 is_component_of name _ = false

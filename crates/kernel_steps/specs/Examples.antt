@@ -7,7 +7,7 @@ use Rattle.fol_base.specs.Examples.{x, a, b, c, f, p, q, equation, clause}
 use Rattle.fol_base.specs.Rules.{disequation}
 use Rattle.fol_base.specs.declared.clause.Side.TheVariants.{Left, Right}
 use Rattle.kernel_steps.specs.Parents.{Parent, Parents}
-use Rattle.kernel_steps.specs.Derivation.{complement, positive_of, negative_of}
+use Rattle.kernel_steps.specs.Derivation.{complement, positive_of, negative_of, under_names}
 use Rattle.kernel_steps.specs.FromTrees.{line_of}
 use Rattle.kernel_steps.specs.declared.step.TheConstants.{CLAUSE_NUMBERS}
 use Rattle.kernel_steps.specs.declared.step.Step.{Step}
@@ -37,12 +37,9 @@ abbrev pub tower : ℕ → Tree
 tower zero = a
 tower (suc n) = f (tower n)
 
-abbrev pub with : List TreeLiteral → List NameLit → TreeClause
-with ls names = record { literals = ls; names = names }
-
 -- a clause of names alone
 abbrev pub names_only : List NameLit → TreeClause
-names_only names = with [] names
+names_only names = under_names [] names
 
 -- a parent whose line introduces no name
 abbrev pub conclusion : TreeClause → Parent
@@ -59,7 +56,7 @@ listed cs n = option_map conclusion (slice_get cs n)
 -- ---- lines
 
 abbrev pub named_line : Step → List TreeLiteral → List NameLit → Line
-named_line step ls names = line_of step (with ls names)
+named_line step ls names = line_of step (under_names ls names)
 
 abbrev pub line : Step → List TreeLiteral → Line
 line step ls = named_line step ls []

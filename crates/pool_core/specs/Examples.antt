@@ -6,8 +6,8 @@ use Rattle.fol_base.specs.Clause.{TreeLiteral, TreeClause}
 use Rattle.fol_base.specs.Examples.{x, a, b, c, f, p, q, q₂, r, equation, clause}
 use Rattle.fol_base.specs.Rules.{disequation}
 use Rattle.fol_base.specs.declared.clause.Side.TheVariants.{Left}
-use Rattle.kernel_steps.specs.Derivation.{complement, negative_of}
-use Rattle.kernel_steps.specs.Examples.{not_p, not_q, not_true, with, tower, components, four_clauses}
+use Rattle.kernel_steps.specs.Derivation.{complement, negative_of, under_names}
+use Rattle.kernel_steps.specs.Examples.{not_p, not_q, not_true, tower, components, four_clauses}
 use Rattle.kernel_steps.specs.declared.step.TheConstants.{CLAUSE_NUMBERS}
 use Rattle.kernel_steps.specs.declared.step.Step.{Step}
 use Rattle.kernel_steps.specs.declared.step.Step.TheVariants.{Para, Refl}
@@ -64,8 +64,8 @@ para_at_roots first second first_bind second_bind = Para first second 0 Left 0 L
 -- an atom resolved with its complement, under names: a superposition that leaves `$true != $true`, and a resolution
 abbrev pub resolved : ℕ → ℕ → List Tree → List Tree → List TreeLiteral → List NameLit → List Line
 resolved first second first_bind second_bind rest names =
-    line_of (para_at_roots first second first_bind second_bind) (with (not_true ∷ rest) names)
-    ∷ line_of (Refl (batch_line 0) 0 []) (with rest names)
+    line_of (para_at_roots first second first_bind second_bind) (under_names (not_true ∷ rest) names)
+    ∷ line_of (Refl (batch_line 0) 0 []) (under_names rest names)
     ∷ []
 
 -- ---- two units that resolve, of which neither cuts the other: q(X0, a), and not q(b, X0)
@@ -192,7 +192,7 @@ split = pool_of components
 -- the empty clause under the assertion of a tag, by one of the parts and one of the units
 abbrev pub denied : ℕ → ℕ → List Tree → ℕ → Entry
 denied part unit bind tag =
-    entry (at_roots part unit) (kept (resolved part unit bind [] [] (negative_of tag ∷ [])) (with [] (negative_of tag ∷ [])))
+    entry (at_roots part unit) (kept (resolved part unit bind [] [] (negative_of tag ∷ [])) (under_names [] (negative_of tag ∷ [])))
 
 -- the first part is asserted and the second put off; the first is denied
 abbrev pub first_denied : List Event

@@ -12,7 +12,7 @@ use Rattle.kernel_steps.specs.Lines.{AreLines, clause_parents, clauses_named}
 use Rattle.kernel_steps.specs.declared.step.TheConstants.{CLAUSE_NUMBERS}
 use Rattle.kernel_steps.specs.declared.step.Line.{Line}
 use Rattle.pool_core.specs.Components.{parts_of, is_to_split}
-use Rattle.pool_core.specs.Registering.{over}
+use Rattle.kernel_steps.specs.Derivation.{under_names}
 use Rattle.pool_core.specs.declared.batch.Redundancy.{Redundancy}
 use Rattle.pool_core.specs.declared.batch.Redundancy.TheVariants.{Tautology, Subsumed}
 
@@ -42,7 +42,7 @@ clauses_used victim lines = filter (λ n. not (n == victim)) (clauses_named line
 
 -- a result as it is handed back: where it is split its parts, without names
 abbrev pub handed_back : Bool → TreeClause → List TreeClause
-handed_back split c = if is_to_split split c.literals then map (λ ls. over ls []) (parts_of c.literals) else c ∷ []
+handed_back split c = if is_to_split split c.literals then map (λ ls. under_names ls []) (parts_of c.literals) else c ∷ []
 
 -- The clause is a tautology, or the clause of that number subsumes it. That its assertions are among those of the clause is part of
 -- subsumption.

@@ -3,7 +3,7 @@ use Rattle.std.specs.Prelude.{ℕ, suc, Bool, ◌==◌, if◌then◌else◌, Lis
 use Rattle.plain_types.specs.declared.sequence.NameLit.{NameLit}
 use Rattle.fol_base.specs.Clause.{TreeLiteral, TreeClause}
 use Rattle.kernel_steps.specs.Names.{sorted_names}
-use Rattle.kernel_steps.specs.Derivation.{negative_of, positive_of}
+use Rattle.kernel_steps.specs.Derivation.{negative_of, positive_of, under_names}
 use Rattle.kernel_steps.specs.declared.step.Step.{Step}
 use Rattle.kernel_steps.specs.declared.step.Step.TheVariants.{Clausify, Component, Opposite, Split}
 use Rattle.kernel_steps.specs.declared.step.Line.{Line}
@@ -15,9 +15,6 @@ use Rattle.pool_core.specs.Record.{PoolRecord, has_living}
 use Rattle.pool_core.specs.Lines.{with_lines, last_number, definition_of}
 use Rattle.kernel_steps.specs.FromTrees.{line_of}
 use Rattle.pool_core.specs.declared.outcome.Outcome.TheVariants.{Refuted}
-
-abbrev pub over : List TreeLiteral → List NameLit → TreeClause
-over ls names = record { literals = ls; names = names }
 
 -- ---- registered clauses
 
@@ -45,8 +42,8 @@ with_propositional names r =
 -- The lines that a new part brings: the component line of its name where that is new, and for a ground negative literal the opposite line.
 abbrev pub definitions : List (List TreeLiteral) → List TreeLiteral → NameLit → List Line
 definitions parts part n =
-    (if has_part (affirmed part) (named parts) then [] else line_of (Component n.name) (over (affirmed part) (negative_of n.name ∷ [])) ∷ [])
-    ++ (if n.positive then [] else line_of (Opposite n.name) (over part (positive_of n.name ∷ [])) ∷ [])
+    (if has_part (affirmed part) (named parts) then [] else line_of (Component n.name) (under_names (affirmed part) (negative_of n.name ∷ [])) ∷ [])
+    ++ (if n.positive then [] else line_of (Opposite n.name) (under_names part (positive_of n.name ∷ [])) ∷ [])
 
 -- a part gets its tag from the table
 abbrev pub with_new_part : List TreeLiteral → List (List TreeLiteral) → PoolRecord → PoolRecord
@@ -59,11 +56,11 @@ with_tag r part = if has_part part r.parts then r else with_new_part part (with_
 -- a part is registered under its tag, unless that has a living clause
 abbrev pub with_part_clause : PoolRecord → List TreeLiteral → PoolRecord
 with_part_clause r part =
-    registered_unless_living (definition_of r.lines (signed_name r.parts part)) (over part (negative_of (tag_of r.parts part) ∷ [])) r
+    registered_unless_living (definition_of r.lines (signed_name r.parts part)) (under_names part (negative_of (tag_of r.parts part) ∷ [])) r
 
 -- the propositional clause of a split comes by its line
 abbrev pub with_split : Step → List NameLit → PoolRecord → PoolRecord
-with_split step names r = with_propositional names (with_lines r (line_of step (over [] names) ∷ []))
+with_split step names r = with_propositional names (with_lines r (line_of step (under_names [] names) ∷ []))
 
 -- the parts have their tags: the line number is that of the clause
 abbrev pub split_tagged : TreeClause → ℕ → List (List TreeLiteral) → List NameLit → PoolRecord → PoolRecord

@@ -13,8 +13,8 @@ use Rattle.fol_base.specs.Unifier.{IsMostGeneralUnifier, IsMostGeneralUnifierApa
 use Rattle.fol_base.specs.GroundInference.{GroundSuperposition}
 use Rattle.fol_base.specs.Examples.{x, a, b, f, f₂, p, r, equation, clause, is_predicate, functions, all_a}
 use Rattle.fol_base.specs.declared.clause.Side.TheVariants.{Left, Right}
-use Rattle.kernel_steps.specs.Derivation.{positive_of, negative_of}
-use Rattle.kernel_steps.specs.Examples.{not_p, not_true, with}
+use Rattle.kernel_steps.specs.Derivation.{positive_of, negative_of, under_names}
+use Rattle.kernel_steps.specs.Examples.{not_p, not_true}
 use Rattle.kernel_steps.specs.Inference.{have_heads_of_one_kind, other_side_not_above, NamedSuperposition, NamedResolution, NamedFactoring, CutsBy}
 use Rattle.calculus.proofs.AboutLifting.UnifierLemmas.{arguments_of, first_of, rest_of, unify_apart, is_most_general_apart}
 
@@ -209,7 +209,7 @@ made_equal d n =
     ∙ n.others_differ (ap (λ (l : TreeLiteral). l.positive) (sym into_is)) refl)
 
 pub superposition_lost_name :
-    NamedSuperposition is_predicate select_nothing (with (equation b a ∷ []) (positive_of 1 ∷ [])) 0 Left (clause (equation (f b) a ∷ [])) 0 Left (0 ∷ [])
+    NamedSuperposition is_predicate select_nothing (under_names (equation b a ∷ []) (positive_of 1 ∷ [])) 0 Left (clause (equation (f b) a ∷ [])) 0 Left (0 ∷ [])
     (clause (equation (f a) a ∷ [])) → ⊥
 superposition_lost_name n = let lengths : 0 ≡ 1 = ap length n.names in absurd (omega (arith, lengths))
 
@@ -233,7 +233,7 @@ resolution_not_maximal_made d n =
 pub resolution_not_chosen : (d : TreeClause) → NamedResolution select_negative (clause (disequation a a ∷ disequation (f a) (f a) ∷ [])) 0 d → ⊥
 resolution_not_chosen d n = true≢false (sym n.is_eligible)
 
-pub resolution_lost_name : NamedResolution select_nothing (with (disequation a a ∷ []) (positive_of 1 ∷ [])) 0 (clause []) → ⊥
+pub resolution_lost_name : NamedResolution select_nothing (under_names (disequation a a ∷ []) (positive_of 1 ∷ [])) 0 (clause []) → ⊥
 resolution_lost_name n = let lengths : 0 ≡ 1 = ap length n.names in absurd (omega (arith, lengths))
 
 -- ---- factorings
@@ -268,13 +268,13 @@ factoring_other_kind d n =
     true≢false (sym (ap₂ (λ (l m : TreeLiteral). have_heads_of_one_kind is_predicate l.left m.left) i_is j_is ∙ n.one_kind))
 
 pub factoring_lost_name :
-    NamedFactoring is_predicate select_nothing (with (equation b a ∷ equation b a ∷ []) (positive_of 1 ∷ [])) 0 Left 1 Left
+    NamedFactoring is_predicate select_nothing (under_names (equation b a ∷ equation b a ∷ []) (positive_of 1 ∷ [])) 0 Left 1 Left
     (clause (disequation a a ∷ equation b a ∷ [])) → ⊥
 factoring_lost_name n = let lengths : 0 ≡ 1 = ap length n.names in absurd (omega (arith, lengths))
 
 -- ---- cuts
 
-pub not_asserted : CutsBy is_predicate (with (p a ∷ []) (negative_of 0 ∷ [])) (clause (not_p a ∷ r ∷ [])) (clause (r ∷ [])) → ⊥
+pub not_asserted : CutsBy is_predicate (under_names (p a ∷ []) (negative_of 0 ∷ [])) (clause (not_p a ∷ r ∷ [])) (clause (r ∷ [])) → ⊥
 not_asserted h = true≢false (sym h.asserted)
 
 abbrev truths : TreeLiteral

@@ -8,8 +8,8 @@ ghost use Rattle.fol_base.specs.GroundInference.{GroundSuperposition};
 ghost use Rattle.fol_base.specs.Tree.{true_tree};
 ghost use Rattle.fol_base.specs.Examples.{x, a, b, f, f₂, p, r, equation, clause, is_predicate, functions};
 ghost use Rattle.fol_base.specs.declared.clause.Side.TheVariants.{Left, Right};
-ghost use Rattle.kernel_steps.specs.Derivation.{positive_of, negative_of};
-ghost use Rattle.kernel_steps.specs.Examples.{not_p, not_true, with};
+ghost use Rattle.kernel_steps.specs.Derivation.{positive_of, negative_of, under_names};
+ghost use Rattle.kernel_steps.specs.Examples.{not_p, not_true};
 ghost use Rattle.kernel_steps.specs.Inference.{NamedSuperposition, NamedResolution, NamedFactoring, CutsBy};
 ghost use Rattle.calculus.specs.OnGround.{
   ResolutionsOnGround,
@@ -58,7 +58,7 @@ pub fn refused_superpositions()
         (clause (p (f₂ a b) ∷ [])) 0 Left (0 ∷ []) d → ⊥ }
     ensures made_equal { (d : TreeClause)
         → NamedSuperposition is_predicate select_nothing (clause (equation (f (x 0)) (x 0) ∷ [])) 0 Left (clause (equation (f a) a ∷ [])) 0 Left [] d → ⊥ }
-    ensures lost_name { NamedSuperposition is_predicate select_nothing (with (equation b a ∷ []) (positive_of 1 ∷ [])) 0 Left
+    ensures lost_name { NamedSuperposition is_predicate select_nothing (under_names (equation b a ∷ []) (positive_of 1 ∷ [])) 0 Left
         (clause (equation (f b) a ∷ [])) 0 Left (0 ∷ []) (clause (equation (f a) a ∷ [])) → ⊥ }
 {}
 
@@ -68,7 +68,7 @@ pub fn refused_resolutions()
     ensures not_maximal { (d : TreeClause) → NamedResolution select_nothing (clause (disequation a a ∷ disequation b b ∷ [])) 0 d → ⊥ }
     ensures not_maximal_made { (d : TreeClause) → NamedResolution select_nothing (clause (disequation (x 0) a ∷ disequation b b ∷ [])) 0 d → ⊥ }
     ensures not_chosen { (d : TreeClause) → NamedResolution select_negative (clause (disequation a a ∷ disequation (f a) (f a) ∷ [])) 0 d → ⊥ }
-    ensures lost_name { NamedResolution select_nothing (with (disequation a a ∷ []) (positive_of 1 ∷ [])) 0 (clause []) → ⊥ }
+    ensures lost_name { NamedResolution select_nothing (under_names (disequation a a ∷ []) (positive_of 1 ∷ [])) 0 (clause []) → ⊥ }
 {}
 
 /// No factoring is named: by the smaller side of `a = b`; by the side of `f(X0,X1) = f(X1,X0)` that unifying with f(a,b) makes smaller;
@@ -83,12 +83,12 @@ pub fn refused_factorings()
         → NamedFactoring is_predicate select_nothing (clause (equation b a ∷ equation b b ∷ [])) 0 Left 1 Left d → ⊥ }
     ensures other_kind { (d : TreeClause)
         → NamedFactoring is_predicate select_nothing (clause (equation (x 0) b ∷ p a ∷ [])) 0 Left 1 Left d → ⊥ }
-    ensures lost_name { NamedFactoring is_predicate select_nothing (with (equation b a ∷ equation b a ∷ []) (positive_of 1 ∷ [])) 0 Left 1 Left
+    ensures lost_name { NamedFactoring is_predicate select_nothing (under_names (equation b a ∷ equation b a ∷ []) (positive_of 1 ∷ [])) 0 Left 1 Left
         (clause (disequation a a ∷ equation b a ∷ [])) → ⊥ }
 {}
 
 /// A unit doesn't cut where its assertion isn't among the clause's, nor does `$true != $true` cut `$true = $true`.
 pub fn refused_cuts()
-    ensures not_asserted { CutsBy is_predicate (with (p a ∷ []) (negative_of 0 ∷ [])) (clause (not_p a ∷ r ∷ [])) (clause (r ∷ [])) → ⊥ }
+    ensures not_asserted { CutsBy is_predicate (under_names (p a ∷ []) (negative_of 0 ∷ [])) (clause (not_p a ∷ r ∷ [])) (clause (r ∷ [])) → ⊥ }
     ensures of_truths { CutsBy is_predicate (clause (not_true ∷ [])) (clause (equation true_tree true_tree ∷ r ∷ [])) (clause (r ∷ [])) → ⊥ }
 {}

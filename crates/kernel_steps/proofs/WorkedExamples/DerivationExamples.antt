@@ -7,8 +7,8 @@ use Rattle.fol_base.specs.Clause.{TreeLiteral, TreeClause}
 use Rattle.fol_base.specs.Ground.{is_ground_literal}
 use Rattle.fol_base.specs.Examples.{x, p, q}
 use Rattle.fol_base.specs.Literal.{clause_of}
-use Rattle.kernel_steps.specs.Derivation.{negative_of, positive_of, component_clause, complement, IsComponent, IsOpposite, ComesBy, IsDerivation, IsRefutation}
-use Rattle.kernel_steps.specs.Examples.{p₀, q₀, with, opposites, opposites_lines, implication, implication_lines, rewrites, rewrites_lines, components, components_lines, four_clauses, four_clauses_lines}
+use Rattle.kernel_steps.specs.Derivation.{negative_of, positive_of, component_clause, complement, IsComponent, IsOpposite, ComesBy, IsDerivation, IsRefutation, under_names}
+use Rattle.kernel_steps.specs.Examples.{p₀, q₀, opposites, opposites_lines, implication, implication_lines, rewrites, rewrites_lines, components, components_lines, four_clauses, four_clauses_lines}
 use Rattle.kernel_steps.specs.declared.step.Line.{Line}
 
 -- each line comes about from the form and the lines before it
@@ -70,15 +70,15 @@ rewrites_refuted = record {
 -- a component line for one literal
 pub component-new :
     (name : ℕ) (earlier : List Line) (l : TreeLiteral)
-    → component_clause name earlier ≡ None → IsComponent name earlier (with (l ∷ []) (negative_of name ∷ []))
+    → component_clause name earlier ≡ None → IsComponent name earlier (under_names (l ∷ []) (negative_of name ∷ []))
 component-new name earlier l is_new = record { is_new = is_new; some_literal = λ h. omega arith; one_name = refl }
 
 pub opposite-of :
     (name : ℕ) (earlier : List Line) (l : TreeLiteral)
-    → component_clause name earlier ≡ Some (with (l ∷ []) (negative_of name ∷ [])) → l.positive ≡ true → is_ground_literal l ≡ true
-    → IsOpposite name earlier (with (complement l ∷ []) (positive_of name ∷ []))
+    → component_clause name earlier ≡ Some (under_names (l ∷ []) (negative_of name ∷ [])) → l.positive ≡ true → is_ground_literal l ≡ true
+    → IsOpposite name earlier (under_names (complement l ∷ []) (positive_of name ∷ []))
 opposite-of name earlier l introduced positive ground = record {
-  component = with (l ∷ []) (negative_of name ∷ []);
+  component = under_names (l ∷ []) (negative_of name ∷ []);
   introduced = introduced;
   literal = l;
   one_literal = refl;

@@ -9,29 +9,29 @@ use Rattle.fol_base.specs.Examples.{x, a, b, p, q, clause}
 use Rattle.fol_base.specs.Literal.{clause_of}
 use Rattle.fol_base.specs.declared.clause.Side.TheVariants.{Left}
 use Rattle.kernel_steps.specs.Conclusion.{verdict, concludes}
-use Rattle.kernel_steps.specs.Derivation.{negative_of, positive_of, component_clause, IsOpposite, ComesBy, continued, AreSteps, reduced_parents}
-use Rattle.kernel_steps.specs.Examples.{not_p, not_true, with, listed, line, introduced, opposites, reducing_lines}
+use Rattle.kernel_steps.specs.Derivation.{negative_of, positive_of, component_clause, IsOpposite, ComesBy, continued, AreSteps, reduced_parents, under_names}
+use Rattle.kernel_steps.specs.Examples.{not_p, not_true, listed, line, introduced, opposites, reducing_lines}
 use Rattle.kernel_steps.specs.declared.step.Step.TheVariants.{Para, Refl, Component, Opposite}
 use Rattle.kernel_steps.specs.declared.step.TheConstants.{CLAUSE_NUMBERS}
 use Rattle.kernel_steps.specs.declared.step.Line.{Line}
 use Rattle.kernel_steps.proofs.WorkedExamples.DerivationExamples.{opposite-of}
 
 pub component_of_literals :
-    ComesBy (Component 1) [] (introduced (p a ∷ [])) (with (not_p (x 0) ∷ q (x 1) ∷ []) (negative_of 1 ∷ []))
+    ComesBy (Component 1) [] (introduced (p a ∷ [])) (under_names (not_p (x 0) ∷ q (x 1) ∷ []) (negative_of 1 ∷ []))
 component_of_literals = record { is_new = refl; some_literal = λ h. omega arith; one_name = refl }
 
-pub introduced_twice : ComesBy (Component 0) [] (introduced (p a ∷ [])) (with (q a ∷ []) (negative_of 0 ∷ [])) → ⊥
-introduced_twice it = none-some (with (p a ∷ []) (negative_of 0 ∷ [])) (sym it.is_new)
+pub introduced_twice : ComesBy (Component 0) [] (introduced (p a ∷ [])) (under_names (q a ∷ []) (negative_of 0 ∷ [])) → ⊥
+introduced_twice it = none-some (under_names (p a ∷ []) (negative_of 0 ∷ [])) (sym it.is_new)
 
-pub component_without_literals : ComesBy (Component 0) [] [] (with [] (negative_of 0 ∷ [])) → ⊥
+pub component_without_literals : ComesBy (Component 0) [] [] (under_names [] (negative_of 0 ∷ [])) → ⊥
 component_without_literals it = it.some_literal refl
 
 -- ---- opposite lines
 
-pub opposite : ComesBy (Opposite 0) [] (introduced (p a ∷ [])) (with (not_p a ∷ []) (positive_of 0 ∷ []))
+pub opposite : ComesBy (Opposite 0) [] (introduced (p a ∷ [])) (under_names (not_p a ∷ []) (positive_of 0 ∷ []))
 opposite = opposite-of 0 (introduced (p a ∷ [])) (p a) refl refl refl
 
-pub opposite_of_nothing : ComesBy (Opposite 0) [] [] (with (not_p a ∷ []) (positive_of 0 ∷ [])) → ⊥
+pub opposite_of_nothing : ComesBy (Opposite 0) [] [] (under_names (not_p a ∷ []) (positive_of 0 ∷ [])) → ⊥
 opposite_of_nothing it = none-some it.component it.introduced
 
 -- the literal is the one of the component line
@@ -44,29 +44,29 @@ literal-is earlier c d l introduces one it =
     ∙ ap (λ ls. slice_get ls 0) it.one_literal)
 
 pub opposite_of_variable :
-    ComesBy (Opposite 0) [] (introduced (p (x 0) ∷ [])) (with (not_p (x 0) ∷ []) (positive_of 0 ∷ [])) → ⊥
+    ComesBy (Opposite 0) [] (introduced (p (x 0) ∷ [])) (under_names (not_p (x 0) ∷ []) (positive_of 0 ∷ [])) → ⊥
 opposite_of_variable it =
     true≢false
     (sym it.ground
     ∙ ap is_ground_literal
     (sym
-    (literal-is (introduced (p (x 0) ∷ [])) (with (not_p (x 0) ∷ []) (positive_of 0 ∷ [])) (with (p (x 0) ∷ []) (negative_of 0 ∷ [])) (p (x 0)) refl refl it)))
+    (literal-is (introduced (p (x 0) ∷ [])) (under_names (not_p (x 0) ∷ []) (positive_of 0 ∷ [])) (under_names (p (x 0) ∷ []) (negative_of 0 ∷ [])) (p (x 0)) refl refl it)))
 
 pub opposite_of_two_literals :
-    ComesBy (Opposite 0) [] (introduced (p a ∷ q b ∷ [])) (with (not_p a ∷ []) (positive_of 0 ∷ [])) → ⊥
+    ComesBy (Opposite 0) [] (introduced (p a ∷ q b ∷ [])) (under_names (not_p a ∷ []) (positive_of 0 ∷ [])) → ⊥
 opposite_of_two_literals it =
-    let same : with (p a ∷ q b ∷ []) (negative_of 0 ∷ []) ≡ it.component = same_Some (with (p a ∷ q b ∷ []) (negative_of 0 ∷ [])) it.component it.introduced in
+    let same : under_names (p a ∷ q b ∷ []) (negative_of 0 ∷ []) ≡ it.component = same_Some (under_names (p a ∷ q b ∷ []) (negative_of 0 ∷ [])) it.component it.introduced in
     let lengths : 2 ≡ 1 = ap (λ (e : TreeClause). length e.literals) same ∙ ap length it.one_literal in
     absurd (omega (arith, lengths))
 
 pub opposite_of_negative_literal :
-    ComesBy (Opposite 0) [] (introduced (not_p a ∷ [])) (with (p a ∷ []) (positive_of 0 ∷ [])) → ⊥
+    ComesBy (Opposite 0) [] (introduced (not_p a ∷ [])) (under_names (p a ∷ []) (positive_of 0 ∷ [])) → ⊥
 opposite_of_negative_literal it =
     true≢false
     (sym it.positive
     ∙ ap (λ (l : TreeLiteral). l.positive)
     (sym
-    (literal-is (introduced (not_p a ∷ [])) (with (p a ∷ []) (positive_of 0 ∷ [])) (with (not_p a ∷ []) (negative_of 0 ∷ [])) (not_p a) refl refl it)))
+    (literal-is (introduced (not_p a ∷ [])) (under_names (p a ∷ []) (positive_of 0 ∷ [])) (under_names (not_p a ∷ []) (negative_of 0 ∷ [])) (not_p a) refl refl it)))
 
 -- ---- lines that reduce a clause
 

@@ -8,9 +8,9 @@ use Rattle.fol_base.specs.Selection.{select_negative}
 use Rattle.fol_base.specs.Examples.{x, a, b, f, p, q, equation, clause, is_predicate, even, odd, first_is}
 use Rattle.fol_base.specs.declared.clause.Side.TheVariants.{Left}
 use Rattle.fol_base.proofs.AboutInstances.Shuffled.{shuffled, shuffled-even, shuffled-odd}
-use Rattle.kernel_steps.specs.Derivation.{positive_of, negative_of}
+use Rattle.kernel_steps.specs.Derivation.{positive_of, negative_of, under_names}
 use Rattle.kernel_steps.specs.Inference.{NamedSuperposition}
-use Rattle.kernel_steps.specs.Examples.{not_p, not_true, with}
+use Rattle.kernel_steps.specs.Examples.{not_p, not_true}
 use Rattle.kernel_steps.proofs.WorkedExamples.InferenceExamples.{argument_of}
 
 -- an application to a and one to X0, with different variables
@@ -57,9 +57,9 @@ superposition = record {
 -- f(a) = b into p(f(X0)), each under a name
 pub names_of_both :
     NamedSuperposition is_predicate select_negative
-    (with (equation (f a) b ∷ []) (positive_of 1 ∷ [])) 0 Left
-    (with (p (f (x 0)) ∷ []) (negative_of 0 ∷ [])) 0 Left (0 ∷ [])
-    (with (p b ∷ []) (negative_of 0 ∷ positive_of 1 ∷ []))
+    (under_names (equation (f a) b ∷ []) (positive_of 1 ∷ [])) 0 Left
+    (under_names (p (f (x 0)) ∷ []) (negative_of 0 ∷ [])) 0 Left (0 ∷ [])
+    (under_names (p b ∷ []) (negative_of 0 ∷ positive_of 1 ∷ []))
 names_of_both = record {
   from = equation (f a) b;
   from_there = refl;

@@ -8,12 +8,12 @@ ghost use Rattle.fol_base.specs.declared.clause.Side.TheVariants.{Left, Right};
 ghost use Rattle.kernel_steps.specs.Names.{sorted_names, chained};
 ghost use Rattle.kernel_steps.specs.Split.{is_split};
 ghost use Rattle.kernel_steps.specs.Conclusion.{verdict, binding_fault, rule_fault, concludes, empty_clause};
-ghost use Rattle.kernel_steps.specs.Derivation.{positive_of, negative_of, body, ComesBy, IsRefutation, continued, AreSteps, reduced_parents};
+ghost use Rattle.kernel_steps.specs.Derivation.{positive_of, negative_of, body, ComesBy, IsRefutation, continued, AreSteps, reduced_parents, under_names};
 ghost use Rattle.kernel_steps.specs.Keys.{key_text};
 ghost use Rattle.kernel_steps.specs.Lines.{own_terms};
 ghost use Rattle.kernel_steps.specs.FromTrees.{line_of};
 ghost use Rattle.kernel_steps.specs.Marks.{is_marked, marked_numbers};
-ghost use Rattle.kernel_steps.specs.Examples.{not_p, not_true, tower, with, names_only, conclusion, definition, listed, line, introduced, opposites, opposites_lines, opposites_with, reducing_lines, implication, implication_lines, rewrites, rewrites_lines, components, components_lines, four_clauses, four_clauses_lines};
+ghost use Rattle.kernel_steps.specs.Examples.{not_p, not_true, tower, names_only, conclusion, definition, listed, line, introduced, opposites, opposites_lines, opposites_with, reducing_lines, implication, implication_lines, rewrites, rewrites_lines, components, components_lines, four_clauses, four_clauses_lines};
 ghost use Rattle.kernel_steps.specs.declared.step.Step.TheVariants as step;
 ghost use Rattle.kernel_steps.specs.declared.key.Key.TheVariants as key;
 
@@ -43,8 +43,8 @@ pub fn step_examples()
     ensures chain_of_literals { verdict (step.Chain (0 ∷ []) []) (listed (clause (p a ∷ []) ∷ [])) ≡ rule_fault }
     ensures first_factored { verdict (step.Factor 0 0 Left 1 Left (a ∷ [])) (listed (clause (p (x 0) ∷ p a ∷ []) ∷ [])) ≡ concludes (clause (not_true ∷ p a ∷ [])) }
     ensures second_factored { verdict (step.Factor 0 1 Left 0 Left (a ∷ [])) (listed (clause (p (x 0) ∷ p a ∷ []) ∷ [])) ≡ concludes (clause (p a ∷ not_true ∷ [])) }
-    ensures merged { verdict (step.Merge 0 1 0 (a ∷ [])) (listed (with (p (x 0) ∷ p a ∷ []) (positive_of 2 ∷ negative_of 1 ∷ []) ∷ [])) ≡ concludes (with (p a ∷ []) (negative_of 1 ∷ positive_of 2 ∷ [])) }
-    ensures names_united { verdict (step.Para 0 1 0 Left 0 Left [] [] []) (listed (with (p a ∷ []) (negative_of 1 ∷ []) ∷ with (not_p a ∷ []) (negative_of 0 ∷ negative_of 1 ∷ []) ∷ [])) ≡ concludes (with (not_true ∷ []) (negative_of 0 ∷ negative_of 1 ∷ [])) }
+    ensures merged { verdict (step.Merge 0 1 0 (a ∷ [])) (listed (under_names (p (x 0) ∷ p a ∷ []) (positive_of 2 ∷ negative_of 1 ∷ []) ∷ [])) ≡ concludes (under_names (p a ∷ []) (negative_of 1 ∷ positive_of 2 ∷ [])) }
+    ensures names_united { verdict (step.Para 0 1 0 Left 0 Left [] [] []) (listed (under_names (p a ∷ []) (negative_of 1 ∷ []) ∷ under_names (not_p a ∷ []) (negative_of 0 ∷ negative_of 1 ∷ []) ∷ [])) ≡ concludes (under_names (not_true ∷ []) (negative_of 0 ∷ negative_of 1 ∷ [])) }
     ensures no_such_parent { verdict (step.Para 0 1 0 Left 0 Left [] [] (a ∷ [])) (listed (clause (p a ∷ []) ∷ [])) ≡ rule_fault }
 {}
 
@@ -70,14 +70,14 @@ pub fn split_examples()
 
 /// Definitions of names, after a line that introduces the name 0 or after none.
 pub fn definition_examples()
-    ensures component_of_literals { ComesBy (step.Component 1) [] (introduced (p a ∷ [])) (with (not_p (x 0) ∷ q (x 1) ∷ []) (negative_of 1 ∷ [])) }
-    ensures introduced_twice { ComesBy (step.Component 0) [] (introduced (p a ∷ [])) (with (q a ∷ []) (negative_of 0 ∷ [])) → ⊥ }
-    ensures component_without_literals { ComesBy (step.Component 0) [] [] (with [] (negative_of 0 ∷ [])) → ⊥ }
-    ensures opposite { ComesBy (step.Opposite 0) [] (introduced (p a ∷ [])) (with (not_p a ∷ []) (positive_of 0 ∷ [])) }
-    ensures opposite_of_nothing { ComesBy (step.Opposite 0) [] [] (with (not_p a ∷ []) (positive_of 0 ∷ [])) → ⊥ }
-    ensures opposite_of_variable { ComesBy (step.Opposite 0) [] (introduced (p (x 0) ∷ [])) (with (not_p (x 0) ∷ []) (positive_of 0 ∷ [])) → ⊥ }
-    ensures opposite_of_two_literals { ComesBy (step.Opposite 0) [] (introduced (p a ∷ q b ∷ [])) (with (not_p a ∷ []) (positive_of 0 ∷ [])) → ⊥ }
-    ensures opposite_of_negative_literal { ComesBy (step.Opposite 0) [] (introduced (not_p a ∷ [])) (with (p a ∷ []) (positive_of 0 ∷ [])) → ⊥ }
+    ensures component_of_literals { ComesBy (step.Component 1) [] (introduced (p a ∷ [])) (under_names (not_p (x 0) ∷ q (x 1) ∷ []) (negative_of 1 ∷ [])) }
+    ensures introduced_twice { ComesBy (step.Component 0) [] (introduced (p a ∷ [])) (under_names (q a ∷ []) (negative_of 0 ∷ [])) → ⊥ }
+    ensures component_without_literals { ComesBy (step.Component 0) [] [] (under_names [] (negative_of 0 ∷ [])) → ⊥ }
+    ensures opposite { ComesBy (step.Opposite 0) [] (introduced (p a ∷ [])) (under_names (not_p a ∷ []) (positive_of 0 ∷ [])) }
+    ensures opposite_of_nothing { ComesBy (step.Opposite 0) [] [] (under_names (not_p a ∷ []) (positive_of 0 ∷ [])) → ⊥ }
+    ensures opposite_of_variable { ComesBy (step.Opposite 0) [] (introduced (p (x 0) ∷ [])) (under_names (not_p (x 0) ∷ []) (positive_of 0 ∷ [])) → ⊥ }
+    ensures opposite_of_two_literals { ComesBy (step.Opposite 0) [] (introduced (p a ∷ q b ∷ [])) (under_names (not_p a ∷ []) (positive_of 0 ∷ [])) → ⊥ }
+    ensures opposite_of_negative_literal { ComesBy (step.Opposite 0) [] (introduced (not_p a ∷ [])) (under_names (p a ∷ []) (positive_of 0 ∷ [])) → ⊥ }
     ensures body_of_name { body (introduced (p a ∷ q b ∷ [])) 0 ≡ clause (p a ∷ q b ∷ []) }
     ensures body_of_no_name { body (introduced (p a ∷ [])) 1 ≡ empty_clause }
 {}
@@ -125,7 +125,7 @@ pub fn changed_derivation_examples()
 
 /// Lines that trees make, the variables of a clause as terms, and marks of numbers.
 pub fn line_examples()
-    ensures line { clause_of (line_of (step.Refl 0 0 []) (with (p a ∷ []) (positive_of 0 ∷ []))).clause ≡ with (p a ∷ []) (positive_of 0 ∷ []) }
+    ensures line { clause_of (line_of (step.Refl 0 0 []) (under_names (p a ∷ []) (positive_of 0 ∷ []))).clause ≡ under_names (p a ∷ []) (positive_of 0 ∷ []) }
     ensures own_terms { own_terms (clause (q (x 1) ∷ [])) ≡ x 0 ∷ x 1 ∷ [] }
     ensures marked { is_marked (false ∷ true ∷ []) 1 ≡ true }
     ensures past_the_marks { is_marked (true ∷ []) 1 ≡ false }

@@ -7,17 +7,17 @@ ghost use Rattle.fol_base.specs.Clause.{TreeClause};
 ghost use Rattle.fol_base.specs.Examples.{x, a, b, c, f, p, q, r, equation, clause, is_predicate};
 ghost use Rattle.fol_base.specs.Rules.{disequation};
 ghost use Rattle.fol_base.specs.declared.clause.Side.TheVariants.{Left, Right};
-ghost use Rattle.kernel_steps.specs.Derivation.{positive_of, negative_of};
-ghost use Rattle.kernel_steps.specs.Examples.{not_p, not_true, with};
+ghost use Rattle.kernel_steps.specs.Derivation.{positive_of, negative_of, under_names};
+ghost use Rattle.kernel_steps.specs.Examples.{not_p, not_true};
 ghost use Rattle.kernel_steps.specs.Inference.{have_heads_of_one_kind, NamedSuperposition, NamedResolution, NamedFactoring, MergesEqual, RewritesBy, CutsBy, Reduces, is_tautology, IsIrreducible};
 
 /// Superposition by most general unifiers, and where it gives nothing.
 pub fn superposition_examples()
     ensures superposition { NamedSuperposition is_predicate select_negative (clause (p a ∷ [])) 0 Left (clause (not_p (x 0) ∷ q (x 0) ∷ [])) 0 Left [] (clause (not_true ∷ q a ∷ [])) }
     ensures names_of_both { NamedSuperposition is_predicate select_negative
-        (with (equation (f a) b ∷ []) (positive_of 1 ∷ [])) 0 Left
-        (with (p (f (x 0)) ∷ []) (negative_of 0 ∷ [])) 0 Left (0 ∷ [])
-        (with (p b ∷ []) (negative_of 0 ∷ positive_of 1 ∷ [])) }
+        (under_names (equation (f a) b ∷ []) (positive_of 1 ∷ [])) 0 Left
+        (under_names (p (f (x 0)) ∷ []) (negative_of 0 ∷ [])) 0 Left (0 ∷ [])
+        (under_names (p b ∷ []) (negative_of 0 ∷ positive_of 1 ∷ [])) }
     ensures equal_other_sides { (d : TreeClause) → NamedSuperposition is_predicate select_negative (clause (equation b a ∷ [])) 0 Left (clause (equation b a ∷ [])) 0 Left [] d → ⊥ }
     ensures smaller_side { (d : TreeClause) → NamedSuperposition is_predicate select_negative (clause (equation a b ∷ [])) 0 Left (clause (p a ∷ [])) 0 Left (0 ∷ []) d → ⊥ }
     ensures place_of_variable { (d : TreeClause) → NamedSuperposition is_predicate select_negative (clause (equation b a ∷ [])) 0 Left (clause (p (x 0) ∷ [])) 0 Left (0 ∷ []) d → ⊥ }
@@ -52,7 +52,7 @@ pub fn reduction_examples()
     ensures no_greater_term { (d : TreeClause) → RewritesBy is_predicate (clause (equation a b ∷ [])) (clause (disequation (f a) c ∷ [])) d → ⊥ }
     ensures smaller_other_side { (d : TreeClause) → RewritesBy is_predicate (clause (equation c b ∷ [])) (clause (equation c a ∷ [])) d → ⊥ }
     ensures other_variables { (d : TreeClause) → RewritesBy is_predicate (clause (equation (f (x 0)) (x 1) ∷ [])) (clause (p (f a) ∷ [])) d → ⊥ }
-    ensures other_assertions { (d : TreeClause) → RewritesBy is_predicate (with (equation a b ∷ []) (negative_of 0 ∷ [])) (clause (p b ∷ [])) d → ⊥ }
+    ensures other_assertions { (d : TreeClause) → RewritesBy is_predicate (under_names (equation a b ∷ []) (negative_of 0 ∷ [])) (clause (p b ∷ [])) d → ⊥ }
     ensures cut { Reduces is_predicate (λ d. d ≡ clause (not_p (x 0) ∷ [])) (clause (p a ∷ r ∷ [])) (clause (r ∷ [])) }
     ensures same_sign { (d : TreeClause) → CutsBy is_predicate (clause (p (x 0) ∷ [])) (clause (p a ∷ r ∷ [])) d → ⊥ }
 {}

@@ -17,7 +17,7 @@ use Rattle.fol_base.specs.declared.limits.TheConstants.{MOST_SYMBOLS}
 use Rattle.fol_base.proofs.WorkedExamples.TestLemmas.{option_map-some, list_all-item, list_all-joined, list_all-map_from}
 use Rattle.kernel_steps.specs.Parents.{Parent, Parents}
 use Rattle.kernel_steps.specs.Conclusion.{empty_clause, binds, bound_literals, verdict, concludes, verdict_if, clause_with, by_one, by_two}
-use Rattle.kernel_steps.specs.Derivation.{is_clause_step, introduces_name, line_parent, line_parents, continued, ComesBy, IsDerivation}
+use Rattle.kernel_steps.specs.Derivation.{is_clause_step, introduces_name, line_parent, line_parents, continued, ComesBy, IsDerivation, under_names}
 use Rattle.kernel_steps.specs.Lines.{clause_parents, is_on_literals, is_small_term, has_small_sides, has_small_terms, IsNumbered, is_plain_step}
 use Rattle.kernel_steps.specs.Soundness.{bindings_of, binds_each}
 use Rattle.kernel_steps.specs.Symbols.{symbols_pass, clause_symbols_pass}
@@ -30,7 +30,7 @@ use Rattle.kernel_steps.proofs.AboutCalls.VerdictParts.{by_one-parts, by_two-par
 use Rattle.pool_core.specs.Tags.{line_names}
 use Rattle.pool_core.specs.Record.{PoolRecord, Registered, SolverJob, PropositionalClause}
 use Rattle.pool_core.specs.Lines.{with_lines, line_number, with_parents, pool_line, result_of}
-use Rattle.pool_core.specs.Registering.{over, registered_last}
+use Rattle.pool_core.specs.Registering.{registered_last}
 use Rattle.pool_core.specs.Reduction.{Lookup, AreLinesFrom}
 use Rattle.pool_core.specs.Wholeness.{IsWhole}
 use Rattle.pool_core.specs.Derived.{is_function_term_of, IsPlainLine, HaveInputSymbols}
@@ -267,7 +267,7 @@ module _ (usage : SymbolUse) (inputs : List TreeClause) where
     no-names l formed = ap (line_names r.parts) formed.no_names
 
     same-clause : (l : Line) → IsFormed usage (clause_of l.clause) → clause_of (pool_line r l).clause ≡ clause_of l.clause
-    same-clause l formed = ap (over (map literal_of l.clause.literals)) (no-names l formed ∙ sym formed.no_names)
+    same-clause l formed = ap (under_names (map literal_of l.clause.literals)) (no-names l formed ∙ sym formed.no_names)
 
     -- a registered clause's line
     mapped-below :

@@ -20,7 +20,8 @@ use Rattle.calculus.specs.Lifting.{among}
 use Rattle.pool_core.specs.Record.{PoolRecord, Registered, GivenJob, clauses_of, given_job, has_living, without_job}
 use Rattle.pool_core.specs.Tags.{line_names}
 use Rattle.pool_core.specs.Lines.{with_lines, pool_line, result_of}
-use Rattle.pool_core.specs.Registering.{over, registered_last, has_none, with_refutation, with_propositional, empty_comes, comes}
+use Rattle.kernel_steps.specs.Derivation.{under_names}
+use Rattle.pool_core.specs.Registering.{registered_last, has_none, with_refutation, with_propositional, empty_comes, comes}
 use Rattle.pool_core.specs.Counting.{lines_of_fate, lines_of_entries, keys_of, comes_by, result_comes, refutes, spends, counts}
 use Rattle.pool_core.specs.Returning.{dies, replaced, removed, takes_effect, proposed, becomes_active, sets_aside, worked, returns_to}
 use Rattle.pool_core.specs.Solving.{must_solve}
@@ -53,7 +54,7 @@ none-in [] h = refl
 none-in (x ∷ xs) h = let none : length (x ∷ xs) ≡ 0 = eqb-true (length (x ∷ xs)) 0 h in absurd (omega (arith, none))
 
 no-parts : (c : TreeClause) → c.literals ≡ [] → c.names ≡ [] → c ≡ empty_clause
-no-parts c literals names = ap₂ over literals names
+no-parts c literals names = ap₂ under_names literals names
 
 pub open-is : (o : Option Outcome) → is_none o ≡ true → o ≡ None
 open-is None h = refl

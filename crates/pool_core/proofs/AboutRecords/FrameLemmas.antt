@@ -7,12 +7,12 @@ use Rattle.kernel_steps.specs.declared.step.Step.TheVariants.{Clausify}
 use Rattle.kernel_steps.specs.declared.step.Line.{Line}
 use Rattle.split_parts.specs.Tags.{has_part, tag_of}
 use Rattle.split_parts.specs.SignedNames.{signed_name}
-use Rattle.kernel_steps.specs.Derivation.{negative_of}
+use Rattle.kernel_steps.specs.Derivation.{negative_of, under_names}
 use Rattle.pool_core.specs.Components.{parts_of, is_to_split}
 use Rattle.pool_core.specs.Record.{PoolRecord, Registered, has_living}
 use Rattle.pool_core.specs.Lines.{with_lines, last_number, definition_of, result_of, pool_line}
 use Rattle.kernel_steps.specs.FromTrees.{line_of}
-use Rattle.pool_core.specs.Registering.{over, registered_by, registered_unless_living, with_propositional, with_tag, with_part_clause, with_split, split_named, split_up, has_none, with_refutation, empty_comes, comes, unless_ended, with_inputs}
+use Rattle.pool_core.specs.Registering.{registered_by, registered_unless_living, with_propositional, with_tag, with_part_clause, with_split, split_named, split_up, has_none, with_refutation, empty_comes, comes, unless_ended, with_inputs}
 use Rattle.pool_core.specs.Counting.{comes_by, result_comes}
 use Rattle.pool_core.specs.declared.outcome.Outcome.TheVariants.{Refuted}
 
@@ -83,7 +83,7 @@ with_tag-registers r part =
 
 with_part_clause-registers : (r : PoolRecord) (part : List TreeLiteral) → Registers r (with_part_clause r part)
 with_part_clause-registers r part =
-    unless_living (definition_of r.lines (signed_name r.parts part)) (over part (negative_of (tag_of r.parts part) ∷ [])) r
+    unless_living (definition_of r.lines (signed_name r.parts part)) (under_names part (negative_of (tag_of r.parts part) ∷ [])) r
   where
     unless_living : (line : ℕ) (c : TreeClause) (r : PoolRecord) → Registers r (registered_unless_living line c r)
     unless_living line c r = by-if (Registers r) (has_living r c) r (registered_by line c r) (unchanged r) (registered_by-registers line c r)

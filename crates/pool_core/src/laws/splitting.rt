@@ -2,8 +2,7 @@
 
 ghost use Rattle.std.specs.Prelude.{◌≡◌, [], ◌∷◌, ◌++◌, Some, None, length, take, map, slice_get, IsTrue, IsFalse};
 ghost use Rattle.fol_base.specs.Examples.{x, p, q};
-ghost use Rattle.kernel_steps.specs.Derivation.{positive_of, negative_of};
-ghost use Rattle.kernel_steps.specs.Examples.{with};
+ghost use Rattle.kernel_steps.specs.Derivation.{positive_of, negative_of, under_names};
 ghost use Rattle.kernel_steps.specs.declared.step.Step.TheVariants as step;
 ghost use Rattle.pool_core.specs.Claiming.{ready};
 ghost use Rattle.kernel_steps.specs.FromTrees.{line_of};
@@ -22,9 +21,9 @@ ghost use Rattle.pool_core.specs.Saturated.{members_of};
 pub fn denied_parts()
     ensures parts { (start split).parts ≡ (p (x 0) ∷ []) ∷ (q (x 0) ∷ []) ∷ [] }
     ensures tagged { slice_get (start split).registered 1
-        ≡ Some (record { clause = with (q (x 0) ∷ []) (negative_of 1 ∷ []); line = 2 }) }
+        ≡ Some (record { clause = under_names (q (x 0) ∷ []) (negative_of 1 ∷ []); line = 2 }) }
     ensures split_line { slice_get (start split).lines 3
-        ≡ Some (line_of (step.Split 0 (1 ∷ 2 ∷ []) ((0 ∷ []) ∷ (1 ∷ []) ∷ [])) (with [] (positive_of 0 ∷ positive_of 1 ∷ []))) }
+        ≡ Some (line_of (step.Split 0 (1 ∷ 2 ∷ []) ((0 ∷ []) ∷ (1 ∷ []) ∷ [])) (under_names [] (positive_of 0 ∷ positive_of 1 ∷ []))) }
     ensures propositional { propositional_clauses (start split) ≡ (positive_of 0 ∷ positive_of 1 ∷ []) ∷ [] }
     ensures solve_first { IsTrue (must_solve (start split)) }
     ensures asserted { ready (replay split (take 2 first_denied)) ≡ 0 ∷ 2 ∷ 3 ∷ [] }
@@ -41,7 +40,7 @@ pub fn denied_parts()
 /// A part that sleeps is no member.
 pub fn sleeping_part()
     ensures saturated { outcome_of (replay parted parted_history) ≡ Some Saturated }
-    ensures members { members_of (replay parted parted_history) ≡ with (p (x 0) ∷ []) (negative_of 0 ∷ []) ∷ [] }
+    ensures members { members_of (replay parted parted_history) ≡ under_names (p (x 0) ∷ []) (negative_of 0 ∷ []) ∷ [] }
     ensures solver_out { outcome_of (replay parted (event.ClaimSolve 1 ∷ [])) ≡ None }
     ensures one_out { jobs_out (replay parted (event.ClaimSolve 1 ∷ [])) ≡ 1 }
 {}
