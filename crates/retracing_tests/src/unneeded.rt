@@ -1,17 +1,16 @@
 // The worked refutation of p(a) and its negation, whose first line isn't needed.
 
-ghost use Rattle.std.specs.Prelude.{◌≡◌, [], ◌∷◌, map};
-ghost use Rattle.fol_base.specs.Examples.{a, p, clause};
+ghost use Rattle.std.specs.Prelude.{◌≡◌, map};
+ghost use Rattle.fol_base.specs.Examples.{a, p};
 ghost use Rattle.fol_base.specs.Literal.{literal_of, clause_of};
 ghost use Rattle.kernel_steps.specs.Examples.{not_p, opposites};
 ghost use Rattle.retracing.specs.Examples.{with_unneeded};
 ghost use Rattle.retracing.specs.Retraced.{steps_of};
 
-use fol_base::{Clause, Clauses, Literal, Literals, Position, Side, Terms};
+use fol_base::{Clauses, Literal, Position, Side, Terms};
 use kernel_steps::Step;
-use plain_types::Names;
 use retracing::{needed, refutation};
-use sample_terms::{atom, constant, unary};
+use sample_terms::{atom, constant, unary, unit};
 use std::alloc::Global;
 use std::process::Abort;
 
@@ -38,22 +37,11 @@ fn negative(rt: &impl Abort, alloc: Global) -> Literal
     literal
 }
 
-fn unit(rt: &impl Abort, alloc: Global, literal: Literal) -> Clause
-    ensures { clause_of result ≡ clause (literal_of literal ∷ []) }
-{
-    let mut literals = Literals::new(alloc);
-    literals.push(literal).expect(rt, "memory");
-    Clause {
-        literals,
-        names: Names::new(alloc),
-    }
-}
-
 fn form(rt: &impl Abort, alloc: Global) -> Clauses
     ensures { map clause_of result ≡ opposites }
 {
-    let first = unit(rt, alloc, positive(rt, alloc));
-    let second = unit(rt, alloc, negative(rt, alloc));
+    let first = unit(alloc, positive(rt, alloc)).expect(rt, "memory");
+    let second = unit(alloc, negative(rt, alloc)).expect(rt, "memory");
     let mut form = Clauses::new(alloc);
     form.push(first).expect(rt, "memory");
     form.push(second).expect(rt, "memory");

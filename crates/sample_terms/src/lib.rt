@@ -6,7 +6,7 @@ mod terms;
 mod text;
 
 pub use random::{random_term, random_terms};
-pub use terms::{atom, binary, constant, unary};
+pub use terms::{atom, binary, constant, unary, unit};
 pub use text::{clause, clauses};
 
 #[cfg(test)]

@@ -1,12 +1,13 @@
-// Terms and atoms from their parts.
+// Terms, atoms and clauses of one literal from their parts.
 
-ghost use Rattle.std.specs.Prelude.{◌≡◌, true, IfOk};
+ghost use Rattle.std.specs.Prelude.{◌≡◌, [], ◌∷◌, true, IfOk};
 ghost use Rattle.fol_base.specs.Tree.{application, no_trees, tree_then, true_tree};
 ghost use Rattle.fol_base.specs.Term.{tree_of};
-ghost use Rattle.fol_base.specs.Literal.{literal_of};
+ghost use Rattle.fol_base.specs.Examples.{clause};
+ghost use Rattle.fol_base.specs.Literal.{literal_of, clause_of};
 
-use fol_base::{Literal, Term, Terms};
-use plain_types::Mem;
+use fol_base::{Clause, Literal, Literals, Term, Terms};
+use plain_types::{Mem, Names};
 use std::alloc::Global;
 
 /// The symbol without arguments. It takes no memory.
@@ -45,4 +46,16 @@ pub fn atom(alloc: Global, predicate_term: Term) -> Literal
         left: predicate_term,
         right: Term::truth(alloc),
     }
+}
+
+/// The clause of one literal, without names.
+pub fn unit(alloc: Global, literal: Literal) -> Mem<Clause>
+    ensures { IfOk result (λ made. clause_of made ≡ clause (literal_of literal ∷ [])) }
+{
+    let mut literals = Literals::new(alloc);
+    literals.push(literal)?;
+    Ok(Clause {
+        literals,
+        names: Names::new(alloc),
+    })
 }

@@ -5,7 +5,8 @@ use crate::jobs::{
     find_stale, find_void, finish_jobs, next_job, next_job_beside, pool_of, take, take_beside,
 };
 use crate::problems::{constant_function, three_values, two_values};
-use crate::samples::{a, b, c, equation, unit};
+use crate::samples::{a, b, c, equation};
+use sample_terms::unit;
 use term_bank::Bank;
 
 /// The second clause is rewritten by the first, whose job is out. The first then meets nothing, since the second one wasn't told to it.
@@ -20,7 +21,7 @@ fn a_clause_is_rewritten_by_one_that_is_out(rt: HostRuntime) {
     let removal = gone(&rt, &second.batch);
     assert_eq!(rt; removal.victim, 1);
     assert!(rt; removal.justifiers.as_slice() == [0].as_slice());
-    let values = unit(&rt, alloc, equation(b(alloc), c(alloc)));
+    let values = unit(alloc, equation(b(alloc), c(alloc))).expect(&rt, "memory");
     assert!(rt; becomes(&removal.fate, 1, &values));
     take_beside(&rt, alloc, &bank, &mut pool, second.batch, &first.batch);
     let (entries, removals) = met(&rt, &first.batch);
@@ -42,7 +43,7 @@ fn a_batch_goes_stale(rt: HostRuntime) {
     let last = next_job_beside(&rt, alloc, &bank, &mut pool, &first.batch);
     let removal = gone(&rt, &last.batch);
     assert_eq!(rt; removal.justifiers.len(), 2);
-    let values = unit(&rt, alloc, equation(a(alloc), c(alloc)));
+    let values = unit(alloc, equation(a(alloc), c(alloc))).expect(&rt, "memory");
     assert!(rt; becomes(&removal.fate, 2, &values));
     take_beside(&rt, alloc, &bank, &mut pool, first.batch, &last.batch);
     let again = find_stale(&rt, alloc, &bank, &mut pool, last.batch);
@@ -66,7 +67,7 @@ fn a_clause_removes_others(rt: HostRuntime) {
     let third = next_job_beside(&rt, alloc, &bank, &mut pool, &first.batch);
     let (_, removals) = met(&rt, &third.batch);
     assert_eq!(rt; removals.len(), 2);
-    let values = unit(&rt, alloc, equation(b(alloc), c(alloc)));
+    let values = unit(alloc, equation(b(alloc), c(alloc))).expect(&rt, "memory");
     assert!(rt; replaces(removals, 0, 2, &values));
     assert!(rt; drops(removals, 1, 2));
     take_beside(&rt, alloc, &bank, &mut pool, third.batch, &first.batch);

@@ -5,10 +5,11 @@ ghost use Rattle.std.specs.Prelude.{◌≤◌};
 use crate::batches::{becomes, is_subsumed, met};
 use crate::jobs::{Job, finish_jobs, next_job, pool_of, take};
 use crate::problems::{implying, reducing};
-use crate::samples::{a, b, q, unit};
+use crate::samples::{a, b, q};
 use fol_base::Side;
 use kernel_steps::Key;
 use pool_core::Outcome;
+use sample_terms::unit;
 use std::alloc::Global;
 use std::process::Abort;
 use std::sync::Wait;
@@ -57,7 +58,7 @@ fn an_implication_meets_a_fact(rt: HostRuntime) {
     assert!(rt; meets(&rt, &job, 1, 2, 1));
     let entry = met(&rt, &job.batch).0.first().expect(&rt, "an entry");
     assert!(rt; is_first_into_second(&entry.key));
-    let conclusion = unit(&rt, alloc, q(&rt, alloc, a(alloc)));
+    let conclusion = unit(alloc, q(&rt, alloc, a(alloc))).expect(&rt, "memory");
     assert!(rt; becomes(&entry.fate, 2, &conclusion));
     take(&rt, alloc, &bank, &mut pool, job.batch);
     finish_jobs(&rt, alloc, &bank, &mut pool, 1);
@@ -82,7 +83,7 @@ fn conclusions_are_reduced(rt: HostRuntime) {
     let job = implication_job(&rt, alloc, 100);
     assert!(rt; meets(&rt, &job, 5, 5, 2));
     let entries = met(&rt, &job.batch).0;
-    let rewritten = unit(&rt, alloc, q(&rt, alloc, b(alloc)));
+    let rewritten = unit(alloc, q(&rt, alloc, b(alloc))).expect(&rt, "memory");
     assert!(rt;
         entries
             .iter()

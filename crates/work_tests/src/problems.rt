@@ -4,8 +4,9 @@ ghost use Rattle.std.specs.Prelude.{◌≡◌, map};
 ghost use Rattle.fol_base.specs.Literal.{clause_of};
 ghost use Rattle.work_tests.specs.Problems.{implying, two_values, three_values, constant_function, reducing};
 
-use crate::samples::{a, b, c, either, equation, f, not_p, p, q, r, three, two, unit};
+use crate::samples::{a, b, c, either, equation, f, not_p, p, q, r, three, two};
 use fol_base::{Clauses, Term};
+use sample_terms::unit;
 use std::alloc::Global;
 use std::process::Abort;
 
@@ -13,18 +14,24 @@ use std::process::Abort;
 pub(crate) fn implying(rt: &impl Abort, alloc: Global) -> Clauses
     ensures { map clause_of result ≡ implying }
 {
-    let fact = unit(rt, alloc, p(rt, alloc, a(alloc)));
+    let fact = unit(alloc, p(rt, alloc, a(alloc))).expect(rt, "memory");
     let condition = not_p(rt, alloc, Term::Var(0));
     let rule = either(rt, alloc, condition, q(rt, alloc, Term::Var(0)));
-    three(rt, alloc, fact, rule, unit(rt, alloc, r(alloc)))
+    three(
+        rt,
+        alloc,
+        fact,
+        rule,
+        unit(alloc, r(alloc)).expect(rt, "memory"),
+    )
 }
 
 /// `f(a) = b` and `f(a) = c`.
 pub(crate) fn two_values(rt: &impl Abort, alloc: Global) -> Clauses
     ensures { map clause_of result ≡ two_values }
 {
-    let lesser = unit(rt, alloc, equation(f(rt, alloc, a(alloc)), b(alloc)));
-    let greater = unit(rt, alloc, equation(f(rt, alloc, a(alloc)), c(alloc)));
+    let lesser = unit(alloc, equation(f(rt, alloc, a(alloc)), b(alloc))).expect(rt, "memory");
+    let greater = unit(alloc, equation(f(rt, alloc, a(alloc)), c(alloc))).expect(rt, "memory");
     two(rt, alloc, lesser, greater)
 }
 
@@ -32,9 +39,9 @@ pub(crate) fn two_values(rt: &impl Abort, alloc: Global) -> Clauses
 pub(crate) fn three_values(rt: &impl Abort, alloc: Global) -> Clauses
     ensures { map clause_of result ≡ three_values }
 {
-    let first = unit(rt, alloc, equation(f(rt, alloc, a(alloc)), b(alloc)));
-    let constants = unit(rt, alloc, equation(b(alloc), a(alloc)));
-    let second = unit(rt, alloc, equation(f(rt, alloc, a(alloc)), c(alloc)));
+    let first = unit(alloc, equation(f(rt, alloc, a(alloc)), b(alloc))).expect(rt, "memory");
+    let constants = unit(alloc, equation(b(alloc), a(alloc))).expect(rt, "memory");
+    let second = unit(alloc, equation(f(rt, alloc, a(alloc)), c(alloc))).expect(rt, "memory");
     three(rt, alloc, first, constants, second)
 }
 
@@ -42,9 +49,9 @@ pub(crate) fn three_values(rt: &impl Abort, alloc: Global) -> Clauses
 pub(crate) fn constant_function(rt: &impl Abort, alloc: Global) -> Clauses
     ensures { map clause_of result ≡ constant_function }
 {
-    let greater = unit(rt, alloc, equation(f(rt, alloc, a(alloc)), c(alloc)));
-    let lesser = unit(rt, alloc, equation(f(rt, alloc, a(alloc)), b(alloc)));
-    let general = unit(rt, alloc, equation(f(rt, alloc, Term::Var(0)), b(alloc)));
+    let greater = unit(alloc, equation(f(rt, alloc, a(alloc)), c(alloc))).expect(rt, "memory");
+    let lesser = unit(alloc, equation(f(rt, alloc, a(alloc)), b(alloc))).expect(rt, "memory");
+    let general = unit(alloc, equation(f(rt, alloc, Term::Var(0)), b(alloc))).expect(rt, "memory");
     three(rt, alloc, greater, lesser, general)
 }
 
@@ -52,13 +59,13 @@ pub(crate) fn constant_function(rt: &impl Abort, alloc: Global) -> Clauses
 pub(crate) fn reducing(rt: &impl Abort, alloc: Global) -> Clauses
     ensures { map clause_of result ≡ reducing }
 {
-    let first = unit(rt, alloc, p(rt, alloc, a(alloc)));
-    let second = unit(rt, alloc, p(rt, alloc, b(alloc)));
-    let value_of_a = unit(rt, alloc, equation(f(rt, alloc, a(alloc)), b(alloc)));
+    let first = unit(alloc, p(rt, alloc, a(alloc))).expect(rt, "memory");
+    let second = unit(alloc, p(rt, alloc, b(alloc))).expect(rt, "memory");
+    let value_of_a = unit(alloc, equation(f(rt, alloc, a(alloc)), b(alloc))).expect(rt, "memory");
     let mut clauses = three(rt, alloc, first, second, value_of_a);
-    let value_of_b = unit(rt, alloc, equation(f(rt, alloc, b(alloc)), c(alloc)));
+    let value_of_b = unit(alloc, equation(f(rt, alloc, b(alloc)), c(alloc))).expect(rt, "memory");
     clauses.push(value_of_b).expect(rt, "memory");
-    let subsumer = unit(rt, alloc, q(rt, alloc, c(alloc)));
+    let subsumer = unit(alloc, q(rt, alloc, c(alloc))).expect(rt, "memory");
     clauses.push(subsumer).expect(rt, "memory");
     let condition = not_p(rt, alloc, Term::Var(0));
     let conclusion = q(rt, alloc, f(rt, alloc, Term::Var(0)));

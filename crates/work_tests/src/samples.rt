@@ -90,18 +90,6 @@ pub(crate) fn equation(left: Term, right: Term) -> Literal
     }
 }
 
-/// The clause of one literal.
-pub(crate) fn unit(rt: &impl Abort, alloc: Global, literal: Literal) -> Clause
-    ensures { clause_of result ≡ clause (literal_of literal ∷ []) }
-{
-    let mut literals = Literals::new(alloc);
-    literals.push(literal).expect(rt, "memory");
-    Clause {
-        literals,
-        names: Names::new(alloc),
-    }
-}
-
 /// The clause of two literals.
 pub(crate) fn either(rt: &impl Abort, alloc: Global, first: Literal, second: Literal) -> Clause
     ensures { clause_of result ≡ clause (literal_of first ∷ literal_of second ∷ []) }
