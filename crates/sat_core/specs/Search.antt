@@ -46,12 +46,6 @@ OthersFalse slots c l = (k : NameLit) → IsTrue (has_name k c) → IsFalse (sam
 abbrev pub HaveLists : ℕ → PropClause → Type 0
 HaveLists count c = (k : NameLit) → IsTrue (has_name k c) → 2 * k.name + 2 ≤ count
 
--- a literal without a value, the only one of the clause that isn't false
-pub record IsUnit (slots : List Slot) (c : PropClause) (l : NameLit) : Type 0 where
-  pub member : IsTrue (has_name l c)
-  pub free : place_of slots l ≡ 0
-  pub others : OthersFalse slots c l
-
 -- none of the clause's literals is true
 abbrev pub HasNoTrue : List Slot → PropClause → Type 0
 HasNoTrue slots c = (k : NameLit) → IsTrue (has_name k c) → IsFalse (is_true slots k)

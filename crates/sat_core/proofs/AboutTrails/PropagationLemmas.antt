@@ -13,7 +13,7 @@ use Rattle.sat_core.specs.declared.trail.Slot.{Slot}
 use Rattle.sat_core.specs.Clause.{PropClause}
 use Rattle.sat_core.specs.Trail.{IsTrail, slot_at, slot_of, place_of, has_place, is_true, is_false}
 use Rattle.sat_core.specs.State.{IsSound, IsImplied, AreFalse, clause_at}
-use Rattle.sat_core.specs.Search.{OthersFalse, IsUnit, Propagates, remaining}
+use Rattle.sat_core.specs.Search.{OthersFalse, Propagates, remaining}
 use Rattle.sat_core.proofs.AboutTrails.LiteralLemmas.{same_name-true}
 use Rattle.sat_core.proofs.AboutConflicts.AnalysisLemmas.{has_name_more}
 use Rattle.sat_core.proofs.AboutAnswers.SoundLemmas.{pushed_sound, pushed_remaining}
@@ -79,6 +79,12 @@ no_value slots l t f =
     neither p false h e f = both_ways p (sym (and-true p) ∙ f) h
 
 -- ---- an implied literal is made true
+
+-- a literal without a value, the only one of the clause that isn't false
+pub record IsUnit (slots : List Slot) (c : PropClause) (l : NameLit) : Type 0 where
+  pub member : IsTrue (has_name l c)
+  pub free : place_of slots l ≡ 0
+  pub others : OthersFalse slots c l
 
 pub unit_implied :
     (clauses : List PropClause) (entries : List Assigned) (slots : List Slot) (n : ℕ) (l : NameLit)
