@@ -2,6 +2,7 @@
 #![tactic(auto)]
 
 mod chain;
+mod complement;
 mod conclude;
 mod instance;
 mod key;
@@ -13,6 +14,7 @@ mod rules;
 mod split;
 mod step;
 
+pub use complement::is_complement;
 pub use conclude::{binds, bound_size, conclusion};
 pub use key::Key;
 pub use marks::{last_marked, marked};

@@ -9,4 +9,4 @@ mod symbol;
 
 pub use prefix::fresh_prefix;
 pub use signature::Signature;
-pub use symbol::{Symbol, SymbolKind, SymbolRef};
+pub use symbol::{Symbol, SymbolKind, SymbolRef, arity_of};

@@ -8,7 +8,7 @@ ghost use Rattle.signature.specs.Symbol.{same_symbol, symbol_of};
 ghost use Rattle.signature.specs.SymbolLaws.{same_symbols, same_symbols_hash_alike};
 
 use indexmap::Equivalent;
-use plain_types::{Mem, Text};
+use plain_types::{Mem, NoMemory, Text};
 use std::alloc::Global;
 use std::hash::{Hash, Hasher};
 
@@ -129,4 +129,11 @@ impl<'a> Equivalent<Symbol> for SymbolRef<'a> {
     fn equivalent(&self, key: &Symbol) -> bool {
         *self == key.lend()
     }
+}
+
+/// How many arguments there are, as a symbol has it; else want of memory, since no such symbol fits.
+pub fn arity_of(arguments: usize) -> Mem<u32>
+    ensures { IfOk result (λ arity. arity ≡ arguments) }
+{
+    u32::try_from(arguments).map_err(|_| NoMemory)
 }

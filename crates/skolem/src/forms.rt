@@ -23,7 +23,7 @@ use crate::progress::{Arguments, Progress};
 use fol_base::{MOST_FORM_SYMBOLS, MOST_SYMBOLS};
 use formula_nnf::{Nnf, NnfBox};
 use plain_types::{Mem, NoMemory, Text};
-use signature::Signature;
+use signature::{Signature, arity_of};
 use std::alloc::Global;
 use std::rc::Rc;
 use tptp_tree::{TreeTerm, TreeTerms};
@@ -320,13 +320,6 @@ fn bind_skolem_term(
     };
     progress.bind_term(alloc, name, term, arity, alike, covers)?;
     Ok(())
-}
-
-/// How many arguments there are, as a symbol has it.
-fn arity_of(arguments: usize) -> Mem<u32>
-    ensures { IfOk result (λ arity. arity ≡ arguments) }
-{
-    u32::try_from(arguments).map_err(|_| NoMemory)
 }
 
 /// The number of the next Skolem symbol, after so many.

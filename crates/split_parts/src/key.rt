@@ -1,19 +1,16 @@
 // Parts as keys of a table: owned, and lent for a look-up.
 
-ghost use Rattle.std.specs.Prelude.{◌≡◌, ◌&&◌, [], ◌∷◌, map};
 ghost use Rattle.std.specs.Cmp.{on_equiv, partial_equiv_from_equiv};
 ghost use Rattle.std.specs.Hash as fed;
 ghost use Rattle.std.specs.Ordering.{on};
-ghost use Rattle.fol_base.specs.Tree.{tree_eq};
 ghost use Rattle.fol_base.specs.Clause.{literals_eq};
-ghost use Rattle.fol_base.specs.Literal.{literal_of};
-ghost use Rattle.kernel_steps.specs.Derivation.{complement};
 ghost use Rattle.split_parts.specs.PartHash.{part_hash};
 ghost use Rattle.split_parts.specs.PartKeys.{key_part, lent_part, opposite_part, same_part, same_parts, literals_equiv, parts_hash_alike};
 
 use crate::hash::{complement_hash, part_hash};
-use fol_base::{Literal, Literals, same_literals, same_term};
+use fol_base::{Literal, Literals, same_literals};
 use indexmap::Equivalent;
+use kernel_steps::is_complement;
 use std::hash::{Hash, Hasher};
 
 /// A part of which the table owns the literals.
@@ -126,22 +123,6 @@ impl<'a> Equivalent<PartKey> for OppositeRef<'a> {
     ghost respects_eq = { λ r k j. literals_equiv.congr (opposite_part r) (key_part k) (key_part j) };
 
     fn equivalent(&self, key: &PartKey) -> bool {
-        is_opposite(self.literal, key.literals.as_slice())
+        is_complement(self.literal, key.literals.as_slice())
     }
-}
-
-/// Whether literals are one, with the same sides and the opposite sign.
-fn is_opposite(literal: &Literal, literals: &[Literal]) -> bool
-    ensures { result ≡ literals_eq (complement (literal_of literal.now) ∷ []) (map literal_of literals.now) }
-{
-    literals.len() == 1
-        && literal.positive != literals[0].positive
-        && same_sides(literal, &literals[0])
-}
-
-fn same_sides(literal: &Literal, other: &Literal) -> bool
-    ensures { result ≡ (tree_eq (literal_of literal.now).left (literal_of other.now).left
-        && tree_eq (literal_of literal.now).right (literal_of other.now).right) }
-{
-    same_term(&literal.left, &other.left) && same_term(&literal.right, &other.right)
 }

@@ -1,7 +1,7 @@
 // Lines of clauses that come from the form or introduce a name.
 
 ghost use Rattle.std.specs.Prelude.{◌≡◌, ◌+◌, ℕ, List, ◌∷◌, [], ◌&&◌, ◌||◌, ◌==◌, not, map, false, length, option_map, IfOk, OnErr, if◌then◌else◌};
-ghost use Rattle.fol_base.specs.Clause.{literals_eq, clause_eq, names_eq};
+ghost use Rattle.fol_base.specs.Clause.{clause_eq, names_eq};
 ghost use Rattle.fol_base.specs.Ground.{is_ground_literal};
 ghost use Rattle.fol_base.specs.Literal.{literal_of, clause_of};
 ghost use Rattle.tptp_tree.specs.Shape.{formula_of};
@@ -11,7 +11,7 @@ ghost use Rattle.tptp_source.specs.Shape.{tree_of as general_of};
 ghost use Rattle.tptp_source.specs.SourceShape.{source_of};
 ghost use Rattle.tptp_source.specs.declared.source.Source.{Source};
 ghost use Rattle.signature.specs.Symbol.{predicate_symbol, has_symbol};
-ghost use Rattle.kernel_steps.specs.Derivation.{negative_of, complement, is_component};
+ghost use Rattle.kernel_steps.specs.Derivation.{negative_of, is_component};
 ghost use Rattle.kernel_steps.specs.declared.step.Step.TheVariants.{Component};
 ghost use Rattle.clausal_form.specs.DerivationClause.{is_written_clause};
 ghost use Rattle.clausal_form.specs.DerivationSteps.{component_kind, kind_of};
@@ -33,8 +33,8 @@ use crate::refusal::Refusal;
 use crate::sources::{bound_items, clause_number, items_of};
 use crate::steps::Kind;
 use crate::written::is_written_clause;
-use fol_base::{Clause, Literal, LiteralRef, same_clause, same_literal};
-use kernel_steps::{Line, Step};
+use fol_base::{Clause, Literal, same_clause};
+use kernel_steps::{Line, Step, is_complement};
 use plain_types::NameLit;
 use signature::{SymbolKind, SymbolRef};
 use std::alloc::Global;
@@ -369,19 +369,4 @@ fn is_opposite(number: u32, literal: &Literal, clause: &Clause) -> bool
 {
     is_complement(literal, clause.literals.as_slice())
         && is_one_name(clause.names.as_slice(), true, number)
-}
-
-/// Whether literals are the complement of a literal alone.
-fn is_complement(literal: &Literal, literals: &[Literal]) -> bool
-    ensures { result ≡ literals_eq (complement (literal_of literal.now) ∷ []) (map literal_of literals.now) }
-{
-    let complement = LiteralRef {
-        positive: !literal.positive,
-        left: &literal.left,
-        right: &literal.right,
-    };
-    match literals {
-        [other] => same_literal(complement, other.lend()),
-        _ => false,
-    }
 }

@@ -12,8 +12,8 @@ ghost use Rattle.tstp_checker.specs.Numbers.{Meets, IsTerm, AreTerms, symbol_for
 
 use crate::names::NameTable;
 use fol_base::{Term, Terms};
-use plain_types::{Mem, NoMemory};
-use signature::{Signature, SymbolKind, SymbolRef};
+use plain_types::Mem;
+use signature::{Signature, SymbolKind, SymbolRef, arity_of};
 use std::alloc::Global;
 use tptp_tree::TreeTerm;
 
@@ -80,11 +80,4 @@ impl LineNumbers {
         }
         Ok(trees)
     }
-}
-
-/// The number of arguments as symbols have it.
-fn arity_of(arguments: usize) -> Mem<u32>
-    ensures { IfOk result (λ arity. arity ≡ arguments) }
-{
-    u32::try_from(arguments).map_err(|_| NoMemory)
 }
