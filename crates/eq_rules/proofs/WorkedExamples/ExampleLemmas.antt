@@ -7,12 +7,11 @@ use Rattle.fol_base.specs.Examples.{x, a, p, clause, is_predicate, first_is_a}
 use Rattle.fol_base.specs.Rules.{disequation}
 use Rattle.fol_base.specs.Selection.{select_nothing, select_negative}
 use Rattle.fol_base.specs.declared.clause.Side.TheVariants.{Left}
-use Rattle.fol_base.proofs.WorkedExamples.MatchingExamples.{first_is_a_general}
+use Rattle.fol_base.proofs.WorkedExamples.MatchingExamples.{first_argument, first_is_a_general}
 use Rattle.kernel_steps.specs.Examples.{not_true}
 use Rattle.kernel_steps.specs.Symbols.{literal_symbols_pass}
 use Rattle.kernel_steps.specs.declared.key.Key.TheVariants.{Refl}
 use Rattle.kernel_steps.specs.declared.step.Step.TheVariants as step
-use Rattle.kernel_steps.proofs.WorkedExamples.InferenceExamples.{argument_of}
 use Rattle.kernel_steps.specs.Sized.{SizedFactoring, SizedResolution}
 use Rattle.eq_rules.specs.Inferences.{IsConcluded}
 use Rattle.eq_rules.specs.Examples.{found_at_three, found_at_four}
@@ -33,7 +32,7 @@ resolution = record {
 }
 
 atoms_general : IsMostGeneralUnifier (p (x 0)).left (p a).left first_is_a
-atoms_general = record { unifies = refl; is_general = λ ρ unifies. first_is_a_general.is_general ρ (ap argument_of unifies) }
+atoms_general = record { unifies = refl; is_general = λ ρ unifies. first_is_a_general.is_general ρ (ap first_argument unifies) }
 
 pub factoring : SizedFactoring is_predicate select_nothing (clause (p (x 0) ∷ p a ∷ [])) 0 Left 1 Left (clause (not_true ∷ p a ∷ [])) false
 factoring = record {

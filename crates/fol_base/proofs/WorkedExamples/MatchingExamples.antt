@@ -19,7 +19,7 @@ use Rattle.fol_base.specs.Examples.{x, a, b, f, f₂, p, q, r, equation, clause,
 pub variable_occurs : (σ : Substitution) → IsUnifier (x 0) (f (x 0)) σ → ⊥
 variable_occurs σ e = let sizes : tree_size (σ 0) ≡ tree_size (f (σ 0)) = ap tree_size e in absurd (omega arith)
 
-abbrev first_argument : Tree → Tree
+abbrev pub first_argument : Tree → Tree
 first_argument (application symbol (tree_then t ts)) = t
 first_argument t = t
 

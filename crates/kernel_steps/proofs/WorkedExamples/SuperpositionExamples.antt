@@ -8,16 +8,16 @@ use Rattle.fol_base.specs.Selection.{select_negative}
 use Rattle.fol_base.specs.Examples.{x, a, b, f, p, q, equation, clause, is_predicate, even, odd, first_is}
 use Rattle.fol_base.specs.declared.clause.Side.TheVariants.{Left}
 use Rattle.fol_base.proofs.AboutInstances.Shuffled.{shuffled, shuffled-even, shuffled-odd}
+use Rattle.fol_base.proofs.WorkedExamples.MatchingExamples.{first_argument}
 use Rattle.kernel_steps.specs.Derivation.{positive_of, negative_of, under_names}
 use Rattle.kernel_steps.specs.Inference.{NamedSuperposition}
 use Rattle.kernel_steps.specs.Examples.{not_p, not_true}
-use Rattle.kernel_steps.proofs.WorkedExamples.InferenceExamples.{argument_of}
 
 -- an application to a and one to X0, with different variables
 apart_general :
     (symbol : ℕ)
     → IsMostGeneralUnifierApart (application symbol (tree_then a no_trees)) (application symbol (tree_then (x 0) no_trees)) (λ v. variable (even v)) (first_is a odd)
-apart_general symbol = record { unifies = refl; is_general = λ ρ π unifies. (then_by ρ π, left ρ π, right ρ π (ap argument_of unifies)) }
+apart_general symbol = record { unifies = refl; is_general = λ ρ π unifies. (then_by ρ π, left ρ π, right ρ π (ap first_argument unifies)) }
   where
     then_by : Substitution → Substitution → Substitution
     then_by ρ π = shuffled ρ (λ w. π (suc w))

@@ -19,6 +19,7 @@ use Rattle.fol_base.specs.declared.clause.Side.{Side}
 use Rattle.fol_base.specs.declared.clause.Side.TheVariants.{Left, Right}
 use Rattle.fol_base.proofs.AboutClauses.RuleLemmas.{resolved-parts, merged-parts}
 use Rattle.fol_base.proofs.AboutInstances.Shuffled.{shuffled, shuffled-even, shuffled-odd}
+use Rattle.fol_base.proofs.WorkedExamples.MatchingExamples.{first_argument}
 use Rattle.kernel_steps.specs.Conclusion.{verdict, concludes}
 use Rattle.kernel_steps.specs.Derivation.{complement, continued}
 use Rattle.kernel_steps.specs.Examples.{not_p, not_true}
@@ -29,7 +30,6 @@ use Rattle.kernel_steps.specs.Symbols.{symbols_pass, literal_symbols_pass, claus
 use Rattle.kernel_steps.specs.declared.step.TheConstants.{CLAUSE_NUMBERS}
 use Rattle.kernel_steps.specs.declared.step.Line.{Line}
 use Rattle.kernel_steps.specs.declared.step.Step.TheVariants as step
-use Rattle.kernel_steps.proofs.WorkedExamples.InferenceExamples.{argument_of}
 use Rattle.calculus.specs.Lifting.{among, IsMember}
 use Rattle.pool_core.specs.Record.{GivenJob, clauses_of}
 use Rattle.kernel_steps.specs.FromTrees.{line_of}
@@ -69,7 +69,7 @@ general = record {
   is_general = λ ρ π unifies. (
     shuffled ρ (λ w. π (suc w)),
     λ v. shuffled-even ρ (λ w. π (suc w)) v,
-    λ v. at ρ π (ap argument_of unifies) v,
+    λ v. at ρ π (ap first_argument unifies) v,
   );
 }
   where
