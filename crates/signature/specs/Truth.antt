@@ -1,4 +1,5 @@
--- The truth of a formula in a finite interpretation (Tarski 1936): quantifiers range over the values below the size.
+-- The truth of a formula in a finite interpretation (Tarski 1936): quantifiers range over the values below the size. That of a clause, for every
+-- assignment of such values, is `HoldsIn` of `fol_base`.
 use Rattle.std.specs.Prelude.{ℕ, Bool, true, false, not, ◌&&◌, ◌||◌, ◌==◌, if◌then◌else◌, List, [], ◌∷◌, bytes_eq}
 use mathlib.Core.Bool.{beq}
 use Rattle.std.specs.List.{list_any, list_all}

@@ -1,4 +1,4 @@
-// The truth of formulas and problems, where p holds for one of two values or for both.
+// The truth of formulas and problems, where p holds for one of two values, or for the only one.
 
 ghost use Rattle.std.specs.Prelude.{[], ◌∷◌, true, false, IsTrue, IsFalse};
 ghost use Rattle.tptp_tree.specs.Term.{variable};
