@@ -118,11 +118,12 @@ fn are_below(number: u32, variables: &[u32]) -> bool
     variables.iter().all(|variable| *variable < number)
 }
 
-/// Of the variables below that number those that occur, in their order, each once. The list is sorted for it.
+/// Of the variables below that number those that occur, in their order, each once. The list is sorted for it, by the sort that merges what is in order
+/// already, since such lists are mostly put together from lists that are.
 pub fn made_in_order(alloc: Global, variables: u32, occurring: &mut Vec<u32>) -> Mem<Vec<u32>>
     ensures { IfOk result (λ found. found.items ≡ made_in_order variables occurring.old.items) }
 {
-    occurring.sort_unstable();
+    occurring.sort()?;
     once_each(alloc, variables, occurring.as_slice())
 }
 

@@ -10,11 +10,11 @@ once_each-requires c =
     record {
       sorted =
           subst (IsNonDecreasingBy (λ v. v)) (sym c.as_slice.ensures.value)
-          (IsNonDecreasingBy-from_sort (λ v. v) c.sort_unstable.new.self.items c.sort_unstable.ensures.sorted);
+          (IsNonDecreasingBy-from_sort (λ v. v) c.sort.new.self.items c.in_ok-sort.ensures.sorted);
     }
 
 pub returns : goal.returns
 returns c =
     if-ok c.once_each.result _ _
-    (λ found h. order-of-sorted c.args.variables c.args.occurring.now.items c.sort_unstable.new.self.items found.items c.sort_unstable.ensures.permutation
+    (λ found h. order-of-sorted c.args.variables c.args.occurring.now.items c.sort.new.self.items found.items c.sort.ensures.permutation
     (h ∙ ap (made_in_order c.args.variables) c.as_slice.ensures.value)) c.once_each.ensures
