@@ -28,6 +28,10 @@ use std::alloc::Global;
 use std::rc::Rc;
 use tptp_tree::{TreeTerm, TreeTerms};
 
+/// How many arguments of Skolem terms are listed before too many symbols together end the work: numbers of 256 MiB, no more than forms within the
+/// limits list.
+const MOST_LISTED_ARGUMENTS: u64 = 1 << 26;
+
 /// The matrix of a normal form, and the numbers of arguments of its Skolem symbols.
 #[derive(Drop)]
 pub struct Skolemized<'a> {
@@ -58,8 +62,8 @@ impl From<NoMemory> for MatrixEnd {
 
 /// The matrix of a normal form without free variables, over the signature with the form's Skolem symbols, which come after those that are
 /// there. The matrix lends the signature and the form's terms, and makes none; `add_skolem_symbols` adds the symbols when it is done with.
-/// The work ends at the first literal that makes a clause too heavy, or all of them together too large, since a formula with many Skolem terms of
-/// very many arguments would else keep all of them.
+/// The work ends at the first literal that makes a clause too heavy, or that makes all of them together too large where very many arguments are
+/// listed, since a formula with many quantifiers would else keep as many lists of them.
 pub fn skolemize<'a>(
     alloc: Global,
     form: &Nnf<'a>,
@@ -82,7 +86,7 @@ pub fn skolemize<'a>(
 }
 
 /// The matrix of a form under the variables in force. Where the form stands in clauses (`in_clauses`), its literals that do so too are counted, and
-/// the first that is too heavy, alone or with those before, ends the work.
+/// the first that is too heavy, alone or (where many arguments are listed) with those before, ends the work.
 #[cycle(matrix_of)]
 fn matrix_of<'a>(
     alloc: Global,
@@ -109,11 +113,11 @@ fn matrix_of<'a>(
         Nnf::False => Ok(Matrix::False),
         Nnf::Pred(positive, name, arguments) => {
             let literal = atom(alloc, signature, progress, *positive, name, arguments)?;
-            of_literal(literal, in_clauses, counted)
+            of_literal(literal, in_clauses, progress.listed, counted)
         }
         Nnf::Equal(positive, left, right) => {
             let literal = equation(alloc, signature, progress, *positive, left, right)?;
-            of_literal(literal, in_clauses, counted)
+            of_literal(literal, in_clauses, progress.listed, counted)
         }
         Nnf::And(forms) => {
             let forms = forms.as_slice();
@@ -174,10 +178,12 @@ fn matrices_of<'a>(
     Ok(matrices)
 }
 
-/// The matrix of a literal, which is counted where it stands in a clause; if it isn't too heavy for one, alone or with those before.
+/// The matrix of a literal, which is counted where it stands in a clause; if it isn't too heavy for one, alone or with those before. Where few arguments
+/// are listed (`listed`), too many symbols together don't end the work: literals share the lists, and the clauses tell the limit sooner than an outline.
 fn of_literal<'a>(
     made: MatrixLiteral<'a>,
     in_clauses: bool,
+    listed: u64,
     counted: &mut u64,
 ) -> Result<Matrix<'a>, MatrixEnd>
     ensures matrix { IfOk result (λ matrix. matrix_tree matrix ≡ literal made.entry) }
@@ -191,7 +197,7 @@ fn of_literal<'a>(
             return Err(MatrixEnd::TooHeavy);
         }
         *counted = counted.saturating_add(size);
-        if *counted > MOST_FORM_SYMBOLS {
+        if *counted > MOST_FORM_SYMBOLS && listed > MOST_LISTED_ARGUMENTS {
             return Err(MatrixEnd::TotalLimit);
         }
     }

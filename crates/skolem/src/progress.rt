@@ -25,6 +25,8 @@ pub(crate) struct Progress {
     pub bindings: Bindings,
     pub variables: u32,
     pub arities: Vec<u32>,
+    /// How many arguments the lists have together that were made for quantifiers, each counted once, though its Skolem terms share it.
+    pub listed: u64,
 }
 
 /// The arguments of a quantifier's Skolem terms; and the place of a binding whose term's variables are among them, counted from 1, or 0.
@@ -44,6 +46,7 @@ impl Progress {
             bindings: Bindings::new(alloc),
             variables: 0,
             arities: Vec::new(alloc),
+            listed: 0,
         }
     }
 
@@ -104,6 +107,7 @@ impl Progress {
         let mut occurring = variables_at(alloc, &self.bindings, &mut places)?;
         let are_made = are_below(self.variables, occurring.variables.as_slice());
         let variables = made_in_order(alloc, self.variables, &mut occurring.variables)?;
+        self.listed = self.listed.saturating_add(variables.len() as u64);
         Ok(Arguments {
             variables,
             covers: if are_made { occurring.covers } else { 0 },
