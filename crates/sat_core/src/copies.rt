@@ -1,5 +1,5 @@
-// The clauses once more, each with its two watched literals in front: so the look at a clause reads one piece of memory, and
-// what it comes to is believed, since a copy has the literals of its clause, in another order.
+// The clauses once more, each with its two watched literals in front: so the look at a clause reads these first, and all of it only where
+// neither tells enough. What it comes to is believed, since a copy has the literals of its clause, in another order.
 
 ghost use Rattle.std.specs.Prelude.{◌≡◌, ◌<◌, ◌≤◌, length, slice_index_or, IfOk, IfSome, IfNone};
 ghost use Rattle.sat_core.specs.State.{SameLiterals};
@@ -16,7 +16,7 @@ use std::marker::Model;
 /// What the look at a copy has found.
 #[derive(Clone, Copy)]
 pub enum Look {
-    /// This watched literal is true.
+    /// This literal is true by its value, or the clause has no two literals to be watched by.
     True(CodedLiteral),
     /// The clause is watched by the second literal, which isn't false, in place of the false one; the first is the other.
     Moved(CodedLiteral, CodedLiteral),

@@ -3,11 +3,11 @@
 // Clauses are learned from conflicts (Marques-Silva and Sakallah 1996) in the way of MiniSat (Eén and Sörensson 2003). `answer.rt` has
 // what goes in and comes out, `clauses.rt` the clauses with the log, over `lists.rt`, where lists stand one after another in one vector,
 // `trail.rt` the literals that are true in the order in which they became so, over `literals.rt`, literals as numbers, and `values.rt`,
-// the values by these, `watches.rt` the propagation, over `copies.rt`, the clauses once more, `marks.rt` and `analysis.rt` the conflicts, `minimise.rt` the smaller
-// clauses, `order.rt` the decisions, `forgetting.rt` which learned clauses are watched, `trimming.rt` the log that is answered, and
-// `solver.rt` the steps, `solve` and `solve_from`. The clauses that are handed in are borrowed. A conflict takes no memory of its own,
-// but where clauses are forgotten: its room is used again, and what is learned is added at the ends of vectors (the clause, its chain,
-// its copy, its watches).
+// the values by these, `watches.rt` the propagation, over `copies.rt`, the clauses once more, `marks.rt` and `analysis.rt` the conflicts,
+// `minimise.rt` the smaller clauses, `order.rt` the decisions, `forgetting.rt` which learned clauses are watched, `trimming.rt` the log
+// that is answered, and `solver.rt` the steps, `solve` and `solve_from`. The clauses that are handed in are borrowed. A conflict takes no
+// memory of its own but for the copy of what is learned, a vector for itself, and where clauses are forgotten: its room is used again, and
+// what is learned is added at the ends of vectors (the clause, its chain, its watches).
 //
 // Few facts are kept from step to step, and everything else is a hint that is checked where it is used:
 //
@@ -38,8 +38,8 @@
 // clause of each marked chain so far is known at its new number.
 //
 // Hints on which no answer rests are the values that are tried first, the lists of the watched literals, the order of a copy's literals,
-// that a literal is true by the values by literal, the heap of names with their activities, the two of the analysis, the order in which literals are
-// resolved away, and which learned clauses are watched. Were they wrong, the solver would be slow, and no answer would be.
+// that a literal is true by the values by literal, the heap of names with their activities, the two of the analysis, the order in which
+// literals are resolved away, and which learned clauses are watched. Were they wrong, the solver would be slow, and no answer would be.
 #![tactic(auto)]
 
 mod analysis;

@@ -35,12 +35,12 @@ impl Values {
         })
     }
 
-    /// Whether the literal is true.
+    /// Whether the literal is true by its value.
     pub fn is_true(&self, literal: CodedLiteral) -> bool {
         matches!(self.by_code.get(literal.index()), Some(Value::True))
     }
 
-    /// Whether it is false.
+    /// Whether it is false by its value.
     pub fn is_false(&self, literal: CodedLiteral) -> bool
         ensures { IsTrue result → value_at self.now.by_code.items (code_of literal) ≡ False }
     {

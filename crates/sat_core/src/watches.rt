@@ -1,7 +1,6 @@
-// Propagation: each clause of two literals or more is watched by two of them, and looked at again only where a
-// watched one becomes false (Moskewicz and others 2001), and then only where the literal beside it in the list (as in
-// MiniSat, Eén and Sörensson 2003) isn't true. Which clauses the lists have is a hint. What is implied is read from the copies of the
-// clauses, which have the same literals.
+// Propagation: each clause with two different literals is watched by two of them, and looked at again only where a watched one becomes false
+// (Moskewicz and others 2001), and then only where the literal beside it in the list (as in MiniSat, Eén and Sörensson 2003) isn't true. Which
+// clauses the lists have is a hint. What is implied is read from the copies of the clauses, which have the same literals.
 
 ghost use Rattle.std.specs.Prelude.{◌≡◌, ℕ, ◌+◌, ◌*◌, ◌<◌, ◌≤◌, ◌++◌, [], ◌∷◌, length, IfOk, IfSome, IsTrue};
 ghost use Rattle.plain_types.specs.Names.{has_name};
@@ -106,7 +105,7 @@ impl Watches {
         })
     }
 
-    /// Watches a clause by the literals at two indices.
+    /// Copies a clause and watches it by the literals at two indices.
     fn watch(&mut self, alloc: Global, number: usize, literals: &[NameLit], pair: Pair) -> Mem<()>
         requires lists { HaveLists (length self.old.lists.items) literals.now }
         requires first { pair.first < length literals.now }
@@ -180,7 +179,8 @@ impl Watches {
         }
     }
 
-    /// Goes through the list that is taken out, of a literal that has become false; a clause all of whose literals are false ends it.
+    /// Goes through the list that is taken out, of a literal that has become false; a clause all of whose literals are false ends it. The clauses
+    /// are lent for the contracts alone: what they imply is read from the copies.
     fn visit_all(
         &mut self,
         clauses: &Clauses<'_>,
@@ -283,7 +283,7 @@ impl Watches {
         Ok(None)
     }
 
-    /// Watches a clause that is handed in.
+    /// Copies a clause that is handed in, and watches it where it has two different literals.
     pub fn add_input(&mut self, alloc: Global, number: usize, literals: &[NameLit]) -> Mem<()>
         requires { HaveLists (length self.old.lists.items) literals.now }
         ensures lists { IfOk result (λ _. length self.new.lists.items ≡ length self.old.lists.items) }
@@ -372,7 +372,8 @@ fn settle_unit(clauses: &Clauses<'_>, trail: &mut Trail, number: usize) -> Mem<O
     settle(clauses, trail, Closed { number, other })
 }
 
-/// Makes true what a clause implies all of whose literals but one are false; gives its number where this one is false too.
+/// Makes true what a clause implies all of whose literals but one are false; gives its number where this one is false too. The clauses are lent for
+/// the contracts alone.
 fn settle(clauses: &Clauses<'_>, trail: &mut Trail, closed: Closed) -> Mem<Option<usize>>
     requires sound { IsSound (known clauses.now) trail.old.entries.items trail.old.slots.items }
     requires alone { IsAloneAt trail.old.slots.items (known clauses.now) closed.number closed.other }
