@@ -2,13 +2,13 @@
 use Rattle.std.proofs.Common.{◌≡◌, ℕ, zero, suc, ◌+◌, ◌-◌, ◌*◌, ◌^◌, ◌<◌, ◌≤◌, min, max, Bool, true, false, ◌&&◌, List, length, map, drop, get_or, refl, ap, sym, ◌∙◌, arith}
 use Rattle.std.specs.Prelude.{nat_lt, nat_le, if◌then◌else◌}
 use Rattle.std.proofs.lemmas.Bool.{lt-ltb, ltb-true, ltb-false, le-leb, leb-true}
+use Rattle.plain_types.specs.Capped.{capped}
 use Rattle.tptp_tree.specs.Formula.{FormulaTree, FormulaTrees, no_formulas, formula_then, formulas_of}
 use Rattle.tptp_tree.specs.Shape.{formula_of}
 use Rattle.tptp_tree.specs.declared.formula.Formula.{Formula}
 use Rattle.signature.proofs.OccurrenceLemmas.{drop-item, drop-end}
 use Rattle.signature.specs.Clausal.{is_large_count}
 use Rattle.formula_nnf.specs.ClauseCount.{ClauseCount, sum_count, product_count, joined_count, constant_count, clause_counts, listed_counts, product_counts, several_counts}
-use Rattle.plain_types.specs.Capped.{capped}
 use Rattle.formula_nnf.specs.CappedCount.{capped_count, total_count}
 
 same : (a b : ClauseCount) → a.clauses ≡ b.clauses → a.defining ≡ b.defining → a ≡ b

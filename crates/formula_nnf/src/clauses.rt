@@ -1,11 +1,11 @@
 // How many clauses the work on a formula gives, counted without making them.
 
 ghost use Rattle.std.specs.Prelude.{◌≡◌, map};
+ghost use Rattle.plain_types.specs.Capped.{capped};
 ghost use Rattle.tptp_tree.specs.Formula.{formulas_of, connected, equivalent};
 ghost use Rattle.tptp_tree.specs.Shape.{formula_of};
 ghost use Rattle.formula_nnf.specs.ClauseCount.{clause_counts, several_counts, plain_count, constant_count, sum_count, product_count, joined_count};
 ghost use Rattle.signature.specs.Clausal.{is_large_count};
-ghost use Rattle.plain_types.specs.Capped.{capped};
 ghost use Rattle.formula_nnf.specs.CappedCount.{count_of, capped_count, total_count};
 
 use tptp_tree::Formula;

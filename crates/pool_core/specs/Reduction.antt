@@ -11,8 +11,8 @@ use Rattle.kernel_steps.specs.Named.{OfOne}
 use Rattle.kernel_steps.specs.Lines.{AreLines, clause_parents, clauses_named}
 use Rattle.kernel_steps.specs.declared.step.TheConstants.{CLAUSE_NUMBERS}
 use Rattle.kernel_steps.specs.declared.step.Line.{Line}
-use Rattle.pool_core.specs.Components.{parts_of, is_to_split}
 use Rattle.kernel_steps.specs.Derivation.{under_names}
+use Rattle.pool_core.specs.Components.{parts_of, is_to_split}
 use Rattle.pool_core.specs.declared.batch.Redundancy.{Redundancy}
 use Rattle.pool_core.specs.declared.batch.Redundancy.TheVariants.{Tautology, Subsumed}
 

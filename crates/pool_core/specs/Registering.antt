@@ -7,13 +7,13 @@ use Rattle.kernel_steps.specs.Derivation.{negative_of, positive_of, under_names}
 use Rattle.kernel_steps.specs.declared.step.Step.{Step}
 use Rattle.kernel_steps.specs.declared.step.Step.TheVariants.{Clausify, Component, Opposite, Split}
 use Rattle.kernel_steps.specs.declared.step.Line.{Line}
+use Rattle.kernel_steps.specs.FromTrees.{line_of}
 use Rattle.split_parts.specs.Tags.{has_part, with_part, tag_of}
 use Rattle.pool_core.specs.Components.{components_of, parts_of, is_to_split}
 use Rattle.split_parts.specs.SignedNames.{affirmed, named, signed_name}
 use Rattle.pool_core.specs.Tags.{line_names}
 use Rattle.pool_core.specs.Record.{PoolRecord, has_living}
 use Rattle.pool_core.specs.Lines.{with_lines, last_number, definition_of}
-use Rattle.kernel_steps.specs.FromTrees.{line_of}
 use Rattle.pool_core.specs.declared.outcome.Outcome.TheVariants.{Refuted}
 
 -- ---- registered clauses

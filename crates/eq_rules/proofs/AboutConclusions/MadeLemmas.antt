@@ -1,6 +1,7 @@
 -- From the calls to the lemmas: sizes that stop at a greatest number, the one member, and what a step has made.
 use Rattle.std.proofs.Common.{◌≡◌, ℕ, ◌-◌, ◌^◌, ◌<◌, ◌≤◌, Bool, ◌==◌, Option, None, Some, List, refl, sym, subst, ⊎_elim, arith}
 use Rattle.std.proofs.lemmas.Bool.{cond-true, cond-false, eq-eqb, eqb-true, cases_Bool}
+use Rattle.plain_types.specs.Capped.{capped}
 use Rattle.fol_base.specs.Tree.{Tree}
 use Rattle.fol_base.specs.Clause.{TreeClause}
 use Rattle.fol_base.specs.Literal.{clause_of}
@@ -12,7 +13,6 @@ use Rattle.kernel_steps.specs.declared.step.Step.{Step}
 use Rattle.kernel_steps.specs.declared.step.Step.TheVariants as step
 use Rattle.bank_clause.specs.Clause.{clause_at}
 use Rattle.bank_clause.specs.declared.member.Member.{Member}
-use Rattle.plain_types.specs.Capped.{capped}
 use Rattle.eq_rules.specs.Inferences.{IsConcluded, IsMade, alone}
 use Rattle.eq_rules.specs.Concluding.{GivesNumbered}
 use Rattle.eq_rules.specs.Steps.{IsResolutionStep, IsFactoringStep}

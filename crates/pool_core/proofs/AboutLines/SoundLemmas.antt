@@ -16,11 +16,11 @@ use Rattle.kernel_steps.specs.Split.{has_number}
 use Rattle.kernel_steps.specs.declared.key.Key.{Key}
 use Rattle.kernel_steps.specs.declared.key.Key.TheVariants.{Replaced}
 use Rattle.kernel_steps.specs.declared.step.Line.{Line}
+use Rattle.kernel_steps.specs.Derivation.{under_names}
 use Rattle.calculus.specs.Lifting.{among}
 use Rattle.pool_core.specs.Record.{PoolRecord, Registered, GivenJob, clauses_of, given_job, has_living, without_job}
 use Rattle.pool_core.specs.Tags.{line_names}
 use Rattle.pool_core.specs.Lines.{with_lines, pool_line, result_of}
-use Rattle.kernel_steps.specs.Derivation.{under_names}
 use Rattle.pool_core.specs.Registering.{registered_last, has_none, with_refutation, with_propositional, empty_comes, comes}
 use Rattle.pool_core.specs.Counting.{lines_of_fate, lines_of_entries, keys_of, comes_by, result_comes, refutes, spends, counts}
 use Rattle.pool_core.specs.Returning.{dies, replaced, removed, takes_effect, proposed, becomes_active, sets_aside, worked, returns_to}

@@ -5,13 +5,13 @@ use Rattle.plain_types.specs.declared.sequence.NameLit.{NameLit}
 use Rattle.fol_base.specs.Clause.{TreeLiteral, TreeClause}
 use Rattle.kernel_steps.specs.declared.step.Step.TheVariants.{Clausify}
 use Rattle.kernel_steps.specs.declared.step.Line.{Line}
+use Rattle.kernel_steps.specs.Derivation.{negative_of, under_names}
+use Rattle.kernel_steps.specs.FromTrees.{line_of}
 use Rattle.split_parts.specs.Tags.{has_part, tag_of}
 use Rattle.split_parts.specs.SignedNames.{signed_name}
-use Rattle.kernel_steps.specs.Derivation.{negative_of, under_names}
 use Rattle.pool_core.specs.Components.{parts_of, is_to_split}
 use Rattle.pool_core.specs.Record.{PoolRecord, Registered, has_living}
 use Rattle.pool_core.specs.Lines.{with_lines, last_number, definition_of, result_of, pool_line}
-use Rattle.kernel_steps.specs.FromTrees.{line_of}
 use Rattle.pool_core.specs.Registering.{registered_by, registered_unless_living, with_propositional, with_tag, with_part_clause, with_split, split_named, split_up, has_none, with_refutation, empty_comes, comes, unless_ended, with_inputs}
 use Rattle.pool_core.specs.Counting.{comes_by, result_comes}
 use Rattle.pool_core.specs.declared.outcome.Outcome.TheVariants.{Refuted}

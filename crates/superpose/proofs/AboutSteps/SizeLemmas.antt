@@ -4,6 +4,7 @@ use Rattle.std.specs.Prelude.{sum_by, slice_get}
 use Rattle.std.specs.Option.{is_some}
 use Rattle.std.proofs.lemmas.Bool.{true≢false, and_parts, cases_lt, le-ltb, ltb-true, ltb-false}
 use Rattle.std.proofs.Math.Nat.{mul-add, le-mul_of_pos_right}
+use Rattle.plain_types.specs.Capped.{capped}
 use Rattle.fol_base.specs.Tree.{Tree, tree_size}
 use Rattle.fol_base.specs.Instance.{Substitution, instance, substitution}
 use Rattle.fol_base.specs.Clause.{TreeLiteral, TreeClause, literal_size, clause_size, clause_instance, clause_variables}
@@ -22,7 +23,6 @@ use Rattle.bank_clause.specs.Clause.{clause_at}
 use Rattle.bank_clause.specs.declared.member.Member.{Member}
 use Rattle.unifier.specs.Bindings.{IsUnified}
 use Rattle.unifier.specs.Renaming.{AreNamedTerms}
-use Rattle.plain_types.specs.Capped.{capped}
 use Rattle.unifier.specs.SolvedForm.{SolvedForm, substitution_of}
 use Rattle.unifier.proofs.AboutClasses.SharedLemmas.{own_terms_are_named}
 use Rattle.eq_rules.specs.Inferences.{IsConcluded, IsMade}

@@ -1,6 +1,7 @@
 use Rattle.std.proofs.Common.{◌≡◌, ◌≤◌, ◌-◌, ◌^◌, min, false, None, List, [], length, inl, inr, arith, ap, sym, ◌∙◌}
 use Rattle.std.specs.Prelude.{sum_by}
 use Rattle.std.proofs.lemmas.Option.{slice_get_within}
+use Rattle.plain_types.specs.Capped.{capped}
 use Rattle.fol_base.specs.Tree.{tree_size}
 use Rattle.fol_base.specs.Instance.{instance, substitution}
 use Rattle.fol_base.specs.Clause.{TreeLiteral, clause_size, clause_instance, clause_variables, literal_size, literal_instance}
@@ -15,7 +16,6 @@ use Rattle.kernel_steps.specs.Inference.{other_side_not_above}
 use Rattle.term_bank.specs.Literal.{literals_at}
 use Rattle.bank_clause.specs.Clause.{clause_at}
 use Rattle.unifier.specs.Renaming.{AreNamedTerms}
-use Rattle.plain_types.specs.Capped.{capped}
 use Rattle.unifier.proofs.AboutLayouts.BoundLemmas.{fits-above}
 use Rattle.eq_rules.specs.Inferences.{alone}
 use Rattle.eq_rules.proofs.AboutFactoring.FactorAnswers.{lent_there, part_size, sides_size, total_size, told_size}

@@ -1,6 +1,7 @@
 use Rattle.std.proofs.Common.{◌≡◌, ◌≤◌, false, List, [], length, arith, ap, sym, ◌∙◌}
 use Rattle.std.specs.Prelude.{sum_by}
 use Rattle.std.proofs.lemmas.Option.{slice_get_within}
+use Rattle.plain_types.specs.Capped.{capped}
 use Rattle.fol_base.specs.Clause.{TreeLiteral, clause_size, clause_instance, clause_variables, literal_size}
 use Rattle.fol_base.specs.Instance.{substitution}
 use Rattle.fol_base.specs.Ground.{literals_instance}
@@ -11,7 +12,6 @@ use Rattle.fol_base.specs.declared.limits.TheConstants.{MOST_SYMBOLS, SIZE_LIMIT
 use Rattle.term_bank.specs.Literal.{literals_at}
 use Rattle.bank_clause.specs.Clause.{clause_at}
 use Rattle.unifier.specs.Renaming.{AreNamedTerms}
-use Rattle.plain_types.specs.Capped.{capped}
 use Rattle.unifier.proofs.AboutLayouts.BoundLemmas.{fits-above}
 use Rattle.eq_rules.specs.Inferences.{alone}
 use Rattle.eq_rules.proofs.AboutConclusions.MadeLemmas.{size_above, size_within, alone_there, made_by_resolution}

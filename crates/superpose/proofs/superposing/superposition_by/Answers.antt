@@ -1,6 +1,7 @@
 use Rattle.std.proofs.Common.{◌≡◌, ◌≤◌, ◌+◌, List, length, arith, ap, ap₂, sym, ◌∙◌}
 use Rattle.std.specs.Prelude.{sum_by, slice_get}
 use Rattle.std.proofs.lemmas.Option.{slice_get_within, same_Some}
+use Rattle.plain_types.specs.Capped.{capped}
 use Rattle.fol_base.specs.Tree.{Tree, tree_size}
 use Rattle.fol_base.specs.Instance.{instance}
 use Rattle.fol_base.specs.Clause.{TreeLiteral, literal_size, clause_variables}
@@ -13,7 +14,6 @@ use Rattle.fol_base.specs.declared.limits.TheConstants.{MOST_SYMBOLS}
 use Rattle.term_bank.specs.Literal.{literals_at}
 use Rattle.bank_clause.specs.Clause.{clause_at}
 use Rattle.unifier.specs.Renaming.{AreNamedTerms}
-use Rattle.plain_types.specs.Capped.{capped}
 use Rattle.unifier.specs.SolvedForm.{substitution_of}
 use Rattle.unifier.proofs.AboutClasses.SharedLemmas.{own_terms_are_named}
 use Rattle.superpose.specs.Superposing.{is_heavy, size_under}
