@@ -8,7 +8,7 @@ ghost use Rattle.split_parts.specs.PartHash.{part_hash};
 ghost use Rattle.split_parts.specs.PartKeys.{key_part, lent_part, opposite_part, same_part, same_parts, literals_equiv, parts_hash_alike};
 
 use crate::hash::{complement_hash, part_hash};
-use fol_base::{Literal, Literals, same_literals};
+use fol_base::{Literal, Literals, same_literal, same_literals};
 use indexmap::Equivalent;
 use kernel_steps::is_complement;
 use std::hash::{Hash, Hasher};
@@ -97,7 +97,7 @@ impl<'a> PartialEq for OppositeRef<'a> {
     ghost laws = { partial_equiv_from_equiv (on_equiv opposite_part literals_equiv) };
 
     fn eq(&self, other: &OppositeRef<'a>) -> bool {
-        self.literal.positive == other.literal.positive && same_sides(self.literal, other.literal)
+        same_literal(self.literal.lend(), other.literal.lend())
     }
 }
 
