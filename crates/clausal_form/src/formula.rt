@@ -29,9 +29,10 @@ use skolem::{Matrix, MatrixEnd, Skolemized, largest_clause, skolemize};
 use std::alloc::Global;
 use tptp_tree::Annotated;
 
-/// The matrix of a formula under its closing names, and its Skolem symbols by their numbers of arguments; or why there can be no form, where a
-/// literal in its clauses has over `MOST_SYMBOLS` symbols, or all together have over `MOST_FORM_SYMBOLS`. Where they have them as they are
-/// written, no literal is kept; nor where literals that stand in no clause make a name's clauses too heavy, and are too heavy themselves or too many.
+/// The matrix of a formula under its closing names, and its Skolem symbols by their numbers of arguments; or why there can be no form, where that is
+/// told without its clauses: a literal in these has over `MOST_SYMBOLS` symbols, or all together have over `MOST_FORM_SYMBOLS` and would take much
+/// memory. Where they have so many as they are written, no literal is kept; nor where literals that stand in no clause make a name's clauses too
+/// heavy, and are too heavy themselves or too many.
 pub(crate) fn formula_matrix<'a>(
     alloc: Global,
     annotated: &'a Annotated,
