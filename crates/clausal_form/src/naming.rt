@@ -14,6 +14,7 @@ use crate::measure::Measure;
 use fol_base::MOST_SYMBOLS;
 use formula_nnf::is_large;
 use plain_types::{Mem, NoMemory};
+use signature::arity_of;
 use skolem::{Matrices, Matrix, MatrixLiteral};
 use std::alloc::Global;
 use std::rc::Rc;
@@ -330,7 +331,7 @@ fn named<'a>(alloc: Global, made: u32, part: Part<'a>, naming: &mut Naming<'a>) 
 {
     let arguments = name_arguments(alloc, made, &part.matrix)?;
     let symbol = next_symbol(naming)?;
-    let arity = u32::try_from(arguments.len()).map_err(|_| NoMemory)?;
+    let arity = arity_of(arguments.len())?;
     let arguments = Rc::new(alloc, arguments)?;
     let negated = MatrixLiteral::of_name(false, symbol, arguments.clone()?);
     define(naming, arity, negated, part)?;

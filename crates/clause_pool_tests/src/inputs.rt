@@ -9,7 +9,7 @@ use fol_base::{Clause, Clauses, Literal, Literals, Term};
 use literal_selection::Selection;
 use plain_types::Names;
 use pool_core::{Options, Pool};
-use sample_terms::{atom, constant, unary};
+use sample_terms::{atom, constant, unary, unit};
 use std::alloc::Global;
 use std::process::Abort;
 use std::sync::Wait;
@@ -20,20 +20,6 @@ pub(crate) const OPTIONS: Options = Options {
     split: false,
     inferences: 10,
 };
-
-/// The clause of one atom.
-fn unit(rt: &impl Abort, alloc: Global, predicate_term: Term) -> Clause
-    ensures { clause_of result ≡ clause_with (literal_with true (tree_of predicate_term) ∷ []) }
-{
-    let mut literals = Literals::new(alloc);
-    literals
-        .push(atom(alloc, predicate_term))
-        .expect(rt, "memory");
-    Clause {
-        literals,
-        names: Names::new(alloc),
-    }
-}
 
 /// The clause of the negation of an atom, and of another atom.
 fn implication(rt: &impl Abort, alloc: Global, condition: Term, conclusion: Term) -> Clause
@@ -71,9 +57,9 @@ fn three_inputs(rt: &impl Abort, alloc: Global) -> Clauses
     let p_of_a = unary(alloc, 16, constant(alloc, 1)).expect(rt, "memory");
     let p_of_x = unary(alloc, 16, Term::Var(0)).expect(rt, "memory");
     let q_of_x = unary(alloc, 17, Term::Var(0)).expect(rt, "memory");
-    let first = unit(rt, alloc, p_of_a);
+    let first = unit(alloc, atom(alloc, p_of_a)).expect(rt, "memory");
     let second = implication(rt, alloc, p_of_x, q_of_x);
-    let third = unit(rt, alloc, constant(alloc, 18));
+    let third = unit(alloc, atom(alloc, constant(alloc, 18))).expect(rt, "memory");
     listed(rt, alloc, first, second, third)
 }
 

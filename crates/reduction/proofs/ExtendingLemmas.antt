@@ -1,13 +1,13 @@
 -- A reduced clause that goes on by a move is a reduced clause.
-use Rattle.std.proofs.Common.{◌≡◌, ℕ, suc, ◌+◌, ◌==◌, Bool, true, ◌||◌, List, [], ◌∷◌, ◌++◌, append-nil, Option, Some, None, refl, ap, sym, ◌∙◌, subst, ⊎_elim}
-use Rattle.std.specs.Prelude.{filter, flat_map, All, Contains, is_some, option_map, nat_lt, if◌then◌else◌}
-use Rattle.std.proofs.lemmas.Bool.{cond-true, cond-false, cases_Bool, or_left}
+use Rattle.std.proofs.Common.{◌≡◌, ℕ, ◌+◌, Bool, true, List, [], ◌∷◌, ◌++◌, append-nil, Option, Some, None, refl, ap, sym, ◌∙◌, subst, ⊎_elim}
+use Rattle.std.specs.Prelude.{filter, flat_map, All, Contains, nat_lt, if◌then◌else◌}
+use Rattle.std.proofs.lemmas.Bool.{cond-true, cond-false, cases_Bool}
 use Rattle.std.proofs.lemmas.Grind.{flat_map-append}
 use Rattle.std.proofs.lemmas.List.Elements.{All-append, All-nil, All-cons, All-weaker, All-contains, filter-append, filter_map-append, Contains-append_left, Contains-push}
 use Rattle.std.proofs.lemmas.List.Sums.{fold-append}
 use Rattle.fol_base.specs.Clause.{TreeClause}
 use Rattle.fol_base.specs.Literal.{clause_of}
-use Rattle.fol_base.specs.Canonical.{distinct, place_of}
+use Rattle.fol_base.specs.Canonical.{distinct}
 use Rattle.fol_base.specs.Kind.{is_function_term}
 use Rattle.fol_base.specs.Numbering.{with_variable}
 use Rattle.fol_base.proofs.AboutCanonical.NumberingLemmas.{all_met}
@@ -21,6 +21,7 @@ use Rattle.kernel_steps.specs.Symbols.{symbols_pass, clause_symbols_pass, bound_
 use Rattle.kernel_steps.specs.declared.step.TheConstants.{CLAUSE_NUMBERS}
 use Rattle.kernel_steps.specs.declared.step.Line.{Line}
 use Rattle.kernel_steps.specs.declared.step.Reduced.{Reduced}
+use Rattle.kernel_steps.proofs.AboutSplits.SplitTables.{placed-listed}
 use Rattle.reduction.specs.Reduced.{IsReduced, BindsSymbolsOf, last_clause, with_number}
 use Rattle.reduction.specs.Extending.{AreLinesOfMove, IsExtended, MovesExtend, StepsGoOn, last_number, noted, unit_numbers}
 use Rattle.reduction.proofs.LineLemmas.{steps-joined}
@@ -28,28 +29,9 @@ use Rattle.reduction.proofs.SymbolLemmas.{last-passes, Contains-has}
 
 -- ---- numbers that are noted
 
-met-has : (n : ℕ) (ns : List ℕ) → is_some (place_of n ns) ≡ has_number n ns
-met-has n [] = refl
-met-has n (k ∷ ns) =
-    ⊎_elim
-    (λ here. ap (λ o. is_some o) (cond-true (n == k) (Some 0) (later n ns) here) ∙ sym (or_left (n == k) (has_number n ns) here))
-    (λ other.
-    ap (λ o. is_some o) (cond-false (n == k) (Some 0) (later n ns) other)
-    ∙ some-suc (place_of n ns)
-    ∙ met-has n ns
-    ∙ ap (λ b. b || has_number n ns) (sym other))
-    (cases_Bool (n == k))
-  where
-    later : ℕ → List ℕ → Option ℕ
-    later n ns = option_map suc (place_of n ns)
-
-    some-suc : (o : Option ℕ) → is_some (option_map suc o) ≡ is_some o
-    some-suc None = refl
-    some-suc (Some k) = refl
-
 noted-more : (n : ℕ) (ns : List ℕ) → with_number n (distinct ns) ≡ distinct (ns ++ n ∷ [])
 noted-more n ns =
-    ap (λ b. if b then distinct ns else distinct ns ++ n ∷ []) (sym (met-has n (distinct ns)))
+    ap (λ b. if b then distinct ns else distinct ns ++ n ∷ []) (sym (placed-listed n (distinct ns)))
     ∙ ap (λ order. with_variable order n) (sym (all_met ns))
     ∙ sym (fold-append with_variable [] ns (n ∷ []))
     ∙ all_met (ns ++ n ∷ [])

@@ -1,7 +1,6 @@
 // The index of the units' sides.
 
-ghost use Rattle.std.specs.Prelude.{◌≡◌, ◌<◌, ℕ, ◌==◌, IfOk, IsTrue};
-ghost use Rattle.std.specs.List.{list_any, list_all};
+ghost use Rattle.std.specs.Prelude.{◌≡◌, ◌<◌, IfOk, IsTrue};
 ghost use Rattle.fol_base.specs.Clause.{literal_size};
 ghost use Rattle.fol_base.specs.Sides.{side_of};
 ghost use Rattle.fol_base.specs.declared.limits.TheConstants.{SIZE_LIMIT};
@@ -13,7 +12,7 @@ ghost use Rattle.bank_clause.specs.Clause.{side_number};
 ghost use Rattle.rewriting.specs.Index.{KeepsOthers};
 
 use disc_tree::DiscTree;
-use fol_base::{LiteralRef, Side, push_variables};
+use fol_base::{LiteralRef, Side, are_among, push_variables};
 use kbo_order::is_greater;
 use plain_types::Mem;
 use std::alloc::Global;
@@ -70,24 +69,9 @@ pub(crate) fn orient(alloc: Global, equation: LiteralRef<'_>) -> Mem<Orientation
     let mut right = Vec::new(alloc);
     push_variables(equation.right, &mut right)?;
     Ok(Orientation {
-        left: are_listed(&right, &left) && !is_greater(equation.right, equation.left),
-        right: are_listed(&left, &right) && !is_greater(equation.left, equation.right),
+        left: are_among(&right, &left) && !is_greater(equation.right, equation.left),
+        right: are_among(&left, &right) && !is_greater(equation.left, equation.right),
     })
-}
-
-/// Whether each variable of a list is in another one.
-fn are_listed(variables: &[u32], within: &[u32]) -> bool
-    ensures { result ≡ list_all (λ v. list_any (λ w. v == w) within.now) variables.now }
-{
-    variables
-        .iter()
-        .all(|variable| is_listed(*variable, within))
-}
-
-fn is_listed(variable: u32, within: &[u32]) -> bool
-    ensures { result ≡ list_any (λ w. variable == w) within.now }
-{
-    within.iter().any(|other| variable == *other)
 }
 
 /// Adds the sides by which an equation may rewrite. After want of memory the sides of other equations are as before.

@@ -8,7 +8,7 @@ ghost use Rattle.skolem.specs.Skolemized.{IsKnown};
 
 use fol_base::{Term, Terms};
 use plain_types::{Mem, NoMemory};
-use signature::{Signature, SymbolKind, SymbolRef};
+use signature::{Signature, SymbolKind, SymbolRef, arity_of};
 use std::alloc::Global;
 
 /// The number of the symbol of that kind, name and number of arguments.
@@ -21,7 +21,7 @@ pub(crate) fn number_in(
     requires known { IsKnown signature.now (record { kind = kind; name = name.now; arity = arguments }) }
     ensures { IfOk result (λ number. number ≡ number_of signature.now (record { kind = kind; name = name.now; arity = arguments })) }
 {
-    let arity = u32::try_from(arguments).map_err(|_| NoMemory)?;
+    let arity = arity_of(arguments)?;
     signature
         .find(SymbolRef { kind, name, arity })
         .ok_or(NoMemory)

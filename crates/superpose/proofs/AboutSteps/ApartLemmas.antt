@@ -1,10 +1,10 @@
 -- Terms for the first variables of two sides, most general among all that unify two trees of different variables, with their variables
 -- numbered anew, make a most general unifier: beyond them each variable of a side becomes one that is new.
-use Rattle.std.proofs.Common.{◌≡◌, ℕ, suc, ◌+◌, ◌*◌, ◌-◌, ◌/◌, ◌%◌, ◌<◌, ◌≤◌, true, false, ◌==◌, nat_lt, get_or, if◌then◌else◌, Option, None, Some, List, [], ◌∷◌, length, refl, ap, sym, ◌∙◌, inl, inr, ⊎_elim, arith}
+use Rattle.std.proofs.Common.{◌≡◌, ℕ, suc, ◌+◌, ◌*◌, ◌-◌, ◌<◌, ◌≤◌, true, false, ◌==◌, nat_lt, get_or, if◌then◌else◌, Option, None, Some, List, [], ◌∷◌, length, refl, ap, sym, ◌∙◌, inl, inr, ⊎_elim, arith}
 use Rattle.std.specs.Prelude.{unwrap_or}
 use Rattle.std.specs.List.{AllByRecursion}
 use Rattle.std.specs.Option.{is_some, option_map}
-use Rattle.std.proofs.lemmas.Bool.{true≢false, cases_Bool, cond-true, cond-false, eq-eqb, eqb-true, false_from_ne_true, lt-ltb, ltb-true, cases_lt}
+use Rattle.std.proofs.lemmas.Bool.{true≢false, cases_Bool, cond-true, cond-false, eqb-true, false_from_ne_true, lt-ltb, ltb-true, cases_lt}
 use Rattle.fol_base.specs.Tree.{Tree, variable, tree_variables, trees_variables, trees_of, VariablesBelow}
 use Rattle.fol_base.specs.Instance.{Substitution, instance, substitution}
 use Rattle.fol_base.specs.InstanceLaws.{after}
@@ -13,6 +13,7 @@ use Rattle.fol_base.specs.Ground.{literals_instance}
 use Rattle.fol_base.specs.Canonical.{place_of, renaming}
 use Rattle.fol_base.specs.Unifier.{IsUnifierApart, IsMostGeneralUnifierApart}
 use Rattle.fol_base.proofs.AboutInstances.InstanceLemmas.{Agree, instance-agree, instances_of_instances, instances_agree_below, literals_instance-again}
+use Rattle.unifier.proofs.AboutEquations.UnifyLemmas.{joint_of, joint_of-left, joint_of-right}
 use Rattle.eq_rules.proofs.AboutConclusions.PremiseLemmas.{has-literals}
 use Rattle.eq_rules.proofs.AboutConclusions.WideLemmas.{Has, Has-item, numbered, literals_back, literals-below}
 
@@ -138,23 +139,6 @@ left_fresh v = 2 * v
 abbrev pub right_fresh : ℕ → ℕ
 right_fresh v = 2 * v + 1
 
-abbrev interleaved : Substitution → Substitution → Substitution
-interleaved ρ π k = if k % 2 == 0 then ρ (k / 2) else π (k / 2)
-
-interleaved-left : (ρ π : Substitution) (v : ℕ) → interleaved ρ π (left_fresh v) ≡ ρ v
-interleaved-left ρ π v =
-    let even : (2 * v) % 2 ≡ 0 = omega arith in
-    let half : (2 * v) / 2 ≡ v = omega arith in
-    cond-true ((2 * v) % 2 == 0) (ρ ((2 * v) / 2)) (π ((2 * v) / 2)) (eq-eqb ((2 * v) % 2) 0 even) ∙ ap ρ half
-
-interleaved-right : (ρ π : Substitution) (v : ℕ) → interleaved ρ π (right_fresh v) ≡ π v
-interleaved-right ρ π v =
-    let odd : (2 * v + 1) % 2 ≡ 1 = omega arith in
-    let half : (2 * v + 1) / 2 ≡ v = omega arith in
-    cond-false ((2 * v + 1) % 2 == 0) (ρ ((2 * v + 1) / 2)) (π ((2 * v + 1) / 2))
-    (false_from_ne_true ((2 * v + 1) % 2 == 0) (λ e. absurd (omega (arith, eqb-true ((2 * v + 1) % 2) 0 e, odd))))
-    ∙ ap π half
-
 pub wide_apart :
     (order : List ℕ) (left right : List Tree) (s t : Tree)
     → VariablesBelow (length left) s → VariablesBelow (length right) t
@@ -167,8 +151,8 @@ wide_apart order left right s t s_below t_below has_left has_right general = rec
       ∙ sym (wide_by-instance right_fresh order right t t_below);
   is_general = λ ρ π e.
       let by = general.is_general ρ π e in (
-        onward order by.0 (interleaved ρ π),
-        wide_by-general left_fresh order left by.0 (interleaved ρ π) ρ has_left by.1 (interleaved-left ρ π),
-        wide_by-general right_fresh order right by.0 (interleaved ρ π) π has_right by.2 (interleaved-right ρ π),
+        onward order by.0 (joint_of ρ π),
+        wide_by-general left_fresh order left by.0 (joint_of ρ π) ρ has_left by.1 (joint_of-left ρ π),
+        wide_by-general right_fresh order right by.0 (joint_of ρ π) π has_right by.2 (joint_of-right ρ π),
       );
 }
