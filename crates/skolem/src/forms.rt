@@ -28,8 +28,8 @@ use std::alloc::Global;
 use std::rc::Rc;
 use tptp_tree::{TreeTerm, TreeTerms};
 
-/// How many arguments of Skolem terms are listed before too many symbols together end the work: numbers of 256 MiB, no more than forms within the
-/// limits list.
+/// How many arguments of Skolem terms are listed before too many symbols together end the work: numbers of 256 MiB. Forms within the limits may list
+/// as many.
 const MOST_LISTED_ARGUMENTS: u64 = 1 << 26;
 
 /// The matrix of a normal form, and the numbers of arguments of its Skolem symbols.

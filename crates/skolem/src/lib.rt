@@ -16,6 +16,7 @@ mod outline;
 mod progress;
 mod symbols;
 mod terms;
+mod variable_list;
 
 pub use forms::{MatrixEnd, Skolemized, skolemize};
 pub use literal::MatrixLiteral;
@@ -24,3 +25,4 @@ pub use name::{VariableName, VariableRef};
 pub use outline::largest_clause;
 pub use progress::made_in_order;
 pub use symbols::{add_skolem_symbols, number_after};
+pub use variable_list::VariableList;

@@ -18,6 +18,7 @@ use crate::clauses::are_in_clauses;
 use crate::forms::{atom, bind_skolem_terms, bind_variables, equation};
 use crate::literal::MatrixLiteral;
 use crate::progress::{Progress, made_in_order};
+use crate::variable_list::{FIRST_ROOM, VariableList};
 use fol_base::MOST_SYMBOLS;
 use formula_nnf::{Nnf, is_large};
 use plain_types::{Mem, NoMemory};
@@ -29,12 +30,6 @@ const OVER_LIMIT: u64 = MOST_SYMBOLS + 1;
 
 /// The symbols of a name's literal beside its arguments: the name and `$true`.
 const NAME_SYMBOLS: u64 = 2;
-
-/// The last number that no variable has, so that all are below it.
-const OVER_ALL_VARIABLES: u32 = u32::MAX;
-
-/// How long a list of variables gets before its repetitions are dropped for the first time.
-const FIRST_ROOM: usize = 4096;
 
 /// What is known of clauses: how many they are, the symbols of the largest, those of the largest that defines a name, and the variables in them.
 #[derive(Drop)]
@@ -248,7 +243,7 @@ fn sum(alloc: Global, first: Outline, second: Outline) -> Mem<Outline>
     let clauses = first.clauses.checked_add(second.clauses).ok_or(NoMemory)?;
     let largest = first.largest.max(second.largest);
     let defining = first.defining.max(second.defining);
-    let Together { variables, room } = gathered(alloc, largest.max(defining), first, second)?;
+    let VariableList { variables, room } = gathered(alloc, largest.max(defining), first, second)?;
     Ok(Outline {
         clauses,
         largest,
@@ -291,7 +286,7 @@ fn pairs(alloc: Global, first: Outline, second: Outline) -> Mem<Outline>
         });
     }
     let largest = first.largest.saturating_add(second.largest).min(OVER_LIMIT);
-    let Together { variables, room } = gathered(alloc, largest.max(defining), first, second)?;
+    let VariableList { variables, room } = gathered(alloc, largest.max(defining), first, second)?;
     Ok(Outline {
         clauses,
         largest,
@@ -318,33 +313,20 @@ fn named(alloc: Global, began: u32, part: Outline) -> Mem<Outline>
     })
 }
 
-/// Variables, and how long their list gets before its repetitions are dropped.
-#[derive(Drop)]
-struct Together {
-    variables: Vec<u32>,
-    room: usize,
-}
-
-/// The variables of both, where the largest clause has that size. Over the limit nothing asks for them, and none are gathered. Repetitions are
-/// dropped where the list is longer than its room, and it gets room for twice what is left: so a list is at most about twice as long as there
-/// are variables in it, and each is sorted a few times.
-fn gathered(alloc: Global, size: u64, first: Outline, second: Outline) -> Mem<Together>
+/// The variables of both, where the largest clause has that size. Over the limit nothing asks for them, and none are gathered.
+fn gathered(alloc: Global, size: u64, first: Outline, second: Outline) -> Mem<VariableList>
     ensures { IfOk result (λ both. size ≤ MOST_SYMBOLS
         → AreSame both.variables.items (first.variables.items ++ second.variables.items)) }
 {
     if size > MOST_SYMBOLS {
-        return Ok(Together {
-            variables: Vec::new(alloc),
-            room: FIRST_ROOM,
-        });
+        return Ok(VariableList::new(alloc));
     }
-    let room = first.room.max(second.room);
-    let mut variables = first.variables;
-    variables.extend_from_slice(second.variables.as_slice())?;
-    if variables.len() <= room {
-        return Ok(Together { variables, room });
-    }
-    let variables = made_in_order(alloc, OVER_ALL_VARIABLES, &mut variables)?;
-    let room = variables.len().saturating_mul(2).max(FIRST_ROOM);
-    Ok(Together { variables, room })
+    let mut both = VariableList {
+        variables: first.variables,
+        room: first.room.max(second.room),
+    };
+    both.variables
+        .extend_from_slice(second.variables.as_slice())?;
+    both.shorten(alloc)?;
+    Ok(both)
 }

@@ -30,7 +30,7 @@ use Rattle.skolem.proofs.AboutFormulas.HeavyLemmas.{or-either, form-has, all-for
 
 -- ---- variables
 
-same-append :
+pub same-append :
     (xs ys us vs zs : List ℕ) → AreSame xs us → AreSame ys vs → AreSame zs (xs ++ ys) → AreSame zs (us ++ vs)
 same-append xs ys us vs zs h k s v l =
     s v l ∙ list_any-append (λ w. v == w) xs ys ∙ ap (λ t. t || list_any (λ w. v == w) ys) (h v l)
@@ -52,7 +52,7 @@ agreeing xs ys b (suc k) h l =
     (h b (omega (arith, l)))
     ∙ ap (λ us. if list_any (λ w. b == w) ys then b ∷ us else us) (agreeing xs ys (suc b) k h (omega (arith, l)))
 
-same-order : (n : ℕ) (xs ys : List ℕ) → n ≤ 2 ^ 32 - 1 → AreSame xs ys → made_in_order n xs ≡ made_in_order n ys
+pub same-order : (n : ℕ) (xs ys : List ℕ) → n ≤ 2 ^ 32 - 1 → AreSame xs ys → made_in_order n xs ≡ made_in_order n ys
 same-order n xs ys l h = agreeing xs ys 0 n h (omega (arith, l))
 
 -- ---- lists and products
