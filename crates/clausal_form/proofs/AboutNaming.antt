@@ -2,6 +2,7 @@
 pub mod NameLemmas
 pub mod NamingLemmas
 pub mod OccurringLemmas
+pub mod GatheringLemmas
 pub mod PairLemmas
 pub mod GivenLemmas
 pub mod TakenLemmas

@@ -30,9 +30,9 @@ use std::alloc::Global;
 use tptp_tree::Annotated;
 
 /// The matrix of a formula under its closing names, and its Skolem symbols by their numbers of arguments; or why there can be no form, where that is
-/// told without its clauses: a literal in these has over `MOST_SYMBOLS` symbols, or all together have over `MOST_FORM_SYMBOLS` and would take much
-/// memory. Where they have so many as they are written, no literal is kept; nor where literals that stand in no clause make a name's clauses too
-/// heavy, and are too heavy themselves or too many.
+/// told without its clauses: a literal in these has over `MOST_SYMBOLS` symbols, or all together have over `MOST_FORM_SYMBOLS` and over 2^26 arguments of
+/// Skolem terms are listed. Where they have so many as they are written, no literal is kept; nor where literals that stand in no clause make a name's
+/// clauses too heavy, and are too heavy themselves or too many.
 pub(crate) fn formula_matrix<'a>(
     alloc: Global,
     annotated: &'a Annotated,

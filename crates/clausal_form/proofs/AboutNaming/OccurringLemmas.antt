@@ -175,9 +175,3 @@ same-order n xs ys h = filtered (numbers_from 0 n)
     filtered (v ∷ vs) =
         ap (λ t. if t then v ∷ filter (λ v. list_any (λ w. v == w) xs) vs else filter (λ v. list_any (λ w. v == w) xs) vs) (h (λ w. v == w))
         ∙ ap (λ us. if list_any (λ w. v == w) ys then v ∷ us else us) (filtered vs)
-
-pub arguments-made :
-    (n : ℕ) (m : MatrixTree) (old new lent found : List ℕ)
-    → old ≡ [] → new ≡ old ++ matrix_variables m → lent ≡ new → found ≡ made_in_order n lent → found ≡ made_in_order n (clauses_variables (written m))
-arguments-made n m old new lent found o h l k =
-    k ∙ ap (made_in_order n) (l ∙ h ∙ ap (λ xs. xs ++ matrix_variables m) o) ∙ sym (same-order n _ _ (same-variables m))
