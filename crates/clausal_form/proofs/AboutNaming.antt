@@ -2,7 +2,6 @@
 pub mod NameLemmas
 pub mod NamingLemmas
 pub mod OccurringLemmas
-pub mod GatheringLemmas
 pub mod PairLemmas
 pub mod GivenLemmas
 pub mod TakenLemmas

@@ -1,5 +1,5 @@
 -- The variables of a matrix's clauses.
-use Rattle.std.proofs.Common.{◌≡◌, ℕ, ◌==◌, Bool, true, false, ◌&&◌, ◌||◌, List, [], ◌∷◌, ◌++◌, map, refl, ap, sym, ◌∙◌, append-nil, append_assoc}
+use Rattle.std.proofs.Common.{◌≡◌, ℕ, ◌-◌, ◌^◌, ◌≤◌, ◌==◌, Bool, true, false, ◌&&◌, ◌||◌, List, [], ◌∷◌, ◌++◌, map, refl, ap, sym, ◌∙◌, append-nil, append_assoc}
 use Rattle.std.specs.Prelude.{flat_map, filter, if◌then◌else◌}
 use Rattle.std.specs.List.{list_any}
 use Rattle.fol_base.specs.Clause.{literal_variables}
@@ -7,6 +7,8 @@ use Rattle.fol_base.specs.Canonical.{numbers_from}
 use Rattle.signature.specs.Clausal.{Literals, all_pairs, made_in_order}
 use Rattle.skolem.specs.Matrix.{MatrixTree, truth, falsity, literal, conjunction, disjunction, MatrixTrees, no_matrices, matrix_then}
 use Rattle.skolem.specs.Heavy.{has_clauses, some_have_clauses, all_have_clauses}
+use Rattle.skolem.specs.Outline.{AreSame}
+use Rattle.skolem.proofs.AboutFormulas.OutlineLemmas.{same-order as order-of-same}
 use Rattle.clausal_form.specs.Written.{written, all_written, product_written}
 use Rattle.clausal_form.specs.Occurring.{clauses_variables, matrix_variables, matrices_variables}
 use Rattle.clausal_form.proofs.AboutNaming.PairLemmas.{product-written-first}
@@ -137,7 +139,7 @@ any-if p true xs = refl
 any-if p false xs = refl
 
 mutual
-  pub same-variables : (m : MatrixTree) → Same (clauses_variables (written m)) (matrix_variables m)
+  same-variables : (m : MatrixTree) → Same (clauses_variables (written m)) (matrix_variables m)
   same-variables truth p = refl
   same-variables falsity p = refl
   same-variables (literal l) p = ap (list_any p) (append-nil (literal_variables l ++ []) ∙ append-nil (literal_variables l))
@@ -175,3 +177,13 @@ same-order n xs ys h = filtered (numbers_from 0 n)
     filtered (v ∷ vs) =
         ap (λ t. if t then v ∷ filter (λ v. list_any (λ w. v == w) xs) vs else filter (λ v. list_any (λ w. v == w) xs) vs) (h (λ w. v == w))
         ∙ ap (λ us. if list_any (λ w. v == w) ys then v ∷ us else us) (filtered vs)
+
+-- from a list that has the same variables below the limit, such as one whose repetitions were dropped
+pub arguments-made :
+    (n : ℕ) (m : MatrixTree) (old new found : List ℕ)
+    → n ≤ 2 ^ 32 - 1 → old ≡ [] → AreSame new (old ++ matrix_variables m) → found ≡ made_in_order n new → found ≡ made_in_order n (clauses_variables (written m))
+arguments-made n m old new found l o h k =
+    k
+    ∙ order-of-same n new (old ++ matrix_variables m) l h
+    ∙ ap (λ xs. made_in_order n (xs ++ matrix_variables m)) o
+    ∙ sym (same-order n _ _ (same-variables m))

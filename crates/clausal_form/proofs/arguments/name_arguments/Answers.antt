@@ -1,7 +1,7 @@
 use Rattle.std.proofs.Common.{arith}
 use Rattle.skolem.specs.Shape.{matrix_tree}
 use Rattle.clausal_form.proofs.AboutForms.ResultLemmas.{ok-then}
-use Rattle.clausal_form.proofs.AboutNaming.GatheringLemmas.{arguments-made}
+use Rattle.clausal_form.proofs.AboutNaming.OccurringLemmas.{arguments-made}
 use Rattle.clausal_form.proofs.arguments.name_arguments.Goals as goal
 
 pub returns : goal.returns
