@@ -37,7 +37,7 @@ fn read(alloc: Global, text: &str) -> Mem<Problem> {
             match signed_name(number) {
                 Some(literal) => clause.push(literal)?,
                 None => {
-                    clauses.push(clause)?;
+                    clauses.push(clause.as_slice())?;
                     clause = Names::new(alloc);
                 }
             }

@@ -4,6 +4,7 @@ use Rattle.std.proofs.lemmas.List.Elements.{All-nil, All-cons, All-head, All-tai
 use Rattle.std.specs.List.{All}
 use Rattle.std.specs.List.Sorted.{IsStrictlyIncreasing}
 use Rattle.plain_types.specs.declared.sequence.NameLit.{NameLit}
+use Rattle.plain_types.specs.Names.{negative_of}
 use Rattle.fol_base.specs.Clause.{TreeLiteral, TreeClause, clause_size, clause_variables}
 use Rattle.fol_base.specs.declared.limits.TheConstants.{SIZE_LIMIT}
 use Rattle.fol_base.specs.Canonical.{canonical_clause, IsCanonical, bound_of}
@@ -12,29 +13,29 @@ use Rattle.fol_base.specs.Literal.{literal_of, clause_of}
 use Rattle.fol_base.specs.declared.clause.Literal.{Literal}
 use Rattle.fol_base.specs.declared.clause.Clause.{Clause}
 use Rattle.term_bank.specs.declared.literal.BankLit.{BankLit}
-use Rattle.bank_clause.specs.Parts.{assertion, clause_over, IsClauseOver}
+use Rattle.bank_clause.specs.Parts.{clause_over, IsClauseOver}
 use Rattle.bank_clause.specs.Clause.{AreAssertions}
 use Rattle.bank_clause.proofs.BoundLemmas.{few-variables}
 
-pub assertions-back : (ns : List NameLit) → All (λ n. n.positive ≡ false) ns → map assertion (map (λ n. n.name) ns) ≡ ns
+pub assertions-back : (ns : List NameLit) → All (λ n. n.positive ≡ false) ns → map negative_of (map (λ n. n.name) ns) ≡ ns
 assertions-back [] negative = refl
 assertions-back (n ∷ ns) negative =
     let here : n.positive ≡ false = All-head (λ m. m.positive ≡ false) n ns negative in
-    let rest : map assertion (map (λ m. m.name) ns) ≡ ns = assertions-back ns (All-tail (λ m. m.positive ≡ false) n ns negative) in
+    let rest : map negative_of (map (λ m. m.name) ns) ≡ ns = assertions-back ns (All-tail (λ m. m.positive ≡ false) n ns negative) in
     (λ j. record { positive = sym here j; name = n.name } ∷ rest j)
 
 -- rising numbers become assertions
-pub assertions-are : (ns : List ℕ) → IsStrictlyIncreasing ns → AreAssertions (map assertion ns)
+pub assertions-are : (ns : List ℕ) → IsStrictlyIncreasing ns → AreAssertions (map negative_of ns)
 assertions-are ns rising = record {
   negative = all ns;
   rise = subst IsStrictlyIncreasing (sym (bare ns)) rising;
 }
   where
-    all : (ms : List ℕ) → All (λ n. n.positive ≡ false) (map assertion ms)
+    all : (ms : List ℕ) → All (λ n. n.positive ≡ false) (map negative_of ms)
     all [] = All-nil (λ n. n.positive ≡ false)
-    all (m ∷ ms) = All-cons (λ n. n.positive ≡ false) (assertion m) (map assertion ms) refl (all ms)
+    all (m ∷ ms) = All-cons (λ n. n.positive ≡ false) (negative_of m) (map negative_of ms) refl (all ms)
 
-    bare : (ms : List ℕ) → map (λ n. n.name) (map assertion ms) ≡ ms
+    bare : (ms : List ℕ) → map (λ n. n.name) (map negative_of ms) ≡ ms
     bare [] = refl
     bare (m ∷ ms) = ap (λ ks. m ∷ ks) (bare ms)
 
@@ -43,11 +44,11 @@ pub clause-back :
     (c : Clause) (literals : List TreeLiteral) (lent : List Literal) (names : List ℕ) (signed : List NameLit)
     → AreAssertions c.names → literals ≡ map literal_of lent → lent ≡ c.literals
     → names ≡ map (λ n. n.name) signed → signed ≡ c.names
-    → record { literals = literals; names = map assertion names } ≡ clause_of c
+    → record { literals = literals; names = map negative_of names } ≡ clause_of c
 clause-back c literals lent names signed asserted same of_literals bare of_names =
     let all : literals ≡ map literal_of c.literals = same ∙ ap (map literal_of) of_literals in
     let numbers : names ≡ map (λ n. n.name) c.names = bare ∙ ap (map (λ n. n.name)) of_names in
-    let back : map assertion names ≡ c.names = ap (map assertion) numbers ∙ assertions-back c.names asserted.negative in
+    let back : map negative_of names ≡ c.names = ap (map negative_of) numbers ∙ assertions-back c.names asserted.negative in
     (λ j. record { literals = all j; names = back j })
 
 -- what is right of a clause is right of the literals and names that stand for it

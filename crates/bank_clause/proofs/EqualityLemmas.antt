@@ -1,12 +1,12 @@
--- What is equal by numbers, one literal after another.
+-- Literals with the same term numbers are the same literals; so for lists and clauses.
 use Rattle.std.proofs.Common.{◌≡◌, ℕ, zero, suc, ◌<◌, ◌&&◌, Bool, true, false, nat_eq, List, [], ◌∷◌, map, length, get_or, refl, sym, ap, ◌∙◌, true≢false, arith}
 use Rattle.std.specs.Bool.{beq}
 use Rattle.std.proofs.lemmas.Bool.{eqb-true, eq-eqb, and_parts}
 use Rattle.std.proofs.lemmas.List.Elements.{All-head, All-tail}
 use Rattle.std.specs.List.{All}
 use Rattle.plain_types.specs.declared.sequence.NameLit.{NameLit}
+use Rattle.plain_types.specs.Names.{negative_of}
 use Rattle.fol_base.specs.Clause.{TreeLiteral}
-use Rattle.bank_clause.specs.Parts.{assertion}
 use lib.Pointwise.{pointwise}
 use Rattle.term_bank.specs.Bank.{number, tree_at, same_number}
 use Rattle.term_bank.specs.Literal.{same_numbers, literal_at, literals_at}
@@ -108,7 +108,7 @@ all-same-literals table (l ∷ ls) (m ∷ ms) known known_too same =
     rest-of [] = []
     rest-of (k ∷ ks) = ks
 
-same-numbered : (ns ms : List ℕ) → map assertion ns ≡ map assertion ms → pointwise nat_eq ns ms ≡ true
+same-numbered : (ns ms : List ℕ) → map negative_of ns ≡ map negative_of ms → pointwise nat_eq ns ms ≡ true
 same-numbered [] [] same = refl
 same-numbered [] (m ∷ ms) same = absurd (cc)
 same-numbered (n ∷ ns) [] same = absurd (cc)

@@ -1,9 +1,9 @@
 -- The worked examples in a bank.
 use Rattle.std.proofs.Common.{true, false, [], ◌∷◌, arith}
 use Rattle.std.proofs.lemmas.List.Elements.{All-nil, All-cons}
+use Rattle.plain_types.specs.Names.{negative_of}
 use Rattle.term_bank.specs.Literal.{IsLiteralOf}
 use Rattle.term_bank.specs.declared.literal.BankLit.{BankLit}
-use Rattle.bank_clause.specs.Parts.{assertion}
 use Rattle.bank_clause.specs.Examples.{IsOfItsBank, StandsForRow}
 
 pub stands_for_row : StandsForRow
@@ -11,7 +11,7 @@ stands_for_row bank first second third fourth has = λ j. record {
   literals =
       record { positive = true; left = has.atom j; right = has.truth j }
       ∷ record { positive = false; left = has.unknown j; right = has.constant j } ∷ [];
-  names = assertion 3 ∷ [];
+  names = negative_of 3 ∷ [];
 }
 
 pub is_of_its_bank : IsOfItsBank

@@ -7,5 +7,7 @@ pub mod ClauseLemmas
 pub mod ExampleLemmas
 -- EqualityLemmas: what is equal by numbers, one literal after another.
 pub mod EqualityLemmas
+-- HashLemmas: clauses that are equal by numbers have one hash.
+pub mod HashLemmas
 -- BoundLemmas: a canonical clause has at most as many variables as symbols and variables stand in it.
 pub mod BoundLemmas

@@ -1,5 +1,6 @@
 -- Worked examples: the clause p(X0) | X0 != a with the assertion of the name 3, in a bank that has its four sides.
 use Rattle.std.specs.Prelude.{◌≡◌, true, false, [], ◌∷◌}
+use Rattle.plain_types.specs.Names.{negative_of}
 use Rattle.fol_base.specs.Tree.{true_tree}
 use Rattle.fol_base.specs.Clause.{TreeClause}
 use Rattle.fol_base.specs.Examples.{x, a, p}
@@ -10,16 +11,15 @@ use Rattle.term_bank.specs.declared.table.Table.{Table}
 use Rattle.term_bank.specs.declared.bank.Bank.{Bank}
 use Rattle.term_bank.specs.declared.literal.BankLit.{BankLit}
 use Rattle.term_bank.specs.declared.reference.TermRef.{TermRef}
-use Rattle.bank_clause.specs.Parts.{assertion}
 use Rattle.bank_clause.specs.Clause.{clause_at, IsClauseOf}
 use Rattle.bank_clause.specs.declared.clause.BankClause.{BankClause}
 
 abbrev pub row : TreeClause
-row = record { literals = p (x 0) ∷ disequation (x 0) a ∷ []; names = assertion 3 ∷ [] }
+row = record { literals = p (x 0) ∷ disequation (x 0) a ∷ []; names = negative_of 3 ∷ [] }
 
 -- the same with another variable
 abbrev pub row_of_another : TreeClause
-row_of_another = record { literals = p (x 1) ∷ disequation (x 1) a ∷ []; names = assertion 3 ∷ [] }
+row_of_another = record { literals = p (x 1) ∷ disequation (x 1) a ∷ []; names = negative_of 3 ∷ [] }
 
 -- the bank has p(X0), $true, X0 and a, under these references
 pub record HasSides (bank : Bank) (first second third fourth : TermRef) : Type 0 where

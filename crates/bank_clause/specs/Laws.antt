@@ -2,13 +2,13 @@
 use Rattle.std.specs.Prelude.{◌≡◌, ◌↔◌, ℕ, true, List, map}
 use Rattle.std.specs.List.{All}
 use Rattle.std.specs.List.Sorted.{IsStrictlyIncreasing}
+use Rattle.plain_types.specs.Names.{negative_of}
 use Rattle.fol_base.specs.Tree.{Tree}
 use Rattle.term_bank.specs.Interning.{InternsAll, InternsFirst}
 use Rattle.term_bank.specs.declared.literal.BankLit.{BankLit}
 use Rattle.term_bank.specs.declared.table.Table.{Table}
 use Rattle.term_bank.specs.Literal.{AreLiteralsOf}
 use Rattle.term_bank.specs.declared.bank.Bank.{Bank}
-use Rattle.bank_clause.specs.Parts.{assertion}
 use Rattle.bank_clause.specs.Clause.{AreAssertions, AreMembersOf, IsKnown, clause_at, equal_by_numbers}
 use Rattle.bank_clause.specs.declared.clause.BankClause.{BankClause}
 use Rattle.bank_clause.specs.declared.member.Member.{Member}
@@ -27,7 +27,7 @@ KeepsLiteralsOnTheWay =
 
 -- rising numbers are assertions with the negative sign
 abbrev pub RisingNamesAreAssertions : Type 0
-RisingNamesAreAssertions = (ns : List ℕ) → IsStrictlyIncreasing ns → AreAssertions (map assertion ns)
+RisingNamesAreAssertions = (ns : List ℕ) → IsStrictlyIncreasing ns → AreAssertions (map negative_of ns)
 
 -- members are of a bank exactly where the literals of each of their clauses are
 abbrev pub MembersHaveLiterals : Type 0

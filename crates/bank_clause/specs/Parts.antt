@@ -1,8 +1,8 @@
 -- What contracts see of a bank clause, and what is right of it without its bank.
-use Rattle.std.specs.Prelude.{◌≡◌, ◌<◌, ◌≤◌, ℕ, false, List, map}
+use Rattle.std.specs.Prelude.{◌≡◌, ◌<◌, ◌≤◌, ℕ, List, map}
 use Rattle.std.specs.Coded.{Coded, codes}
 use Rattle.std.specs.List.Sorted.{IsStrictlyIncreasing}
-use Rattle.plain_types.specs.declared.sequence.NameLit.{NameLit}
+use Rattle.plain_types.specs.Names.{negative_of}
 use Rattle.fol_base.specs.Clause.{TreeClause, clause_size, clause_variables}
 use Rattle.fol_base.specs.Canonical.{IsCanonical, bound_of}
 use Rattle.fol_base.specs.declared.limits.TheConstants.{SIZE_LIMIT}
@@ -18,13 +18,9 @@ pub record ClauseParts : Type 0 where
 pub clause_parts_code : Coded ClauseParts
 clause_parts_code = hlevel (codes, reference_code)
 
--- an asserted name, as it stands in a clause: negative
-abbrev pub assertion : ℕ → NameLit
-assertion n = record { positive = false; name = n }
-
--- the clause for which literals of a bank and asserted names stand
+-- the clause for which literals of a bank and asserted names stand: these are negative in it
 abbrev pub clause_over : List BankLit → List ℕ → TreeClause
-clause_over literals names = record { literals = literals_at literals; names = map assertion names }
+clause_over literals names = record { literals = literals_at literals; names = map negative_of names }
 
 -- A clause of these literals and names is canonical, has this size and so many variables, and its names rise.
 pub record IsClauseOver (literals : List BankLit) (names : List ℕ) (symbols count : ℕ) : Type 0 where

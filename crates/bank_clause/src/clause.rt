@@ -56,7 +56,7 @@ impl Model for BankClause {
 
 impl BankClause {
     /// The clause with its literals' sides interned, from left to right; the table learns
-    /// nothing else. After want of memory some first ones of the sides have been interned.
+    /// nothing else. After an out-of-memory error some first ones of the sides have been interned.
     pub fn of_clause<R: Wait>(
         rt: &R,
         alloc: Global,
@@ -121,7 +121,7 @@ impl BankClause {
         })
     }
 
-    /// The same clause as trees. `of_clause` takes it back.
+    /// The clause as trees. `of_clause` takes it back.
     pub fn to_clause(&self, bank: &Bank) -> Mem<Clause>
         requires { IsClauseOf bank.now self.now }
         ensures same { IfOk result (λ clause. clause_of clause ≡ clause_at self.now) }
@@ -169,6 +169,25 @@ impl BankClause {
         ensures limit { result < SIZE_LIMIT }
     {
         self.variables
+    }
+
+    /// The literals under other assertions.
+    pub(crate) fn with_names(self, names: Vec<u32>) -> BankClause
+        requires { IsStrictlyIncreasing names.items }
+        ensures { result ≡ record { literals = self.literals; names = names.items } }
+    {
+        let BankClause {
+            literals,
+            names: _,
+            symbols,
+            variables,
+        } = self;
+        BankClause {
+            literals,
+            names,
+            symbols,
+            variables,
+        }
     }
 
     /// An equal clause.

@@ -16,7 +16,7 @@ use std::alloc::Global;
 use std::sync::Wait;
 use term_bank::{Bank, BankLit, Table};
 
-/// The literals with their sides interned, from left to right. After want of memory some first ones of the
+/// The literals with their sides interned, from left to right. After an out-of-memory error some first ones of the
 /// sides have been interned.
 pub(crate) fn intern_literals<R: Wait>(
     rt: &R,
@@ -41,7 +41,7 @@ pub(crate) fn intern_literals<R: Wait>(
     Ok(made)
 }
 
-/// The literal with its sides interned. After want of memory its left side may have been interned.
+/// The literal with its sides interned. After an out-of-memory error its left side may have been interned.
 fn intern_literal<R: Wait>(
     rt: &R,
     alloc: Global,

@@ -1,17 +1,17 @@
 // The laws of clauses in banks, and worked examples of their definitions: the contracts of functions
 // without arguments and with empty bodies.
 
-ghost use Rattle.std.specs.Prelude.{◌≡◌, true, false, [], ◌∷◌, ◌++◌};
+ghost use Rattle.std.specs.Prelude.{◌≡◌, true, false, [], ◌∷◌, ◌++◌, nat_eq};
 ghost use Rattle.std.specs.Hash as fed;
 ghost use Rattle.std.specs.List.{All};
+ghost use Rattle.plain_types.specs.Names.{positive_of, negative_of};
 ghost use Rattle.fol_base.specs.Tree.{true_tree};
 ghost use Rattle.fol_base.specs.Examples.{x, a, p};
-ghost use Rattle.plain_types.specs.Examples.{positive_name};
 ghost use Rattle.fol_base.specs.Canonical.{IsCanonical, bound_of};
 ghost use Rattle.fol_base.specs.Clause.{clause_size, clause_variables};
 ghost use Rattle.term_bank.specs.Equality.{literal_input};
 ghost use Rattle.bank_clause.specs.Equality.{clause_input};
-ghost use Rattle.bank_clause.specs.Parts.{assertion};
+ghost use Rattle.bank_clause.specs.ClauseHash.{clause_hash, EqualClausesHashAlike, literals_hash, names_hash};
 ghost use Rattle.bank_clause.specs.Clause.{AreAssertions, IsKnown, equal_by_numbers, sides};
 ghost use Rattle.bank_clause.specs.Examples.{IsOfItsBank, StandsForRow, first_clause, known_sides, other_clause, row, row_of_another};
 ghost use Rattle.bank_clause.specs.Laws.{
@@ -43,7 +43,19 @@ pub fn same_clauses()
     ensures { SameAreEqual }
 {}
 
-/// What a bank clause stands for, which clauses are of a bank, and what is hashed of one.
+/// Clauses that are equal by numbers have one hash: so a register finds them by it.
+pub fn hashes()
+    ensures { EqualClausesHashAlike }
+{}
+
+/// A clause with other assertions has another hash.
+pub fn hash_examples()
+    ensures without_name { nat_eq (clause_hash first_clause) (clause_hash (record { literals = first_clause.literals; names = [] })) ≡ false }
+    ensures other_name { nat_eq (clause_hash first_clause) (clause_hash (record { literals = first_clause.literals; names = 4 ∷ [] })) ≡ false }
+    ensures literals_first { clause_hash first_clause ≡ names_hash (literals_hash first_clause.literals) (3 ∷ []) }
+{}
+
+/// The clause for which a bank clause stands, which clauses are of a bank, and the parts of one that are hashed.
 pub fn examples()
     ensures stands_for { StandsForRow }
     ensures of_bank { IsOfItsBank }
@@ -57,8 +69,8 @@ pub fn examples()
     ensures other_name { equal_by_numbers first_clause (record { literals = first_clause.literals; names = [] }) ≡ false }
     ensures numbered_by_first_occurrence { ¬ IsCanonical row_of_another }
     ensures sides_in_order { sides row.literals ≡ (p (x 0)).left ∷ true_tree ∷ x 0 ∷ a ∷ [] }
-    ensures rising { AreAssertions (assertion 3 ∷ assertion 5 ∷ []) }
-    ensures falling { ¬ AreAssertions (assertion 5 ∷ assertion 3 ∷ []) }
-    ensures twice { ¬ AreAssertions (assertion 3 ∷ assertion 3 ∷ []) }
-    ensures positive { ¬ AreAssertions (positive_name 3 ∷ []) }
+    ensures rising { AreAssertions (negative_of 3 ∷ negative_of 5 ∷ []) }
+    ensures falling { ¬ AreAssertions (negative_of 5 ∷ negative_of 3 ∷ []) }
+    ensures twice { ¬ AreAssertions (negative_of 3 ∷ negative_of 3 ∷ []) }
+    ensures positive { ¬ AreAssertions (positive_of 3 ∷ []) }
 {}

@@ -1,9 +1,9 @@
 // Literals and names of a bank clause as a clause has them.
 
 ghost use Rattle.std.specs.Prelude.{◌≡◌, map, IfOk};
+ghost use Rattle.plain_types.specs.Names.{negative_of};
 ghost use Rattle.fol_base.specs.Literal.{literal_of};
 ghost use Rattle.term_bank.specs.Literal.{IsLiteralOf, AreLiteralsOf, literal_at, literals_at};
-ghost use Rattle.bank_clause.specs.Parts.{assertion};
 
 use fol_base::Literal;
 use plain_types::{Mem, NameLit};
@@ -38,7 +38,7 @@ fn tree_literal(alloc: Global, bank: &Bank, literal: &BankLit) -> Mem<Literal>
 
 /// The names with the negative sign.
 pub(crate) fn negative_names(alloc: Global, names: &[u32]) -> Mem<Vec<NameLit>>
-    ensures { IfOk result (λ signed. signed.items ≡ map assertion names.now) }
+    ensures { IfOk result (λ signed. signed.items ≡ map negative_of names.now) }
 {
     let mut signed = Vec::with_capacity(alloc, names.len())?;
     for name in names {

@@ -6,7 +6,7 @@ ghost use Rattle.clause_queue.specs.Pick.{IsPick};
 ghost use Rattle.clause_queue.specs.QueueLaws.{PutBackRestores, PicksAreUnique};
 ghost use Rattle.clause_queue.specs.declared.choice.Choice.TheVariants.{Light, Old};
 
-/// What was taken out and is put back restores the list.
+/// A pair that was taken out and is put back restores the list.
 pub fn put_back_restores()
     ensures { PutBackRestores }
 {}

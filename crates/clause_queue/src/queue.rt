@@ -49,7 +49,7 @@ impl Queue {
         })
     }
 
-    /// Makes room for `more` clauses. After want of memory there may be some of that room.
+    /// Makes room for `more` clauses. After an out-of-memory error there may be some of that room.
     pub fn reserve(&mut self, more: u32) -> Mem<()>
         ensures pairs { self.new.pairs ≡ self.old.pairs }
         ensures kept { self.old.spare ≤ self.new.spare }

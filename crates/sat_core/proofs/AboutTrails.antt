@@ -1,5 +1,4 @@
 -- Literals, their truth, the trail and propagation.
-pub mod LiteralLemmas
 pub mod TruthLemmas
 pub mod TrailLemmas
 pub mod PropagationLemmas

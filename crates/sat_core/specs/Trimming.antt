@@ -33,7 +33,7 @@ has_trimmed_log inputs (Refuted log) = is_trimmed inputs log
 
 -- ---- what is needed
 
--- a needed chain behind chain k cites it
+-- a needed chain after chain k cites it
 pub record IsUsed (inputs : ℕ) (log : List Chain) (needed : List Bool) (k : ℕ) : Type 0 where
   pub by : ℕ
   pub behind : k < by

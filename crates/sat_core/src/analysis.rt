@@ -27,7 +27,7 @@ pub struct Turn {
     pub cut: usize,
 }
 
-/// A false clause, the resolutions so far, and the clause that they come to. The same room serves all conflicts. `level`
+/// A false clause, the resolutions so far, and the clause that they come to. Its room serves all conflicts. `level`
 /// and `lowest` are hints, on which no answer rests.
 #[derive(Drop)]
 pub struct Conflict {

@@ -1,14 +1,15 @@
-// What is handed to the solver, and what it answers.
+// The solver's input and its answers.
 
 ghost use Rattle.std.specs.Prelude.{◌≡◌};
 ghost use Rattle.std.specs.List.{list_all};
 ghost use Rattle.sat_core.specs.Clause.{is_below, names_below};
 
-use plain_types::{NameLit, Names, Sequence};
+use crate::lists::Lists;
+use plain_types::{NameLit, Sequence};
 
-/// Propositional clauses, in order. Each is a disjunction of signed names, read as a set; the empty
+/// Propositional clauses, in order, one after another in one list. Each is a disjunction of signed names, read as a set; the empty
 /// one is false.
-pub type PropClauses = Sequence<Names>;
+pub type PropClauses = Lists<NameLit>;
 
 /// A truth value for each name, by its number.
 pub type Truths = Sequence<bool>;
@@ -37,7 +38,7 @@ pub struct Chain {
 /// the input clauses is an input clause, and that count plus i is the clause of chain i.
 pub type Log = Sequence<Chain>;
 
-/// What a set of propositional clauses is answered with.
+/// The answer to a set of propositional clauses.
 #[derive(Drop)]
 pub enum Answer {
     /// Truth values that make every clause true.
@@ -50,10 +51,15 @@ pub enum Answer {
 pub fn names_are_below(clauses: &PropClauses, bound: u32) -> bool
     ensures { result ≡ names_below bound clauses.now }
 {
-    clauses.iter().all(|clause| is_clause_below(clause, bound))
+    for number in 0..clauses.len() {
+        if !is_clause_below(clauses.get(number), bound) {
+            return false;
+        }
+    }
+    true
 }
 
-fn is_clause_below(clause: &Names, bound: u32) -> bool
+fn is_clause_below(clause: &[NameLit], bound: u32) -> bool
     ensures { result ≡ list_all (is_below bound) clause.now }
 {
     clause.iter().all(|literal| literal.name < bound)

@@ -6,16 +6,16 @@ ghost use Rattle.sat_core.specs.State.{Derives, clause_at};
 ghost use Rattle.sat_core.specs.Known.{known, IsKnown};
 ghost use Rattle.sat_core.specs.Trimming.{is_trimmed};
 
-use crate::answer::{Link, Log};
+use crate::answer::{Link, Log, PropClauses};
 use crate::lists::Lists;
 use crate::trimming::trimmed;
-use plain_types::{Mem, NameLit, Names};
+use plain_types::{Mem, NameLit};
 use std::alloc::Global;
 
 /// The clauses that were handed in, then those that were learned, one for each chain of the log.
 #[derive(Drop)]
 pub struct Clauses<'a> {
-    pub inputs: &'a [Names],
+    pub inputs: &'a PropClauses,
     pub learned: Lists<NameLit>,
     /// For each learned clause the number of the clause with which its chain begins.
     pub starts: Vec<u64>,
@@ -25,7 +25,7 @@ pub struct Clauses<'a> {
 
 impl<'a> Clauses<'a> {
     /// The clauses that are handed in.
-    pub fn new(alloc: Global, inputs: &'a [Names]) -> Clauses<'a>
+    pub fn new(alloc: Global, inputs: &'a PropClauses) -> Clauses<'a>
         ensures inputs { result.inputs.now ≡ inputs.now }
         ensures learned { result.learned ≡ [] }
         ensures starts { result.starts.items ≡ [] }
@@ -52,7 +52,7 @@ impl<'a> Clauses<'a> {
         ensures { result.now ≡ clause_at (known self.now) number }
     {
         if number < self.inputs.len() {
-            self.inputs[number].as_slice()
+            self.inputs.get(number)
         } else {
             self.learned.get(number - self.inputs.len())
         }

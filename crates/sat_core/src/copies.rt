@@ -13,7 +13,7 @@ use plain_types::{Mem, NameLit};
 use std::alloc::Global;
 use std::marker::Model;
 
-/// What the look at a copy has found.
+/// The result of the look at a copy.
 #[derive(Clone, Copy)]
 pub enum Look {
     /// This literal is true by its value, or the clause has no two literals to be watched by.

@@ -9,11 +9,11 @@ use crate::watches::Watches;
 use plain_types::Mem;
 use std::alloc::Global;
 
-/// So many learned clauses are watched before three fifths of them are forgotten.
+/// How many learned clauses are watched before three fifths of them are forgotten.
 const FIRST_LIMIT: usize = 500;
-/// What the limit grows by each time.
+/// By how much the limit grows each time.
 const LIMIT_STEP: usize = 100;
-/// Clauses of so many literals are never forgotten.
+/// Clauses of at most this many literals are never forgotten.
 const SHORT: usize = 2;
 
 /// When each clause was used last, and which learned ones are watched.

@@ -22,7 +22,7 @@ pub struct Order {
     /// For each name its index in the heap plus one, or 0 where it isn't there.
     places: Vec<usize>,
     activities: Vec<u64>,
-    /// What a conflict adds to the activities of its names.
+    /// The amount that a conflict adds to the activities of its names.
     step: u64,
 }
 

@@ -17,13 +17,14 @@ use crate::answer::{Answer, Log, PropClauses, Truths};
 use crate::clauses::Clauses;
 use crate::forgetting::Forgetting;
 use crate::marks::Marks;
+use crate::models::{are_true, truths_over};
 use crate::order::Order;
 use crate::trail::{Assigned, Trail};
 use crate::watches::Watches;
-use plain_types::{Mem, NameLit, Names};
+use plain_types::{Mem, NameLit};
 use std::alloc::Global;
 
-/// What the solver has come to.
+/// The state of the search.
 #[derive(Drop)]
 pub enum Step {
     /// Something was decided or learned.
@@ -50,13 +51,13 @@ pub struct Solver<'a> {
 
 impl<'a> Solver<'a> {
     /// Nothing is decided yet.
-    fn new(alloc: Global, inputs: &'a [Names], names: u32, first: &[bool]) -> Mem<Solver<'a>>
+    fn new(alloc: Global, inputs: &'a PropClauses, names: u32, first: &[bool]) -> Mem<Solver<'a>>
         requires { IsTrue (names_below names inputs.now) }
         ensures { IfOk result (IsBegun names inputs.now) }
     {
-        let mut watches = Watches::new(alloc, names)?;
-        for (number, clause) in inputs.iter().enumerate() {
-            watches.add_input(alloc, number, clause.as_slice())?;
+        let mut watches = Watches::new(alloc, names, inputs)?;
+        for number in 0..inputs.len() {
+            watches.add_input(alloc, number, inputs.get(number))?;
         }
         Ok(Solver {
             clauses: Clauses::new(alloc, inputs),
@@ -253,13 +254,18 @@ pub fn solve(alloc: Global, clauses: &PropClauses, names: u32) -> Mem<Answer>
 }
 
 /// As `solve`, with the value that each name is to be tried with first, as those of an earlier model: what isn't given
-/// is false. This is a hint, on which only the time and the choice among right answers rest.
+/// is false. This is a hint, on which only the time and the choice among right answers rest. Where these values make
+/// every clause true, they are answered after a look at each clause.
 pub fn solve_from(alloc: Global, clauses: &PropClauses, names: u32, first: &[bool]) -> Mem<Answer>
     requires { IsTrue (names_below names clauses.now) }
     ensures right { IfOk result (IsRightAnswer names clauses.now) }
     ensures trimmed { IfOk result (λ answer. IsTrue (has_trimmed_log (length clauses.now) answer)) }
 {
-    let mut solver = Solver::new(alloc, clauses.as_slice(), names, first)?;
+    let truths = truths_over(alloc, names, first)?;
+    if are_true(clauses, 0, truths.as_slice()) {
+        return Ok(Answer::Model(truths));
+    }
+    let mut solver = Solver::new(alloc, clauses, names, first)?;
     loop {
         match solver.step(alloc)? {
             Step::Going => {}

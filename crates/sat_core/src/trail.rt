@@ -31,7 +31,7 @@ pub struct Slot {
 pub struct Trail {
     pub entries: Vec<Assigned>,
     pub slots: Vec<Slot>,
-    /// The same by literal.
+    /// The values by literal.
     pub values: Values,
     ghost agree: { AreSlotValues values.by_code.items slots.items },
 }
@@ -122,7 +122,7 @@ impl Trail {
         }
     }
 
-    /// Takes back all values but the first so many.
+    /// Takes back all values but the first `count`.
     pub fn cut(&mut self, count: usize)
         requires trail { IsTrail self.old.entries.items self.old.slots.items }
         requires within { count ≤ length self.old.entries.items }

@@ -11,7 +11,7 @@ use crate::literals::{CodedLiteral, code};
 use plain_types::{Mem, NameLit, opposite};
 use std::alloc::Global;
 
-/// What is known of a literal.
+/// The value of a literal, if it has one.
 #[derive(Clone, Copy)]
 pub enum Value {
     Open,

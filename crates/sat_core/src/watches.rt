@@ -10,6 +10,7 @@ ghost use Rattle.sat_core.specs.Conflict.{AreWithin};
 ghost use Rattle.sat_core.specs.Search.{OthersFalse, HaveLists, IsConflict, Propagates};
 ghost use Rattle.sat_core.specs.Copies.{IsAlone, IsAloneAt, IsVisit};
 
+use crate::answer::PropClauses;
 use crate::clauses::Clauses;
 use crate::copies::{ClauseCopy, Look};
 use crate::forgetting::is_kept;
@@ -26,7 +27,7 @@ pub struct Pair {
     pub second: usize,
 }
 
-/// What the visit of an entry of a list has come to.
+/// The result of visiting an entry of a list.
 #[derive(Clone, Copy)]
 pub enum Visited {
     /// The entry stays.
@@ -87,19 +88,20 @@ pub struct Watches {
 }
 
 impl Watches {
-    /// Nothing is watched.
-    pub fn new(alloc: Global, names: u32) -> Mem<Watches>
+    /// Nothing is watched. Each list has room for its watches of the clauses that are handed in.
+    pub fn new(alloc: Global, names: u32, inputs: &PropClauses) -> Mem<Watches>
         ensures lists { IfOk result (λ watches. length watches.lists.items ≡ 2 * names) }
         ensures copies { IfOk result (λ watches. watches.copies.items ≡ []) }
     {
-        let mut lists = Vec::new(alloc);
-        for _ in 0..2 * names as usize {
-            lists.push(Vec::new(alloc))?;
+        let counts = watch_counts(alloc, names, inputs)?;
+        let mut lists = Vec::with_capacity(alloc, counts.len())?;
+        for count in &counts {
+            lists.push(Vec::with_capacity(alloc, *count)?)?;
         }
         Ok(Watches {
             lists,
             visited: Vec::new(alloc),
-            copies: Vec::new(alloc),
+            copies: Vec::with_capacity(alloc, inputs.len())?,
             units: Vec::new(alloc),
             seen: 0,
         })
@@ -392,6 +394,31 @@ fn settle(clauses: &Clauses<'_>, trail: &mut Trail, closed: Closed) -> Mem<Optio
         return Ok(Some(number));
     }
     Ok(None)
+}
+
+/// For each literal how many of the clauses it is to watch.
+fn watch_counts(alloc: Global, names: u32, inputs: &PropClauses) -> Mem<Vec<usize>>
+    ensures { IfOk result (λ counts. length counts.items ≡ 2 * names) }
+{
+    let mut counts = vec![in alloc; 0; 2 * names as usize]?;
+    for number in 0..inputs.len() {
+        let literals = inputs.get(number);
+        if let Some(second) = different_literal(literals) {
+            count_one(&mut counts, literals[0]);
+            count_one(&mut counts, literals[second]);
+        }
+    }
+    Ok(counts)
+}
+
+/// One more of a literal.
+fn count_one(counts: &mut [usize], literal: NameLit)
+    ensures { length counts.new ≡ length counts.old }
+{
+    let code = code(literal);
+    if code < counts.len() {
+        counts[code] = counts[code].saturating_add(1);
+    }
 }
 
 /// The index of a literal that differs from the first one.

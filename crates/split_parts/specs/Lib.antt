@@ -4,6 +4,7 @@ pub mod Forest
 pub mod LiteralCode
 pub mod PartHash
 pub mod PartKeys
+pub mod PartTable
 pub mod Tags
 pub mod TagLaws
 pub mod SignedNames

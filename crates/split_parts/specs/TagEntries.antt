@@ -1,18 +1,27 @@
--- What a table keeps of each tag. Only private functions cite this.
-use Rattle.std.specs.Prelude.{◌≡◌, ℕ, suc, ◌<◌, ◌-◌, List, length, take, slice_index_or, []}
+-- What a table keeps of tags and names. Only private functions cite this.
+use Rattle.std.specs.Prelude.{ℕ, ◌-◌, ◌^◌, min, List, length, map, vec_len, vec_capacity}
+use Rattle.indexmap.specs.IndexSet.{spare}
+use Rattle.plain_types.specs.declared.sequence.NameLit.{NameLit}
 use Rattle.fol_base.specs.Clause.{TreeLiteral}
-use Rattle.split_parts.specs.SignedNames.{named, signed_name}
-use Rattle.split_parts.specs.declared.tags.TagEntry.{TagEntry}
+use Rattle.split_parts.specs.PartKeys.{key_part}
+use Rattle.split_parts.specs.PartTable.{PartTable}
+use Rattle.split_parts.specs.SignedNames.{affirmed, named, signed_name}
+use Rattle.split_parts.specs.Tags.{tag_of}
+use Rattle.split_parts.specs.declared.tags.NameTable.TheInside.{Inside}
 
--- the entry of the last one of some parts: its signed name, and the highest name of all of them
-abbrev pub entry_of : List (List TreeLiteral) → List TreeLiteral → TagEntry
-entry_of cs c = record { signed = signed_name cs c; highest = length (named cs) - 1 }
+-- There is a tag below 2^32 for each further part, and a place in the set and in both lists.
+abbrev pub table_of : Inside → PartTable
+table_of a = record {
+  parts = map key_part a.parts.keys;
+  spare =
+      min (2 ^ 32 - length a.parts.keys)
+      (min (spare a.parts) (min (vec_capacity a.signed - vec_len a.signed) (vec_capacity a.firsts - vec_len a.firsts)));
+}
 
--- of the part at a place, among those up to there
-abbrev pub entry_at : List (List TreeLiteral) → ℕ → TagEntry
-entry_at cs i = entry_of (take (suc i) cs) (slice_index_or cs i [])
+-- the signed names of all parts, by their tags
+abbrev pub signed_names : List (List TreeLiteral) → List NameLit
+signed_names cs = map (signed_name cs) cs
 
--- the entries are those of the parts
-pub record AreEntriesOf (cs : List (List TreeLiteral)) (es : List TagEntry) : Type 0 where
-  pub count : length es ≡ length cs
-  pub each : (i : ℕ) (d : TagEntry) → i < length cs → slice_index_or es i d ≡ entry_at cs i
+-- for each name the tag of the first part that has it
+abbrev pub first_tags : List (List TreeLiteral) → List ℕ
+first_tags cs = map (tag_of (map affirmed cs)) (named cs)

@@ -1,6 +1,7 @@
 // The laws of the definitions: each is the contract of a function without arguments and with an empty body.
 
-ghost use Rattle.std.specs.Prelude.{◌≡◌, true, false, [], ◌∷◌, IsFalse};
+ghost use Rattle.std.specs.Prelude.{◌≡◌, false, [], ◌∷◌, IsFalse};
+ghost use Rattle.plain_types.specs.Names.{positive_of, negative_of};
 ghost use Rattle.fol_base.specs.Examples.{x, a, b, p, q, equation};
 ghost use Rattle.fol_base.specs.Rules.{disequation};
 ghost use Rattle.kernel_steps.specs.Derivation.{complement};
@@ -76,10 +77,10 @@ pub fn tag_examples()
 /// Signed names: `~p(a), p(a)` share the name 0; after `q(X0)` they share the name 1; parts of more literals, and those with variables,
 /// are positive; an equation and the one with its sides exchanged have two names.
 pub fn signed_examples()
-    ensures negative_first { signed_name ((complement (p a) ∷ []) ∷ []) (complement (p a) ∷ []) ≡ record { positive = false; name = 0 } }
-    ensures positive_second { signed_name ((complement (p a) ∷ []) ∷ (p a ∷ []) ∷ []) (p a ∷ []) ≡ record { positive = true; name = 0 } }
+    ensures negative_first { signed_name ((complement (p a) ∷ []) ∷ []) (complement (p a) ∷ []) ≡ negative_of 0 }
+    ensures positive_second { signed_name ((complement (p a) ∷ []) ∷ (p a ∷ []) ∷ []) (p a ∷ []) ≡ positive_of 0 }
     ensures after_another { signed_name ((q (x 0) ∷ []) ∷ (complement (p a) ∷ []) ∷ (p a ∷ []) ∷ []) (complement (p a) ∷ [])
-        ≡ record { positive = false; name = 1 } }
+        ≡ negative_of 1 }
     ensures named { named ((q (x 0) ∷ []) ∷ (complement (p a) ∷ []) ∷ (p a ∷ []) ∷ []) ≡ (q (x 0) ∷ []) ∷ (p a ∷ []) ∷ [] }
     ensures with_variables { is_ground_negative (complement (p (x 0)) ∷ []) ≡ false }
     ensures of_two_literals { is_ground_negative (complement (p a) ∷ complement (q a) ∷ []) ≡ false }

@@ -30,7 +30,7 @@ fn linked(alloc: Global, literals: &[Literal]) -> Mem<Vec<usize>>
 {
     let mut links = own_classes(alloc, literals.len())?;
     let mut places = HashMap::new(alloc);
-    // Of one literal at a time, so that there is one list for all.
+    // The variables of one literal at a time, so that there is one list for all.
     let mut variables = Vec::new(alloc);
     for place in 0..literals.len() {
         join_literal(&mut links, &mut places, &mut variables, literals, place)?;

@@ -9,6 +9,7 @@ use Rattle.std.proofs.lemmas.List.Folds.{list_all_more}
 use Rattle.std.proofs.lemmas.Option.{slice_get-get_or, same_Some, none-some}
 use Rattle.plain_types.specs.declared.sequence.NameLit.{NameLit}
 use Rattle.plain_types.specs.Names.{has_name, same_name}
+use Rattle.plain_types.proofs.NameLemmas.{same_name-true}
 use Rattle.sat_core.specs.declared.trail.Assigned.{Assigned}
 use Rattle.sat_core.specs.declared.trail.Slot.{Slot}
 use Rattle.sat_core.specs.declared.analysis.Turn.{Turn}
@@ -25,7 +26,6 @@ use Rattle.sat_core.specs.Known.{known, chains_of, IsKnown}
 use Rattle.sat_core.specs.Conflict.{IsTurn, IsAnalysis, AreWithin}
 use Rattle.sat_core.specs.Search.{HaveLists, HasNoTrue, AreAssigned, value_of, values_of}
 use Rattle.sat_core.specs.Solver.{IsState, Keeps, Advances, Steps, left_to_try}
-use Rattle.sat_core.proofs.AboutTrails.LiteralLemmas.{same_name-true}
 use Rattle.sat_core.proofs.AboutConflicts.AnalysisLemmas.{has_name_more}
 use Rattle.sat_core.proofs.AboutAnswers.SoundLemmas.{grown, pushed_sound, cut_sound, turn_named, turn_free, turn_implied}
 

@@ -7,6 +7,7 @@ use Rattle.std.proofs.lemmas.List.{get_or_append_left, get_or_push, get_or-take,
 use Rattle.std.proofs.lemmas.List.Sums.{count_by-le-length}
 use Rattle.plain_types.specs.declared.sequence.NameLit.{NameLit}
 use Rattle.plain_types.specs.Names.{same_name, has_name}
+use Rattle.plain_types.proofs.NameLemmas.{same_name-true}
 use Rattle.sat_core.specs.declared.trail.Assigned.{Assigned}
 use Rattle.sat_core.specs.declared.trail.Slot.{Slot}
 use Rattle.sat_core.specs.declared.analysis.Turn.{Turn}
@@ -15,7 +16,6 @@ use Rattle.sat_core.specs.Trail.{IsTrail, Cuts, entry_at, slot_at, slot_of, plac
 use Rattle.sat_core.specs.State.{IsSound, IsImplied, SameLiterals, clause_at}
 use Rattle.sat_core.specs.Conflict.{IsTurn}
 use Rattle.sat_core.specs.Search.{is_decision, remaining}
-use Rattle.sat_core.proofs.AboutTrails.LiteralLemmas.{same_name-true}
 use Rattle.sat_core.proofs.AboutTrails.TrailLemmas.{slot_within, cut_length}
 use Rattle.sat_core.proofs.AboutConflicts.ResolveLemmas.{false_has_place}
 use Rattle.sat_core.proofs.AboutTrails.MeasureLemmas.{remaining_push, remaining_turn}

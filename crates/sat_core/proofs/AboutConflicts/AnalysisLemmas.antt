@@ -8,12 +8,12 @@ use Rattle.std.proofs.lemmas.List.Folds.{list_any_at, list_any_more}
 use Rattle.std.proofs.Math.Bool.{or-false}
 use Rattle.plain_types.specs.declared.sequence.NameLit.{NameLit}
 use Rattle.plain_types.specs.Names.{same_name, has_name}
+use Rattle.plain_types.proofs.NameLemmas.{same_name-refl, same_name-true}
 use Rattle.sat_core.specs.declared.trail.Slot.{Slot}
 use Rattle.sat_core.specs.Clause.{PropClause}
 use Rattle.sat_core.specs.Trail.{slot_at, place_of, has_place, is_false}
 use Rattle.sat_core.specs.State.{AreFalse, SameLiterals}
 use Rattle.sat_core.specs.Conflict.{is_other, OthersAreFalse, AreWithin}
-use Rattle.sat_core.proofs.AboutTrails.LiteralLemmas.{same_name-refl, same_name-true}
 
 -- what code reads past the end of a list
 abbrev pub no_literal : NameLit

@@ -7,13 +7,13 @@ use Rattle.std.proofs.lemmas.List.{append_assoc, append-nil, length_push, get_or
 use Rattle.std.proofs.lemmas.Option.{option_and_then_some, cond_some, same_Some, slice_get_within, slice_get-get_or, get_or_from_slice_get}
 use Rattle.plain_types.specs.declared.sequence.NameLit.{NameLit}
 use Rattle.plain_types.specs.Names.{same_name, has_name, opposite, can_resolve, resolvent}
+use Rattle.plain_types.proofs.NameLemmas.{has_name-resolvent, no_names}
 use Rattle.sat_core.specs.declared.answer.Link.{Link}
 use Rattle.sat_core.specs.declared.answer.Chain.{Chain}
 use Rattle.sat_core.specs.Clause.{PropClause}
 use Rattle.sat_core.specs.Resolution.{link_clause, links_clause, chain_clause, log_clauses, ends_empty}
 use Rattle.sat_core.specs.Answer.{IsRightLog}
 use Rattle.sat_core.specs.State.{clause_at, SameLiterals, SameClauses, AreDerived, Derives}
-use Rattle.sat_core.proofs.AboutTrails.LiteralLemmas.{has_name-resolvent, no_literals}
 
 -- what a link makes where it is a resolution with that clause
 pub link_clause_at :
@@ -179,7 +179,7 @@ pub right_log :
     (inputs clauses : List PropClause) (log : List Chain) → AreDerived inputs (clauses ++ [] ∷ []) log → IsRightLog inputs log
 right_log inputs clauses log are =
     let empty : clause_at are.made (length clauses) ≡ [] =
-    no_literals (clause_at are.made (length clauses))
+    no_names (clause_at are.made (length clauses))
     (λ l. sym (are.same.same_literals (length clauses) l) ∙ ap (has_name l) (get_or_push clauses [] [] (length clauses) refl)) in
     record {
       made = are.made;

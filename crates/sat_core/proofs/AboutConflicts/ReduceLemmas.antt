@@ -7,6 +7,7 @@ use Rattle.std.proofs.lemmas.List.{get_or-set_same, get_or-set_other, length-set
 use Rattle.std.proofs.lemmas.Option.{slice_get-get_or}
 use Rattle.plain_types.specs.declared.sequence.NameLit.{NameLit}
 use Rattle.plain_types.specs.Names.{same_name, has_name, opposite, can_resolve, resolvent}
+use Rattle.plain_types.proofs.NameLemmas.{same_name-refl, same_name-true, opposite-opposite, has_name-resolvent}
 use Rattle.sat_core.specs.declared.answer.Link.{Link}
 use Rattle.sat_core.specs.declared.trail.Assigned.{Assigned}
 use Rattle.sat_core.specs.declared.trail.Slot.{Slot}
@@ -15,7 +16,6 @@ use Rattle.sat_core.specs.Clause.{PropClause}
 use Rattle.sat_core.specs.Trail.{IsTrail, entry_at, slot_at, place_of, is_false}
 use Rattle.sat_core.specs.State.{IsSound, IsImplied, AreFalse, AreMarks, AreCovered, clause_at, mentions}
 use Rattle.sat_core.specs.Conflict.{IsResolving, IsReduced, IsTurnOf, IsTurn, IsAnalysis, is_covered, is_left}
-use Rattle.sat_core.proofs.AboutTrails.LiteralLemmas.{same_name-refl, same_name-true, opposite-opposite, has_name-resolvent}
 use Rattle.sat_core.proofs.AboutConflicts.MarkLemmas.{mentions_of, literal_of_name, left_of_marks}
 use Rattle.sat_core.proofs.AboutConflicts.LogLemmas.{link_clause_at}
 use Rattle.sat_core.proofs.AboutConflicts.AnalysisLemmas.{false_of_one_name}

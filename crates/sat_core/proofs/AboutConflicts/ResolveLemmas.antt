@@ -8,6 +8,7 @@ use Rattle.std.proofs.lemmas.Option.{slice_get-get_or, option_and_then_some, sam
 use Rattle.std.proofs.Math.Bool.{and-true, or-false}
 use Rattle.plain_types.specs.declared.sequence.NameLit.{NameLit}
 use Rattle.plain_types.specs.Names.{same_name, has_name, opposite, can_resolve, resolvent}
+use Rattle.plain_types.proofs.NameLemmas.{same_name-refl, same_name-true, opposite-opposite, has_name-resolvent}
 use Rattle.sat_core.specs.declared.answer.Link.{Link}
 use Rattle.sat_core.specs.declared.trail.Assigned.{Assigned}
 use Rattle.sat_core.specs.declared.trail.Slot.{Slot}
@@ -17,7 +18,6 @@ use Rattle.sat_core.specs.Resolution.{link_clause, links_clause}
 use Rattle.sat_core.specs.Trail.{IsTrail, entry_at, slot_at, place_of, has_place, is_false}
 use Rattle.sat_core.specs.State.{IsSound, IsImplied, AreFalse, AreMarks, SameLiterals, clause_at, mentions}
 use Rattle.sat_core.specs.Conflict.{is_other, OthersAreFalse, AddsOthers, IsResolving, TurnsAt, IsTurnOf, IsAnalysis}
-use Rattle.sat_core.proofs.AboutTrails.LiteralLemmas.{same_name-refl, same_name-true, opposite-opposite, has_name-resolvent}
 use Rattle.sat_core.proofs.AboutConflicts.MarkLemmas.{same_tests, mentions_of, literal_of_name}
 use Rattle.sat_core.proofs.AboutTrails.TrailLemmas.{slot_within}
 use Rattle.sat_core.proofs.AboutConflicts.LogLemmas.{link_clause_at}

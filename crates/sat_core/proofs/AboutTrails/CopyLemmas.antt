@@ -7,11 +7,11 @@ use Rattle.std.proofs.lemmas.List.{length-set, length_push, get_or-set_same, get
 use Rattle.std.proofs.lemmas.List.Sorted.{list_any-IsPermutation}
 use Rattle.plain_types.specs.declared.sequence.NameLit.{NameLit}
 use Rattle.plain_types.specs.Names.{same_name, has_name}
+use Rattle.plain_types.proofs.NameLemmas.{same_name-true, has_name-append}
 use Rattle.sat_core.specs.declared.trail.Slot.{Slot}
 use Rattle.sat_core.specs.Clause.{PropClause}
 use Rattle.sat_core.specs.State.{SameLiterals, SameClauses, clause_at}
 use Rattle.sat_core.specs.Copies.{IsAlone, IsAloneAt}
-use Rattle.sat_core.proofs.AboutTrails.LiteralLemmas.{same_name-true, has_name-append}
 use Rattle.sat_core.proofs.AboutConflicts.AnalysisLemmas.{has_name_more}
 
 pub same_moved : (xs ys : PropClause) → IsPermutation xs ys → SameLiterals ys xs

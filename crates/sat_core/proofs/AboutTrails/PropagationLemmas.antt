@@ -8,13 +8,13 @@ use Rattle.std.proofs.Math.Bool.{and-true}
 use Rattle.std.proofs.lemmas.Option.{same_Some}
 use Rattle.plain_types.specs.declared.sequence.NameLit.{NameLit}
 use Rattle.plain_types.specs.Names.{same_name, has_name}
+use Rattle.plain_types.proofs.NameLemmas.{same_name-true}
 use Rattle.sat_core.specs.declared.trail.Assigned.{Assigned}
 use Rattle.sat_core.specs.declared.trail.Slot.{Slot}
 use Rattle.sat_core.specs.Clause.{PropClause}
 use Rattle.sat_core.specs.Trail.{IsTrail, slot_at, slot_of, place_of, has_place, is_true, is_false}
 use Rattle.sat_core.specs.State.{IsSound, IsImplied, AreFalse, clause_at}
 use Rattle.sat_core.specs.Search.{OthersFalse, Propagates, remaining}
-use Rattle.sat_core.proofs.AboutTrails.LiteralLemmas.{same_name-true}
 use Rattle.sat_core.proofs.AboutConflicts.AnalysisLemmas.{has_name_more}
 use Rattle.sat_core.proofs.AboutAnswers.SoundLemmas.{pushed_sound, pushed_remaining}
 

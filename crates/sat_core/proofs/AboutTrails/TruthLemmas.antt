@@ -8,12 +8,12 @@ use Rattle.std.proofs.lemmas.List.Folds.{list_any-append, list_all-append}
 use Rattle.std.proofs.lemmas.Option.{option_and_then_some, cond_some, same_Some}
 use Rattle.plain_types.specs.declared.sequence.NameLit.{NameLit}
 use Rattle.plain_types.specs.Names.{same_name, opposite, without, can_resolve, resolvent}
+use Rattle.plain_types.proofs.NameLemmas.{same_name-true}
 use Rattle.sat_core.specs.declared.answer.Link.{Link}
 use Rattle.sat_core.specs.declared.answer.Chain.{Chain}
 use Rattle.sat_core.specs.Clause.{PropClause, Valuation, literal_true, clause_true, clauses_true, valuation_of}
 use Rattle.sat_core.specs.Resolution.{link_clause, links_clause, chain_clause, log_clauses, ends_empty}
 use Rattle.sat_core.specs.Answer.{RightLogsRefute, AnswersExclude}
-use Rattle.sat_core.proofs.AboutTrails.LiteralLemmas.{same_name-true}
 
 literal_true-opposite : (v : Valuation) (p : NameLit) → literal_true v (opposite p) ≡ not (literal_true v p)
 literal_true-opposite v p = turned (v p.name) p.positive

@@ -21,6 +21,16 @@ pub tag-key : (c : List TreeLiteral) (ks : List PartKey) → position_or_len (λ
 tag-key c [] = refl
 tag-key c (k ∷ ks) = ap (λ n. cond (not (literals_eq c (key_part k))) (1 + n) 0) (tag-key c ks)
 
+-- what a look-up by a lent part tells of the parts
+pub told :
+    (lent wanted : List TreeLiteral) (ks : List PartKey) (cs : List (List TreeLiteral)) (b : Bool)
+    → lent ≡ wanted → key_parts ks ≡ cs → b ≡ list_any (λ k. literals_eq lent (key_part k)) ks → has_part wanted cs ≡ b
+told lent wanted ks cs b same parts found =
+    ap (has_part wanted) (sym parts)
+    ∙ ap (λ d. has_part d (key_parts ks)) (sym same)
+    ∙ sym (has-key lent ks)
+    ∙ sym found
+
 -- the tag of a new part is the next one
 pub tag-new : (c : List TreeLiteral) (cs : List (List TreeLiteral)) → has_part c cs ≡ false → length cs ≡ tag_of cs c
 tag-new c [] new = refl

@@ -1,5 +1,5 @@
 use Rattle.std.proofs.Common.{length, sym, ◌∙◌, subst, arith}
-use Rattle.std.proofs.lemmas.List.{get_or_read, take_all}
+use Rattle.std.proofs.lemmas.List.{take_all}
 use Rattle.sat_core.specs.Clause.{PropClause}
 use Rattle.sat_core.specs.Search.{HaveLists}
 use Rattle.sat_core.proofs.AboutConflicts.MarkLemmas.{left_of_marks}
@@ -9,22 +9,16 @@ use Rattle.sat_core.proofs.solver.Solver.new.Goals as goal
 
 pub add_input-requires : goal.add_input-requires
 add_input-requires c =
-    let within = c.loop-number-test.true in
-    let at = get_or_read c.args.inputs.now c.loop-number.number c.index-inputs-number.result within c.index-inputs-number.is _ in
-    subst (λ (x : PropClause). HaveLists (length c.loop-number.watches.lists.items) x)
-    (sym (c.as_slice.ensures ∙ at))
+    subst (λ (x : PropClause). HaveLists (length c.loop-number.watches.lists.items) x) (sym c.get.ensures)
     (lists_of c.args.names _ c.args.inputs.now c.loop-number.number c.requires c.loop-number.invariant.lists)
 
 pub loop-number-preserved : goal.loop-number-preserved
-loop-number-preserved c =
-    let within = c.loop-number-test.true in
-    let at = get_or_read c.args.inputs.now c.loop-number.number c.index-inputs-number.result within c.index-inputs-number.is _ in
-    record {
-      lists = c.in_ok-add_input.ensures.lists ∙ c.loop-number.invariant.lists;
-      copies =
-          copies_next _ _ c.args.inputs.now c.loop-number.number _ within (c.as_slice.ensures ∙ at) c.loop-number.invariant.copies
-          c.in_ok-add_input.ensures.copies;
-    }
+loop-number-preserved c = record {
+  lists = c.in_ok-add_input.ensures.lists ∙ c.loop-number.invariant.lists;
+  copies =
+      copies_next _ _ c.args.inputs.now c.loop-number.number _ (omega (arith, c.loop-number-test.true, c.len-number-end.ensures.length)) c.get.ensures
+      c.loop-number.invariant.copies c.in_ok-add_input.ensures.copies;
+}
 
 pub returns : goal.returns
 returns c = record {
@@ -37,7 +31,7 @@ returns c = record {
     copies =
         same_clauses_then _ _ _ c.loop-number.invariant.copies
         (same_clauses_of _ _
-        (take_all c.loop-number.number c.args.inputs.now (omega (arith, c.loop-number-test.false))
+        (take_all c.loop-number.number c.args.inputs.now (omega (arith, c.loop-number-test.false, c.len-number-end.ensures.length))
         ∙ sym (begun_clauses _ c.new-2.result c.new-2.ensures.inputs c.new-2.ensures.learned)));
   };
   inputs_are = c.new-2.ensures.inputs;

@@ -1,5 +1,5 @@
 use Rattle.std.proofs.Common.{◌≡◌, length}
 use Rattle.sat_core.proofs.watches.Watches.new.Given as goal
 
-abbrev pub invariant-loop : goal.invariant-loop
-invariant-loop l = length l.lists.items ≡ l.counter
+abbrev pub invariant-loop-count : goal.invariant-loop-count
+invariant-loop-count l = length l.lists.items ≡ l.count-index

@@ -1,9 +1,0 @@
-// The tests of the solver and of the index trees. They stand apart, since a crate with tests is proved twice, with them and without.
-#![tactic(auto)]
-
-#[cfg(test)]
-mod index_trees;
-#[cfg(test)]
-mod many_terms;
-#[cfg(test)]
-mod solver;

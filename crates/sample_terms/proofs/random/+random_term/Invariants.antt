@@ -1,4 +1,0 @@
-use Rattle.sample_terms.proofs.random.+random_term.Given as goal
-
-abbrev pub decreases-random_term : goal.decreases-random_term
-decreases-random_term l = l.size
