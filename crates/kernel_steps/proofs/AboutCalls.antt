@@ -4,6 +4,7 @@ pub mod LoopLemmas
 pub mod ChainLemmas
 pub mod ItemLemmas
 pub mod LineLemmas
+pub mod ParentLemmas
 pub mod BoundLemmas
 pub mod PushLemmas
 pub mod SymbolLemmas

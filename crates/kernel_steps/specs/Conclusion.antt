@@ -118,7 +118,7 @@ is_rule_step (Split parent definitions parts) = true
 is_rule_step (Chain numbers pivots) = true
 is_rule_step _ = false
 
--- a fault is the verdict's; want of memory is free
+-- a fault is the verdict's; out of memory is free
 abbrev pub IsFaultOf : StepFault → Verdict → Type 0
 IsFaultOf Binding v = v ≡ binding_fault
 IsFaultOf Rule v = v ≡ rule_fault

@@ -1,6 +1,7 @@
 -- Derivations: each line comes about by a step from earlier lines.
 use Rattle.std.specs.Prelude.{◌≡◌, ℕ, ◌-◌, Bool, true, false, not, ◌==◌, nat_lt, if◌then◌else◌, List, [], ◌∷◌, ◌++◌, take, length, Option, None, Some, option_and_then, unwrap_or, slice_get, IsTrue}
 use Rattle.plain_types.specs.declared.sequence.NameLit.{NameLit}
+use Rattle.plain_types.specs.Names.{positive_of, negative_of}
 use Rattle.fol_base.specs.Clause.{TreeLiteral, TreeClause}
 use Rattle.fol_base.specs.Ground.{is_ground_literal}
 use Rattle.fol_base.specs.Literal.{clause_of}
@@ -36,12 +37,6 @@ abbrev pub line_parents : List Line → Parents
 line_parents lines n = option_and_then line_parent (slice_get lines n)
 
 -- ---- names
-
-abbrev pub negative_of : ℕ → NameLit
-negative_of name = record { positive = false; name = name }
-
-abbrev pub positive_of : ℕ → NameLit
-positive_of name = record { positive = true; name = name }
 
 -- the clause of these literals, under these names
 abbrev pub under_names : List TreeLiteral → List NameLit → TreeClause

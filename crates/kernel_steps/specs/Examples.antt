@@ -1,13 +1,14 @@
 -- The worked examples: derivations and clauses over the symbols of the base's examples.
 use Rattle.std.specs.Prelude.{ℕ, zero, suc, ◌+◌, true, false, List, [], ◌∷◌, option_map, slice_get}
 use Rattle.plain_types.specs.declared.sequence.NameLit.{NameLit}
+use Rattle.plain_types.specs.Names.{positive_of, negative_of}
 use Rattle.fol_base.specs.Tree.{Tree, application, no_trees, true_tree}
 use Rattle.fol_base.specs.Clause.{TreeLiteral, TreeClause}
 use Rattle.fol_base.specs.Examples.{x, a, b, c, f, p, q, equation, clause}
 use Rattle.fol_base.specs.Rules.{disequation}
 use Rattle.fol_base.specs.declared.clause.Side.TheVariants.{Left, Right}
 use Rattle.kernel_steps.specs.Parents.{Parent, Parents}
-use Rattle.kernel_steps.specs.Derivation.{complement, positive_of, negative_of, under_names}
+use Rattle.kernel_steps.specs.Derivation.{complement, under_names}
 use Rattle.kernel_steps.specs.FromTrees.{line_of}
 use Rattle.kernel_steps.specs.declared.step.TheConstants.{CLAUSE_NUMBERS}
 use Rattle.kernel_steps.specs.declared.step.Step.{Step}

@@ -12,6 +12,7 @@ pub mod Keys
 pub mod Named
 pub mod Sized
 pub mod Lines
+pub mod ParentNumbers
 pub mod Marks
 pub mod FromTrees
 pub mod Moves

@@ -3,10 +3,6 @@ use Rattle.std.specs.Prelude.{◌≡◌, ℕ, ◌+◌, ◌*◌, Bool, true, not,
 use Rattle.plain_types.specs.declared.sequence.NameLit.{NameLit}
 use Rattle.plain_types.specs.Names.{same_name, has_name, can_resolve, resolvent}
 
--- a name under a sign
-abbrev pub signed : Bool → ℕ → NameLit
-signed positive name = record { positive = positive; name = name }
-
 -- names rise by number, and of one name the negative one comes before the positive one
 abbrev pub name_before : NameLit → NameLit → Bool
 name_before n m = nat_lt n.name m.name || ((n.name == m.name) && (not n.positive && m.positive))

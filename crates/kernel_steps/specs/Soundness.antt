@@ -5,7 +5,7 @@ use mathlib.Core.Bool.{beq}
 use Rattle.std.specs.Prelude.{◌≡◌, ◌⊎◌, ℕ, Bool, ◌||◌, List, [], ◌∷◌, ◌++◌, map, Some, slice_get, All, Contains, if◌then◌else◌, IsTrue, IsFalse}
 use Rattle.std.specs.List.{list_any, list_all}
 use Rattle.plain_types.specs.declared.sequence.NameLit.{NameLit}
-use Rattle.plain_types.specs.Names.{has_name}
+use Rattle.plain_types.specs.Names.{has_name, positive_of, negative_of}
 use Rattle.fol_base.specs.Tree.{Tree}
 use Rattle.fol_base.specs.Clause.{TreeLiteral, TreeClause}
 use Rattle.fol_base.specs.Kind.{is_function_term}
@@ -19,7 +19,7 @@ use Rattle.fol_base.specs.Literal.{clause_of}
 use Rattle.fol_base.specs.Rules.{superposed, resolved, factored, merged}
 use Rattle.fol_base.specs.declared.clause.Side.{Side}
 use Rattle.kernel_steps.specs.Names.{chained}
-use Rattle.kernel_steps.specs.Derivation.{is_clause_step, negative_of, positive_of, body, IsDerivation, IsRefutation}
+use Rattle.kernel_steps.specs.Derivation.{is_clause_step, body, IsDerivation, IsRefutation}
 use Rattle.kernel_steps.specs.declared.step.Step.{Step}
 use Rattle.kernel_steps.specs.declared.step.Step.TheVariants.{Para, Refl, Factor, Merge}
 use Rattle.kernel_steps.specs.declared.step.Line.{Line}

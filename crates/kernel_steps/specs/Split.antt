@@ -21,7 +21,7 @@ abbrev pub rises_from : ℕ → List ℕ → Bool
 rises_from k [] = true
 rises_from k (j ∷ js) = nat_lt k j && rises_from j js
 
--- each number is less than those behind it
+-- each number is less than those after it
 abbrev pub is_rising : List ℕ → Bool
 is_rising [] = true
 is_rising (n ∷ ns) = rises_from n ns

@@ -13,7 +13,7 @@ use fol_base::{Clause, Literals};
 use plain_types::{NameLit, Names};
 use std::alloc::Global;
 
-/// What a chain gives: from the names of the first parent, resolution on each pivot in turn with the next parent.
+/// The conclusion of a chain: from the names of the first parent, resolution on each pivot in turn with the next parent.
 /// `Rule` exactly where the condition fails.
 pub fn chain<P: LendsParents>(
     alloc: Global,

@@ -26,7 +26,7 @@ use fol_base::{
 use plain_types::{NameLit, Names};
 use std::alloc::Global;
 
-/// What a step concludes from its parents, for para, refl, factor, merge, split and chain: the literals that the
+/// The conclusion of a step from its parents, for para, refl, factor, merge, split and chain: the literals that the
 /// rule gives, with the parents' names, sorted and each once. `Binding` exactly where a parent that is there has
 /// a binding that isn't right; else `Rule` exactly where a parent isn't there or the rule's condition fails.
 pub fn conclusion<P: LendsParents>(

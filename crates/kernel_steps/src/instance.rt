@@ -127,7 +127,7 @@ pub fn replaced_instance<T: LendsTerms>(
     replaced_under(alloc, term, bind, false, place, 0, new)
 }
 
-/// The same for the part of the place from `depth` on, of a term under the binding or bound already.
+/// The replaced term for the part of the place from `depth` on, of a term under the binding or bound already.
 fn replaced_under<T: LendsTerms>(
     alloc: Global,
     term: &Term,

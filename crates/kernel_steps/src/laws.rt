@@ -5,6 +5,7 @@ mod grounded;
 mod inference;
 mod named;
 mod names;
+mod parents;
 mod soundness;
 mod symbols;
 
@@ -19,6 +20,7 @@ pub use inference::{
 };
 pub use named::named_inference_examples;
 pub use names::names_are_sorted;
+pub use parents::parents_are_mapped;
 pub use soundness::{
     derivations_are_sound, ground_forms_are_grounded, herbrand_examples, refutations_refute,
     rules_are_sound,

@@ -1,8 +1,8 @@
 // Sets of signed names, for resolution from parent to parent.
 
 ghost use Rattle.std.specs.Prelude.{◌≡◌, ◌++◌, [], map, IfOk, IsTrue, if◌then◌else◌, Some, None};
-ghost use Rattle.plain_types.specs.Names.{has_name, without, can_resolve, resolvent};
-ghost use Rattle.kernel_steps.specs.Names.{signed, are_sorted, with_name, with_names, sorted_names};
+ghost use Rattle.plain_types.specs.Names.{has_name, without, can_resolve, resolvent, signed};
+ghost use Rattle.kernel_steps.specs.Names.{are_sorted, with_name, with_names, sorted_names};
 
 use crate::names::{has_name, sort_names};
 use plain_types::{Mem, NameLit, opposite};

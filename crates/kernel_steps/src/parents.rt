@@ -14,7 +14,7 @@ pub struct ParentRef<'a> {
     pub introduces: bool,
 }
 
-/// What lends the parents of steps by their numbers: the lines of a text, those of a pool, the clauses and
+/// A lender of the parents of steps by their numbers: the lines of a text, those of a pool, the clauses and
 /// lines of a batch.
 pub trait LendsParents {
     /// The parent of each number.

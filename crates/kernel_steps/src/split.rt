@@ -25,7 +25,7 @@ use plain_types::{Mem, NameLit, Names, Numbers, opposite};
 use std::alloc::Global;
 use std::collections::{HashMap, HashSet};
 
-/// What the split of a clause into parts gives: its names, and for each part the opposite of the name that its
+/// The conclusion of the split of a clause into parts: its names, and for each part the opposite of the name that its
 /// definition introduces. `Rule` exactly where the condition fails.
 pub fn split<P: LendsParents>(
     alloc: Global,

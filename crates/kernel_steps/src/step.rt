@@ -115,7 +115,7 @@ pub struct Line {
 /// Lines, in order.
 pub type Derivation = Sequence<Line>;
 
-/// What became of a clause that was handed in: the result, the lines that lead to it, and the numbers of the
+/// A clause that was handed in, reduced: the result, the lines that lead to it, and the numbers of the
 /// clauses that they use. In these lines a parent below `CLAUSE_NUMBERS` is a clause with that number,
 /// `CLAUSE_NUMBERS` is the clause that was handed in, and `CLAUSE_NUMBERS + 1 + i` is line i.
 #[derive(Drop)]

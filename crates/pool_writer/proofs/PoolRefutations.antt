@@ -14,15 +14,15 @@ use Rattle.kernel_steps.proofs.AboutCalls.LineLemmas.{last-there}
 use Rattle.clausal_form.specs.FormLaws.{use_of}
 use Rattle.tstp_writer.specs.WrittenLaws.{IsReadableRefutation}
 use Rattle.kernel_steps.specs.Lines.{is_plain_step}
-use Rattle.pool_core.specs.Derived.{ArePoolLines, LinesAreDerived, RefutedIsRefutation}
-use Rattle.pool_core.specs.Inputs.{AreInputs, IsUseOf, IsHistoryOf}
-use Rattle.pool_core.specs.Outcomes.{is_at_rest, heavy_or_saturated, outcome_by, outcome_of, is_of_living}
-use Rattle.pool_core.specs.Record.{PoolRecord}
-use Rattle.pool_core.specs.Replay.{Origin, replay}
-use Rattle.pool_core.specs.declared.event.Event.{Event}
-use Rattle.pool_core.specs.declared.outcome.Outcome.{Outcome}
-use Rattle.pool_core.specs.declared.outcome.Outcome.TheVariants.{Refuted}
-use Rattle.retracing.specs.Retraced.{steps_of, AreRefutingSteps, IsRetracing}
+use Rattle.pool_history.specs.Derived.{ArePoolLines, LinesAreDerived, RefutedIsRefutation}
+use Rattle.pool_history.specs.Inputs.{AreInputs, IsUseOf, IsHistoryOf}
+use Rattle.pool_history.specs.Outcomes.{is_at_rest, heavy_or_saturated, outcome_by, outcome_of, is_of_living}
+use Rattle.pool_history.specs.Record.{PoolRecord}
+use Rattle.pool_history.specs.Replay.{Origin, replay}
+use Rattle.pool_history.specs.declared.event.Event.{Event}
+use Rattle.pool_history.specs.declared.outcome.Outcome.{Outcome}
+use Rattle.pool_history.specs.declared.outcome.Outcome.TheVariants.{Refuted}
+use Rattle.pool_writer.specs.Retraced.{steps_of, AreRefutingSteps, IsRetracing}
 use Rattle.pool_writer.specs.Refuted.{IsPoolRefutation}
 use Rattle.pool_writer.proofs.FormUse.{form-used}
 use Rattle.pool_writer.proofs.ReadableLines.{plain-steps, readable-anew, plain-anew}

@@ -24,20 +24,20 @@ use Rattle.kernel_steps.specs.declared.step.Line.{Line}
 use Rattle.clausal_form.specs.FormFunctions.{is_predicate_in}
 use Rattle.clausal_form.specs.FormLaws.{use_of}
 use Rattle.tstp_writer.specs.ReadableLines.{is_symbol_in, is_term_over, IsReadable, IsReadableLine}
-use Rattle.pool_core.specs.Derived.{is_function_term_of, IsPlainLine, ArePoolLines}
-use Rattle.retracing.specs.Renumbered.{renumbered}
-use Rattle.retracing.specs.Retraced.{steps_of, AreRetraced}
-use Rattle.retracing.proofs.CarryLemmas.{property-carries_over}
+use Rattle.pool_history.specs.Derived.{is_function_term_of, IsPlainLine, ArePoolLines}
+use Rattle.kernel_steps.specs.ParentNumbers.{with_parents}
+use Rattle.pool_writer.specs.Retraced.{steps_of, AreRetraced}
+use Rattle.pool_writer.proofs.AboutRetracing.CarryLemmas.{property-carries_over}
 use Rattle.pool_writer.proofs.FormSymbols.{form-symbols-pass, truth-passes}
 use Rattle.pool_writer.proofs.FormUse.{literals-over}
 
 -- ---- steps
 
-renumbered-plain : (to : ℕ → ℕ) (step : Step) → is_plain_step (renumbered to step) ≡ is_plain_step step
+renumbered-plain : (to : ℕ → ℕ) (step : Step) → is_plain_step (with_parents to step) ≡ is_plain_step step
 renumbered-plain to (Clausify i) = refl
 renumbered-plain to _ = refl
 
-renumbered-binds : (test : Tree → Bool) (to : ℕ → ℕ) (step : Step) → binds_each test (renumbered to step) ≡ binds_each test step
+renumbered-binds : (test : Tree → Bool) (to : ℕ → ℕ) (step : Step) → binds_each test (with_parents to step) ≡ binds_each test step
 renumbered-binds test to (Clausify i) = refl
 renumbered-binds test to _ = refl
 
@@ -62,7 +62,7 @@ record IsPlain (symbols : List Symbol) (step : Step) (c : TreeClause) : Type 0 w
   known : clause_symbols_pass (is_symbol_in symbols) c ≡ true
   bound : binds_each (symbols_pass (is_symbol_in symbols)) step ≡ true
 
-renumbered-is-plain : (symbols : List Symbol) (to : ℕ → ℕ) (step : Step) (c : TreeClause) → IsPlain symbols step c → IsPlain symbols (renumbered to step) c
+renumbered-is-plain : (symbols : List Symbol) (to : ℕ → ℕ) (step : Step) (c : TreeClause) → IsPlain symbols step c → IsPlain symbols (with_parents to step) c
 renumbered-is-plain symbols to step c is = record {
   plain = renumbered-plain to step ∙ is.plain;
   no_names = is.no_names;

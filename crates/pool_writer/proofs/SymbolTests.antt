@@ -1,4 +1,4 @@
--- Tests of symbols at their places, and what passes: terms, literals and clauses.
+-- Lemmas: trees, literals and clauses whose symbols all pass a test, and those that are built of such.
 use Rattle.std.proofs.Common.{◌≡◌, ℕ, zero, suc, ◌+◌, Bool, true, List, [], ◌∷◌, ◌++◌, length, map, Some, refl, ap, sym, ◌∙◌, subst, arith}
 use Rattle.std.specs.Prelude.{slice_get}
 use Rattle.std.specs.List.{list_all}

@@ -1,3 +1,6 @@
+pub mod Retraced
+pub mod RetracedLaws
+pub mod RetracedExamples
 pub mod Refuted
 pub mod Saturation
 pub mod SaturationExamples

@@ -7,8 +7,8 @@ use Rattle.kernel_steps.specs.Derivation.{IsRefutation}
 use Rattle.kernel_steps.specs.declared.step.Step.{Step}
 use Rattle.kernel_steps.specs.declared.step.Line.{Line}
 use Rattle.clausal_form.specs.FormLaws.{use_of}
-use Rattle.pool_core.specs.Derived.{ArePoolLines}
-use Rattle.retracing.specs.Retraced.{IsRetracing}
+use Rattle.pool_history.specs.Derived.{ArePoolLines}
+use Rattle.pool_writer.specs.Retraced.{IsRetracing}
 use Rattle.tstp_writer.specs.Written.{IsWritten}
 
 -- The lines of the derivation that its last one needs, and the formulas that they stand on.

@@ -1,5 +1,6 @@
 -- Members, and what they are printed over.
 use Rattle.std.specs.Prelude.{ℕ, Bool, true, false, List, [], ◌∷◌, codes}
+use Rattle.plain_types.specs.Names.{negative_of}
 use Rattle.fol_base.specs.Tree.{Tree, variable, application, true_tree, trees_of}
 use Rattle.fol_base.specs.Clause.{TreeLiteral, TreeClause}
 use Rattle.fol_base.specs.Examples.{equation}
@@ -34,4 +35,4 @@ b_is_c = under_names (equation (constant 4) (constant 5) ∷ []) []
 
 -- two literals, asserted under a name
 abbrev pub asserted : TreeClause
-asserted = under_names (p false (constant 3) ∷ p true (f (variable 0)) ∷ []) (record { positive = false; name = 0 } ∷ [])
+asserted = under_names (p false (constant 3) ∷ p true (f (variable 0)) ∷ []) (negative_of 0 ∷ [])

@@ -105,7 +105,7 @@ fn push_numbers(page: &mut Page, numbers: &[u64]) -> Mem<()>
     }
 }
 
-/// Adds numbers, each behind a comma.
+/// Adds numbers, each after a comma.
 fn push_more_numbers(page: &mut Page, numbers: &[u64]) -> Mem<()>
     ensures { IfOk result (λ _. page.new ≡ page.old ++ commas_before (map decimal numbers.now)) }
 {

@@ -6,22 +6,22 @@ ghost use Rattle.tptp_tree.specs.ProblemSize.{HasProblemSize};
 ghost use Rattle.signature.specs.Form.{clausal_form};
 ghost use Rattle.clausal_form.specs.DerivationTexts.{IsAcceptedDerivation};
 ghost use Rattle.clausal_form.specs.Form.{form_of};
-ghost use Rattle.pool_core.specs.Outcomes.{outcome_of};
-ghost use Rattle.pool_core.specs.Replay.{replay};
-ghost use Rattle.pool_core.specs.declared.outcome.Outcome.TheVariants.{Refuted};
-ghost use Rattle.retracing.specs.Retraced.{steps_of};
+ghost use Rattle.pool_history.specs.Outcomes.{outcome_of};
+ghost use Rattle.pool_history.specs.Replay.{replay};
+ghost use Rattle.pool_history.specs.declared.outcome.Outcome.TheVariants.{Refuted};
+ghost use Rattle.pool_writer.specs.Retraced.{steps_of};
 ghost use Rattle.tstp_writer.specs.Printable.{IsShown};
 ghost use Rattle.tstp_writer.specs.ProblemLaws.{ArePrintableEntries};
 ghost use Rattle.pool_writer.specs.Refuted.{IsPoolRefutation, IsRefutationText};
 
+use crate::retrace::refutation;
 use clausal_form::Clausal;
 use plain_types::{Mem, Text};
 use pool_core::Pool;
-use pool_core::laws::{lines_are_derived, refuted_is_refutation};
-use retracing::refutation;
+use pool_history::laws::{lines_are_derived, refuted_is_refutation};
 use std::alloc::Global;
 use tptp_tree::Problem;
-use tstp_writer::write_lines;
+use tstp_writer::write_all_lines;
 
 /// The text of a refuted pool's derivation: of the lines that its last one needs, with the formulas of the problem that they stand on.
 /// The file is the name that is shown. It is an accepted derivation of the problem. Only the clauses of these lines are made.
@@ -43,8 +43,7 @@ pub fn write_refutation(
 {
     prove_refuted(problem, form, pool);
     let lines = refutation(alloc, &form.clauses, pool.derivation())?;
-    let last = lines.len() as u64 - 1;
-    write_lines(alloc, problem, form, &lines, last, file)
+    write_all_lines(alloc, problem, form, &lines, file)
 }
 
 /// The lines of a refuted pool are a refutation of the problem's form.

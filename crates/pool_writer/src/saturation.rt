@@ -3,8 +3,8 @@
 ghost use Rattle.std.specs.Prelude.{◌≡◌, ◌++◌, map, IfOk};
 ghost use Rattle.term_bank.specs.Bank.{identity};
 ghost use Rattle.bank_clause.specs.Clause.{AreMembersOf, IsMemberOf, clause_at};
-ghost use Rattle.pool_core.specs.Replay.{replay};
-ghost use Rattle.pool_core.specs.Saturated.{members_of};
+ghost use Rattle.pool_history.specs.Replay.{replay};
+ghost use Rattle.pool_history.specs.Saturated.{members_of};
 ghost use Rattle.tptp_tree.specs.Printing.{formula_text};
 ghost use Rattle.tstp_writer.specs.ClauseTrees.{literal_formula, one_of};
 ghost use Rattle.pool_writer.specs.Saturation.{member_text, saturation_text};
@@ -19,7 +19,7 @@ use std::alloc::Global;
 use term_bank::Bank;
 use tstp_writer::{Page, push_clause};
 
-/// The names behind a clause's literals begin so. Members are printed without names.
+/// The names after a clause's literals begin so. Members are printed without names.
 const NAME_PREFIX: &[u8] = b"spl";
 
 /// A line for each living awake clause, in the order of their numbers: `cnf(s0,plain,p(X0)).` and so on. The clauses stand without the

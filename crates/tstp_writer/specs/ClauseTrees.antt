@@ -1,4 +1,4 @@
--- The formulas as which clauses are written: literals, and names behind them.
+-- The formulas as which clauses are written: literals, and names after them.
 use Rattle.std.specs.Prelude.{ℕ, ◌==◌, List, [], ◌∷◌, ◌++◌, map, codes, option_map, unwrap_or, slice_get, if◌then◌else◌}
 use Rattle.std.specs.Fmt.{decimal}
 use Rattle.plain_types.specs.declared.sequence.NameLit.{NameLit}

@@ -1,6 +1,7 @@
 -- A clause that is split into two parts, the second by an opposite line, among lines of which one isn't needed.
 use Rattle.std.specs.Prelude.{List, [], ◌∷◌}
-use Rattle.kernel_steps.specs.Derivation.{positive_of, negative_of, complement}
+use Rattle.plain_types.specs.Names.{positive_of, negative_of}
+use Rattle.kernel_steps.specs.Derivation.{complement}
 use Rattle.kernel_steps.specs.Examples.{p₀, q₀, halves, line, named_line}
 use Rattle.kernel_steps.specs.declared.step.Step.TheVariants.{Clausify, Component, Opposite, Split}
 use Rattle.kernel_steps.specs.declared.step.Line.{Line}

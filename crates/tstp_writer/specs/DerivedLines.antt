@@ -1,4 +1,4 @@
--- A line of a derivation that can be read again is taken when it is read, behind lines among which its parents are.
+-- A line of a derivation that can be read again is taken when it is read, after lines among which its parents are.
 use Rattle.std.specs.Prelude.{◌≡◌, ℕ, true, false, List, ◌++◌, map, take, length, Some, slice_get, bytes_eq, IsTrue}
 use Rattle.std.specs.List.{list_any, AllByRecursion}
 use Rattle.plain_types.specs.declared.sequence.NameLit.{NameLit}

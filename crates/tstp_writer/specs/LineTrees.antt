@@ -172,7 +172,7 @@ status_word (Clausify i) = codes "esa"
 status_word (Split parent definitions parts) = codes "esa"
 status_word _ = codes "thm"
 
--- the items behind the status
+-- the items after the status
 abbrev pub step_items : Script → Step → List GeneralTree
 step_items script (Clausify i) = word_of (codes "index") (number_item i ∷ []) ∷ []
 step_items script (Para first second from from_side into into_side place first_bind second_bind) =

@@ -11,12 +11,12 @@ use Rattle.tstp_writer.specs.ClauseTrees.{introduced_name}
 abbrev pub signed_name_text : List ℕ → NameLit → List ℕ
 signed_name_text prefix n = (if n.positive then [] else codes "~") ++ introduced_name prefix n.name
 
--- names, each behind a bar
+-- names, each after a bar
 abbrev pub more_names_text : List ℕ → List NameLit → List ℕ
 more_names_text prefix [] = []
 more_names_text prefix (n ∷ ns) = codes " | " ++ signed_name_text prefix n ++ more_names_text prefix ns
 
--- terms, each behind a comma
+-- terms, each after a comma
 abbrev pub more_items_text : List GeneralTree → List ℕ
 more_items_text ts = commas_before (map general_text ts)
 

@@ -30,7 +30,7 @@ IsUnsigned Unsigned = Unit {0}
 IsUnsigned Plus = ⊥
 IsUnsigned Minus = ⊥
 
--- The general terms that a derivation is written with: variables, words with arguments, words behind `~`, numbers of digits alone, and
+-- The general terms that a derivation is written with: variables, words with arguments, words after `~`, numbers of digits alone, and
 -- lists.
 abbrev mutual
   pub IsWritable : GeneralTree → Type 0

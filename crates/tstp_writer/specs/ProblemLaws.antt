@@ -15,7 +15,7 @@ use Rattle.tptp_tree.specs.Levels.{formula_levels}
 use Rattle.tstp_writer.specs.LineTrees.{Script, script_of, is_conjecture_at, Layout, layout_of, line_name, cited_name, negated_name, input_tree, negate_tree, input_at, negate_at}
 use Rattle.tstp_writer.specs.Printable.{IsShown, IsFormOf, IsPrintable}
 
--- The levels that a printed formula may have: twice those of a text that was read, since what stood behind `~` without brackets may
+-- The levels that a printed formula may have: twice those of a text that was read, since what stood after `~` without brackets may
 -- stand in parentheses.
 abbrev pub most_printed_levels : ℕ
 most_printed_levels = 2 * MOST_PRINTED_NESTING

@@ -1,17 +1,17 @@
 -- A line with variables and equations: from f(X) = a | f(Y) = b, by factoring, a != b | f(X) = b; and lines with names.
 use Rattle.std.specs.Prelude.{ℕ, true, List, [], ◌∷◌, codes}
+use Rattle.plain_types.specs.Names.{positive_of, negative_of}
 use Rattle.fol_base.specs.Tree.{Tree, variable, application, trees_of}
 use Rattle.fol_base.specs.Clause.{TreeClause}
 use Rattle.fol_base.specs.Rules.{disequation}
 use Rattle.fol_base.specs.declared.clause.Side.TheVariants.{Left}
 use Rattle.signature.specs.declared.symbol.Symbol.{Symbol}
 use Rattle.signature.specs.Symbol.{true_symbol, function_symbol}
-use Rattle.kernel_steps.specs.Derivation.{positive_of, negative_of}
 use Rattle.kernel_steps.specs.declared.step.Step.{Step}
 use Rattle.kernel_steps.specs.declared.step.Step.TheVariants.{Refl, Factor, Split}
 use Rattle.tstp_writer.specs.LineTrees.{Script, Layout}
 
--- f, a and b, behind `$true`
+-- f, a and b, after `$true`
 abbrev pub symbols : List Symbol
 symbols = true_symbol ∷ function_symbol (codes "f") 1 ∷ function_symbol (codes "a") 0 ∷ function_symbol (codes "b") 0 ∷ []
 
@@ -43,7 +43,7 @@ split_step = Split 0 (1 ∷ 2 ∷ []) ((0 ∷ []) ∷ (1 ∷ []) ∷ [])
 abbrev pub split_clause : TreeClause
 split_clause = record { literals = []; names = positive_of 2 ∷ positive_of 5 ∷ [] }
 
--- the factor line is line 1, behind its parent
+-- the factor line is line 1, after its parent
 abbrev pub script : Script
 script = record { file = codes "f.p"; formulas = []; symbols = symbols; origins = []; prefix = codes "spl" }
 

@@ -111,7 +111,7 @@ abbrev pub written_place : Layout → ℕ → ℕ
 written_place layout n = length layout.cited + length layout.negated + place_in n layout.numbers
 
 -- Variables are read by their first places. Those of a canonical clause keep their numbers; those that the step's terms alone have are
--- numbered behind them.
+-- numbered after them.
 abbrev pub read_renaming : Step → TreeClause → Substitution
 read_renaming step c = renaming (distinct (line_variables step c))
 

@@ -1,5 +1,6 @@
 -- Three worked derivations as the kernel has them, and their texts.
 use Rattle.std.specs.Prelude.{ℕ, Bool, true, false, List, [], ◌∷◌, ◌++◌, codes}
+use Rattle.plain_types.specs.Names.{positive_of, negative_of}
 use Rattle.fol_base.specs.Tree.{Tree, variable, application, true_tree, trees_of}
 use Rattle.fol_base.specs.Clause.{TreeLiteral}
 use Rattle.fol_base.specs.declared.clause.Side.TheVariants.{Left}
@@ -8,7 +9,6 @@ use Rattle.tptp_tree.specs.Formula.{FormulaTree, predicate, negation}
 use Rattle.tptp_tree.specs.declared.role.Role.TheVariants.{Axiom}
 use Rattle.tptp_tree.specs.declared.problem.Annotated.{Annotated}
 use Rattle.kernel_steps.specs.Names.{sorted_names}
-use Rattle.kernel_steps.specs.Derivation.{positive_of, negative_of}
 use Rattle.kernel_steps.specs.Examples.{line, named_line}
 use Rattle.kernel_steps.specs.declared.step.Step.{Step}
 use Rattle.kernel_steps.specs.declared.step.Step.TheVariants.{Clausify, Para, Refl, Component, Opposite, Split, Chain}

@@ -1,6 +1,6 @@
-// How clauses are printed: terms, literals, and the names behind them.
+// How clauses are printed: terms, literals, and the names after them.
 
-ghost use Rattle.std.specs.Prelude.{◌≡◌, ◌<◌, ◌++◌, ◌∷◌, codes, drop, length, map, IfOk, IsTrue};
+ghost use Rattle.std.specs.Prelude.{◌≡◌, ◌<◌, ◌++◌, ◌∷◌, codes, drop, length, map, IfOk, OnErr, IsTrue};
 ghost use Rattle.fol_base.specs.Tree.{trees_of};
 ghost use Rattle.fol_base.specs.Term.{tree_of};
 ghost use Rattle.fol_base.specs.Lent.{lent_of};
@@ -143,7 +143,7 @@ pub(crate) fn push_signed_name(page: &mut Page, prefix: &[u8], name: NameLit) ->
     push_introduced_name(page, prefix, name.name)
 }
 
-/// Adds the names of a clause behind its literals.
+/// Adds the names of a clause after its literals.
 fn push_more_names(page: &mut Page, prefix: &[u8], names: &[NameLit]) -> Mem<()>
     ensures { IfOk result (λ _. page.new ≡ page.old ++ more_names_text prefix.now names.now) }
 {
@@ -155,8 +155,26 @@ fn push_more_names(page: &mut Page, prefix: &[u8], names: &[NameLit]) -> Mem<()>
 }
 
 /// Adds a clause: its literals, then its names, and `$false` where there are neither. The literals are lent, so that a clause of a bank
-/// isn't copied to be printed.
+/// isn't copied to be printed. Out of memory, nothing is added.
 pub fn push_clause<L: LendsLiterals>(
+    page: &mut Page,
+    symbols: &[Symbol],
+    prefix: &[u8],
+    literals: &L,
+    names: &[NameLit],
+) -> Mem<()>
+    requires { IsTrue (is_lower_word prefix.now) }
+    ensures added { IfOk result (λ _. page.new ≡ page.old ++ formula_text (clause_formula symbols.now prefix.now
+        (record { literals = L.meaning literals.now; names = names.now }))) }
+    ensures unchanged { OnErr result (page.new ≡ page.old) }
+{
+    let mut part = page.part();
+    push_whole_clause(&mut part, symbols, prefix, literals, names)?;
+    page.bytes(part.as_slice())
+}
+
+/// Adds a clause. Out of memory, a part of it may have been added.
+pub(crate) fn push_whole_clause<L: LendsLiterals>(
     page: &mut Page,
     symbols: &[Symbol],
     prefix: &[u8],

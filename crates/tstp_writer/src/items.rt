@@ -1,6 +1,6 @@
-// How the items of an inference are printed, each behind a comma.
+// How the items of an inference are printed, each after a comma.
 
-ghost use Rattle.std.specs.Prelude.{◌≡◌, ◌++◌, [], ◌∷◌, codes, map, IfOk, IsTrue};
+ghost use Rattle.std.specs.Prelude.{◌≡◌, ◌++◌, [], ◌∷◌, codes, map, IfOk, OnErr, IsTrue};
 ghost use Rattle.std.specs.Fmt.{decimal};
 ghost use Rattle.fol_base.specs.Term.{tree_of};
 ghost use Rattle.kernel_steps.specs.Keys.{side_word, commas_before, with_commas};
@@ -29,8 +29,18 @@ fn push_side(page: &mut Page, side: Side) -> Mem<()>
     }
 }
 
-/// Adds a literal's number and the word for a side of it, with a comma between them.
+/// Adds a literal's number and the word for a side of it, with a comma between them. Out of memory, nothing is added.
 pub fn push_chosen(page: &mut Page, index: u64, side: Side) -> Mem<()>
+    ensures added { IfOk result (λ _. page.new ≡ page.old ++ (decimal index ++ codes "," ++ side_word side)) }
+    ensures unchanged { OnErr result (page.new ≡ page.old) }
+{
+    let mut part = page.part();
+    push_index_and_side(&mut part, index, side)?;
+    page.bytes(part.as_slice())
+}
+
+/// Adds them. Out of memory, a part may have been added.
+fn push_index_and_side(page: &mut Page, index: u64, side: Side) -> Mem<()>
     ensures { IfOk result (λ _. page.new ≡ page.old ++ (decimal index ++ codes "," ++ side_word side)) }
 {
     page.number(index)?;
@@ -118,7 +128,7 @@ pub(crate) fn push_side_of_literal(page: &mut Page, index: u64, side: Side) -> M
     ensures { IfOk result (λ _. page.new ≡ page.old ++ (codes "," ++ general_text (side_of_literal_item index side))) }
 {
     page.bytes(b",lit(")?;
-    push_chosen(page, index, side)?;
+    push_index_and_side(page, index, side)?;
     page.bytes(b")")
 }
 
@@ -127,7 +137,7 @@ pub(crate) fn push_from(page: &mut Page, index: u64, side: Side) -> Mem<()>
     ensures { IfOk result (λ _. page.new ≡ page.old ++ (codes "," ++ general_text (from_item index side))) }
 {
     page.bytes(b",from(")?;
-    push_chosen(page, index, side)?;
+    push_index_and_side(page, index, side)?;
     page.bytes(b")")
 }
 
@@ -136,7 +146,7 @@ pub(crate) fn push_into(page: &mut Page, index: u64, side: Side, place: &[u64]) 
     ensures { IfOk result (λ _. page.new ≡ page.old ++ (codes "," ++ general_text (into_item index side place.now))) }
 {
     page.bytes(b",into(")?;
-    push_chosen(page, index, side)?;
+    push_index_and_side(page, index, side)?;
     page.bytes(b",[")?;
     push_numbers(page, place)?;
     page.bytes(b")")

@@ -1,9 +1,9 @@
 // The laws of the definitions, and worked examples: each is the contract of a function without arguments and with an empty body.
 
 ghost use Rattle.std.specs.Prelude.{◌≡◌, true, false, [], ◌∷◌, codes};
+ghost use Rattle.plain_types.specs.Names.{positive_of};
 ghost use Rattle.clausal_form.specs.DerivationExamples as example;
 ghost use Rattle.kernel_steps.specs.Examples.{halves, line};
-ghost use Rattle.kernel_steps.specs.Derivation.{positive_of};
 ghost use Rattle.kernel_steps.specs.declared.step.Step.TheVariants.{Component, Opposite, Split, Chain, Clausify};
 ghost use Rattle.tstp_writer.specs.Cone.{needs, IsCone};
 ghost use Rattle.tstp_writer.specs.ConeExamples.{split_lines};
@@ -83,7 +83,7 @@ pub fn factor_line_examples()
     ensures numbers { NumbersFit factor.factor_step factor.factor_clause }
 {}
 
-/// A canonical clause keeps its variables when its line is read. A variable that a bound term alone has is numbered behind them.
+/// A canonical clause keeps its variables when its line is read. A variable that a bound term alone has is numbered after them.
 pub fn read_variable_examples()
     ensures of_clause { read_terms (read_renaming factor.factor_step factor.factor_clause) (variable 0 ∷ []) ≡ variable 0 ∷ [] }
     ensures alone { read_terms (read_renaming factor.other_step factor.factor_clause) (variable 7 ∷ variable 0 ∷ []) ≡ variable 1 ∷ variable 0 ∷ [] }
@@ -126,7 +126,7 @@ pub fn readable_derivations_are_spelled()
     ensures texts { ReadableDerivationsAreSpelled }
 {}
 
-/// A line of a derivation that can be read again is taken when it is read, behind lines among which its parents are.
+/// A line of a derivation that can be read again is taken when it is read, after lines among which its parents are.
 pub fn derived_lines_are_taken()
     ensures { DerivedLinesAreTaken }
 {}

@@ -35,7 +35,7 @@ impl Model for Layout {
 }
 
 impl Layout {
-    /// The lines of these. Over 2^64 lines are want of memory.
+    /// The lines of these. Over 2^64 lines are answered by out of memory.
     pub(crate) fn of(cited: Places, negated: Places, numbers: Places) -> Mem<Layout>
         ensures layout { IfOk result (λ layout. layout ≡ record { cited = cited; negated = negated; numbers = numbers }) }
         ensures counted { IfOk result (λ layout. IsCounted layout) }

@@ -1,6 +1,6 @@
 // How the lines of a derivation are printed.
 
-ghost use Rattle.std.specs.Prelude.{◌≡◌, ◌++◌, codes, not, IfOk, IsTrue};
+ghost use Rattle.std.specs.Prelude.{◌≡◌, ◌++◌, codes, not, IfOk, OnErr, IsTrue};
 ghost use Rattle.fol_base.specs.Literal.{clause_of};
 ghost use Rattle.tptp_token.specs.Spelling.{is_lower_word};
 ghost use Rattle.tptp_tree.specs.Entries.{language_word, role_word};
@@ -14,7 +14,7 @@ ghost use Rattle.tstp_writer.specs.LineTrees.{line_name, named, input_tree, nega
 ghost use Rattle.tstp_writer.specs.NameTexts.{head_text};
 ghost use Rattle.tstp_writer.specs.Scripts.{script_in};
 
-use crate::clauses::push_clause;
+use crate::clauses::push_whole_clause;
 use crate::layout::{Layout, push_line_name};
 use crate::page::Page;
 use crate::script::Script;
@@ -36,9 +36,10 @@ fn push_head(page: &mut Page, clause: bool, number: u64, role: Role) -> Mem<()>
     page.bytes(b",")
 }
 
-/// Adds a formula's name: bare where it is a lower word or of digits alone, else quoted.
+/// Adds a formula's name: bare where it is a lower word or of digits alone, else quoted. Out of memory, nothing is added.
 pub fn push_formula_name(page: &mut Page, name: &[u8]) -> Mem<()>
-    ensures { IfOk result (λ _. page.new ≡ page.old ++ formula_name_text name.now) }
+    ensures added { IfOk result (λ _. page.new ≡ page.old ++ formula_name_text name.now) }
+    ensures unchanged { OnErr result (page.new ≡ page.old) }
 {
     page.formula_name(name)
 }
@@ -135,7 +136,7 @@ pub(crate) fn push_clause_line(
         (step_source (script_in script.entry) layout.now line.now.step))) }
 {
     push_head(page, true, number, Role::Plain)?;
-    push_clause(
+    push_whole_clause(
         page,
         script.symbols,
         script.prefix,

@@ -50,7 +50,7 @@ fn status_word(step: &Step) -> &'static [u8]
     }
 }
 
-/// Adds the items of a step's inference behind its status.
+/// Adds the items of a step's inference after its status.
 fn push_items(page: &mut Page, script: Script<'_>, step: &Step) -> Mem<()>
     requires { IsTrue (is_lower_word script.prefix.now) }
     ensures { IfOk result (λ _. page.new ≡ page.old ++ more_items_text (step_items (script_in script.entry) step.now)) }
@@ -144,7 +144,7 @@ fn push_all_parents(page: &mut Page, layout: &Layout, parents: &[u64]) -> Mem<()
     }
 }
 
-/// Adds the names of lines, each behind a comma.
+/// Adds the names of lines, each after a comma.
 fn push_more_parents(page: &mut Page, layout: &Layout, parents: &[u64]) -> Mem<()>
     ensures { IfOk result (λ _. page.new ≡ page.old ++ commas_before (map (derived_name layout.now) parents.now)) }
 {
@@ -154,7 +154,7 @@ fn push_more_parents(page: &mut Page, layout: &Layout, parents: &[u64]) -> Mem<(
     Ok(())
 }
 
-/// Adds the name of a line behind a comma.
+/// Adds the name of a line after a comma.
 fn push_next_parent(page: &mut Page, layout: &Layout, parent: u64) -> Mem<()>
     ensures { IfOk result (λ _. page.new ≡ page.old ++ (codes "," ++ derived_name layout.now parent)) }
 {

@@ -7,7 +7,7 @@ use Rattle.std.proofs.lemmas.Bool.{and_parts, and_from, and_left, and_right, cas
 use Rattle.std.proofs.lemmas.List.Elements.{recursion_from_All, All-weaker}
 use Rattle.std.proofs.lemmas.Option.{none-some, same_Some}
 use Rattle.plain_types.specs.declared.sequence.NameLit.{NameLit}
-use Rattle.plain_types.specs.Names.{same_name, has_name, can_resolve, resolvent}
+use Rattle.plain_types.specs.Names.{same_name, has_name, can_resolve, resolvent, positive_of, negative_of}
 use Rattle.fol_base.specs.Clause.{TreeClause}
 use Rattle.fol_base.specs.Ground.{GroundClause, GroundInstance}
 use Rattle.fol_base.specs.Symbols.{FunctionSymbols}
@@ -15,7 +15,6 @@ use Rattle.fol_base.specs.Interpretation.{Interpretation, clause_true}
 use Rattle.fol_base.specs.Covered.{InstanceOf}
 use Rattle.fol_base.proofs.WorkedExamples.TestLemmas.{if_some}
 use Rattle.kernel_steps.specs.Names.{sorted_names, chained_from, chained}
-use Rattle.kernel_steps.specs.Derivation.{negative_of, positive_of}
 use Rattle.kernel_steps.specs.Soundness.{IsUsable, IsChoice}
 use Rattle.kernel_steps.proofs.AboutGrounding.GroundedLemmas.{Supports, Supports-instance, Supports-then, Supports-more, Supports-each, all_true-or}
 use Rattle.kernel_steps.proofs.AboutGrounding.GroundedLemmasNames.{AreAmong, AreAmong-sorted, IsUsable-among, IsChoice-among, name_that_passes, list_any-name, chosen_name_true, chosen_true, chosen_true-among, resolvent-first, resolvent-second}

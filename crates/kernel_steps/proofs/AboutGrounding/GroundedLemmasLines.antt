@@ -3,7 +3,7 @@ use Rattle.std.proofs.Common.{◌≡◌, ℕ, zero, suc, ◌<◌, inl, inr, Bool
 use Rattle.std.specs.Prelude.{slice_get, unwrap_or, Contains}
 use Rattle.std.specs.List.{list_all}
 use Rattle.std.proofs.lemmas.Bool.{or_left, eq-eqb, false≢true, false_from_ne_true}
-use Rattle.plain_types.specs.Names.{has_name}
+use Rattle.plain_types.specs.Names.{has_name, positive_of, negative_of}
 use Rattle.fol_base.specs.Tree.{Tree}
 use Rattle.fol_base.specs.Clause.{TreeClause}
 use Rattle.fol_base.specs.Literal.{clause_of}
@@ -14,7 +14,7 @@ use Rattle.fol_base.proofs.AboutClauses.MeaningLemmas.{constants_give_ground_tre
 use Rattle.fol_base.proofs.WorkedExamples.TestLemmas.{list_all-item}
 use Rattle.kernel_steps.specs.Parents.{Parent}
 use Rattle.kernel_steps.specs.Conclusion.{empty_clause}
-use Rattle.kernel_steps.specs.Derivation.{is_clause_step, introduces_name, line_parents, negative_of, positive_of, is_component_of, component_clause, body, complement, ComesBy, IsDerivation}
+use Rattle.kernel_steps.specs.Derivation.{is_clause_step, introduces_name, line_parents, is_component_of, component_clause, body, complement, ComesBy, IsDerivation}
 use Rattle.kernel_steps.specs.Soundness.{bindings_of, binds_each, BindsOver, IsUsable, Grounds, IsGrounded, LinesAreGrounded, RefutationsHerbrandRefute}
 use Rattle.kernel_steps.specs.declared.step.Step.{Step}
 use Rattle.kernel_steps.specs.declared.step.Step.TheVariants.{Input, Negate, Clausify, Component, Opposite}

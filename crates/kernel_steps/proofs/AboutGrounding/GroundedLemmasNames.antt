@@ -1,30 +1,19 @@
 -- Lists of names, and the choices of ground instances for the positive ones.
-use mathlib.Core.Bool.{beq}
-use Rattle.std.proofs.Common.{◌≡◌, ℕ, inl, inr, Bool, true, false, ◌&&◌, ◌||◌, ◌==◌, List, [], ◌∷◌, ◌++◌, refl, ap, sym, ◌∙◌, ⊎_elim}
+use Rattle.std.proofs.Common.{◌≡◌, ℕ, inl, inr, Bool, true, false, ◌&&◌, ◌||◌, List, [], ◌∷◌, ◌++◌, refl, ap, sym, ◌∙◌, ⊎_elim}
 use Rattle.std.specs.Prelude.{not, if◌then◌else◌}
 use Rattle.std.specs.List.{list_any}
-use Rattle.std.proofs.lemmas.Bool.{and_from, or_cases, or_left, or_right, eq-eqb, false≢true, not_from_false, cond_both, cond-true}
+use Rattle.std.proofs.lemmas.Bool.{and_from, or_cases, or_left, or_right, false≢true, not_from_false}
 use Rattle.std.proofs.lemmas.List.Folds.{list_any-append}
 use Rattle.plain_types.specs.declared.sequence.NameLit.{NameLit}
-use Rattle.plain_types.specs.Names.{same_name, opposite, has_name, without, resolvent}
+use Rattle.plain_types.specs.Names.{same_name, opposite, has_name, without, resolvent, positive_of, negative_of}
+use Rattle.plain_types.proofs.NameLemmas.{same_name-refl, same_name-true, has_name-without}
 use Rattle.fol_base.specs.Clause.{TreeClause}
 use Rattle.fol_base.specs.Ground.{GroundClause}
 use Rattle.fol_base.specs.Symbols.{FunctionSymbols}
 use Rattle.fol_base.specs.Interpretation.{Interpretation, literal_true_under, no_values, clause_true}
 use Rattle.kernel_steps.specs.Names.{sorted_names}
-use Rattle.kernel_steps.specs.Derivation.{negative_of, positive_of}
-use Rattle.kernel_steps.proofs.AboutNames.NameTruth.{same_name-says, has_name-sorted_names}
+use Rattle.kernel_steps.proofs.AboutNames.NameTruth.{has_name-sorted_names}
 use Rattle.kernel_steps.specs.Soundness.{IsUsable, IsChoice, chosen_literals}
-
--- ---- one name
-
-beq-itself : (b : Bool) → beq b b ≡ true
-beq-itself true = refl
-beq-itself false = refl
-
-same_name-itself : (n : NameLit) → same_name n n ≡ true
-same_name-itself n =
-    and_from (beq n.positive n.positive) (n.name == n.name) (beq-itself n.positive) (eq-eqb n.name n.name refl)
 
 -- ---- names in lists
 
@@ -34,7 +23,7 @@ pub list_any-name :
 list_any-name p n [] has passes = absurd (false≢true has)
 list_any-name p n (m ∷ ms) has passes =
     ⊎_elim
-    (λ here. or_left (p m) (list_any p ms) (ap p (sym (same_name-says n m here)) ∙ passes))
+    (λ here. or_left (p m) (list_any p ms) (ap p (sym (same_name-true n m here)) ∙ passes))
     (λ later. or_right (p m) (list_any p ms) (list_any-name p n ms later passes))
     (or_cases (same_name n m) (has_name n ms) has)
 
@@ -45,7 +34,7 @@ pub name_that_passes :
 name_that_passes p [] some = absurd (false≢true some)
 name_that_passes p (m ∷ ms) some =
     ⊎_elim
-    (λ here. (m, or_left (same_name m m) (has_name m ms) (same_name-itself m), here))
+    (λ here. (m, or_left (same_name m m) (has_name m ms) (same_name-refl m), here))
     (λ later. let it = name_that_passes p ms later in (it.0, or_right (same_name it.0 m) (has_name it.0 ms) it.1, it.2))
     (or_cases (p m) (list_any p ms) some)
 
@@ -72,19 +61,9 @@ AreAmong-sorted ns n has = has_name-sorted_names n ns ∙ has
 without-keeps :
     (n : NameLit) (ns : List NameLit) (k : NameLit)
     → has_name k ns ≡ true → same_name n k ≡ false → has_name k (without n ns) ≡ true
-without-keeps n [] k has other = has
-without-keeps n (m ∷ ms) k has other =
-    ⊎_elim
-    (λ here.
-    ap (has_name k)
-    (cond-true (not (same_name n m)) (m ∷ without n ms) (without n ms)
-    (not_from_false (same_name n m) (ap (same_name n) (sym (same_name-says k m here)) ∙ other)))
-    ∙ or_left (same_name k m) (has_name k (without n ms)) here)
-    (λ later.
-    cond_both (not (same_name n m)) (m ∷ without n ms) (without n ms) (λ ks. has_name k ks ≡ true)
-    (λ stays. or_right (same_name k m) (has_name k (without n ms)) (without-keeps n ms k later other))
-    (λ goes. without-keeps n ms k later other))
-    (or_cases (same_name k m) (has_name k ms) has)
+without-keeps n ns k has other =
+    has_name-without n k ns
+    ∙ and_from (has_name k ns) (not (same_name n k)) has (not_from_false (same_name n k) other)
 
 -- all names but the pivot stay, and all but its opposite
 pub resolvent-first :

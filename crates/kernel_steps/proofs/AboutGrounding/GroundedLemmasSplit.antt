@@ -6,7 +6,7 @@ use Rattle.std.specs.List.{list_all, AllByRecursion}
 use Rattle.std.proofs.lemmas.Bool.{and_parts, or_left, or_right, cases_Bool, eq-eqb, false≢true, cond_both, cond-true, cond-false}
 use Rattle.std.proofs.lemmas.List.{map-append}
 use Rattle.plain_types.specs.declared.sequence.NameLit.{NameLit}
-use Rattle.plain_types.specs.Names.{opposite, has_name}
+use Rattle.plain_types.specs.Names.{opposite, has_name, positive_of, negative_of}
 use Rattle.fol_base.specs.Instance.{Substitution}
 use Rattle.fol_base.specs.Clause.{TreeLiteral, TreeClause, literals_eq, literal_variables}
 use Rattle.fol_base.specs.Ground.{ground_over, IsGroundOver, GroundClause, GroundInstance, is_ground_literal, literals_instance}
@@ -16,7 +16,7 @@ use Rattle.fol_base.proofs.AboutInstances.InstanceLemmas.{Agree, literals-agree}
 use Rattle.fol_base.proofs.AboutInstances.GroundInstanceLemmas.{ground_instances_of_canonical}
 use Rattle.kernel_steps.specs.Parents.{Parent}
 use Rattle.kernel_steps.specs.Split.{has_number, share_variable, share_no_variables, canonical_literals, defines, are_defined}
-use Rattle.kernel_steps.specs.Derivation.{negative_of, positive_of, complement}
+use Rattle.kernel_steps.specs.Derivation.{complement}
 use Rattle.kernel_steps.specs.Soundness.{IsUsable, IsChoice}
 use Rattle.kernel_steps.proofs.AboutGrounding.GroundTrees.{one_literal-ground}
 use Rattle.kernel_steps.proofs.AboutSoundness.RuleTruth.{complement-truth}

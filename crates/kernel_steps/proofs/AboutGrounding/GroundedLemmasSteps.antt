@@ -6,7 +6,7 @@ use Rattle.std.proofs.lemmas.Bool.{and_parts, or_cases, or_left, or_right, false
 use Rattle.std.proofs.lemmas.Option.{same_Some, option_and_then_some}
 use Rattle.std.proofs.lemmas.List.Folds.{list_any-append}
 use Rattle.plain_types.specs.declared.sequence.NameLit.{NameLit}
-use Rattle.plain_types.specs.Names.{opposite}
+use Rattle.plain_types.specs.Names.{opposite, negative_of}
 use Rattle.fol_base.specs.Tree.{Tree, variable}
 use Rattle.fol_base.specs.Instance.{Substitution, substitution}
 use Rattle.fol_base.specs.Clause.{TreeLiteral, TreeClause, literal_instance, clause_variables}
@@ -21,7 +21,6 @@ use Rattle.kernel_steps.specs.Names.{sorted_names, chained}
 use Rattle.kernel_steps.specs.Parents.{Parent, Parents}
 use Rattle.kernel_steps.specs.Split.{share_out, literals_at}
 use Rattle.kernel_steps.specs.Conclusion.{bound_literals, concludes, clause_with, by_one, by_two, names_alone, names_at, clause_of_names, verdict}
-use Rattle.kernel_steps.specs.Derivation.{negative_of}
 use Rattle.kernel_steps.specs.Soundness.{bindings_of, IsUsable, IsChoice, chosen_literals, IsGrounded}
 use Rattle.kernel_steps.specs.declared.step.Step.{Step}
 use Rattle.kernel_steps.specs.declared.step.Step.TheVariants.{Input, Negate, Clausify, Para, Refl, Factor, Merge, Component, Opposite, Split, Chain}

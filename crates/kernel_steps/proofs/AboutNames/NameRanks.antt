@@ -1,12 +1,12 @@
 -- The order of signed names by their ranks. A sorted list is determined by which names it has.
 use Rattle.std.proofs.Common.{◌≡◌, ℕ, ◌+◌, ◌*◌, ◌<◌, ◌≤◌, Bool, true, false, not, ◌&&◌, ◌||◌, ◌==◌, nat_lt, List, [], ◌∷◌, refl, ap, sym, ◌∙◌, ⊎_elim, arith}
-use mathlib.Core.Bool.{beq}
 use Rattle.std.specs.Prelude.{if◌then◌else◌}
 use Rattle.std.proofs.lemmas.Bool.{and_parts, and_from, or_cases, or_left, or_right, cases_Bool, cases_order, true≢false, eq-eqb, ne_eqb, lt-ltb, le-ltb, ltb-true}
 use Rattle.plain_types.specs.declared.sequence.NameLit.{NameLit}
 use Rattle.plain_types.specs.Names.{same_name, has_name, without}
+use Rattle.plain_types.proofs.NameLemmas.{same_name-refl, same_name-true, has_name-without}
 use Rattle.kernel_steps.specs.Names.{name_before, sorted_names, are_sorted, name_rank}
-use Rattle.kernel_steps.proofs.AboutNames.NameTruth.{same_name-says, has_name-sorted_names}
+use Rattle.kernel_steps.proofs.AboutNames.NameTruth.{has_name-sorted_names}
 use Rattle.kernel_steps.proofs.AboutNames.SortedNames.{sorted_names_law}
 
 -- ---- ranks
@@ -56,7 +56,7 @@ before-rank n m = by_order n.positive m.positive n.name m.name
 
 -- equal names have one rank
 same-rank : (n m : NameLit) → same_name n m ≡ true → name_rank n ≡ name_rank m
-same-rank n m h = ap name_rank (same_name-says n m h)
+same-rank n m h = ap name_rank (same_name-true n m h)
 
 -- and names of one rank are equal
 pub rank-same : (n m : NameLit) → name_rank n ≡ name_rank m → n ≡ m
@@ -67,13 +67,6 @@ rank-same n m h = by n.positive m.positive n.name m.name h
     by false false a b e = let s : a ≡ b = omega arith in ap (λ c. let k : NameLit = record { positive = false; name = c } in k) s
     by true false a b e = absurd (omega arith)
     by false true a b e = absurd (omega arith)
-
-pub same_name-self : (n : NameLit) → same_name n n ≡ true
-same_name-self n = by n.positive n.name
-  where
-    by : (p : Bool) (a : ℕ) → (beq p p && (a == a)) ≡ true
-    by true a = eq-eqb a a refl
-    by false a = eq-eqb a a refl
 
 -- ---- sorted lists
 
@@ -96,7 +89,7 @@ pub sorted-cons :
 sorted-cons n [] h before = refl
 sorted-cons n (m ∷ ms) h before =
     and_from (name_before n m) (are_sorted (m ∷ ms))
-    (before-rank n m ∙ lt-ltb (name_rank n) (name_rank m) (before m (or_left (same_name m m) (has_name m ms) (same_name-self m)))) h
+    (before-rank n m ∙ lt-ltb (name_rank n) (name_rank m) (before m (or_left (same_name m m) (has_name m ms) (same_name-refl m)))) h
 
 sorted-tail : (n : NameLit) (ns : List NameLit) → are_sorted (n ∷ ns) ≡ true → are_sorted ns ≡ true
 sorted-tail n [] h = refl
@@ -116,9 +109,9 @@ pub same-names :
     → are_sorted ns ≡ true → are_sorted ms ≡ true → ((k : NameLit) → has_name k ns ≡ has_name k ms) → ns ≡ ms
 same-names [] [] first second same = refl
 same-names [] (m ∷ ms) first second same =
-    absurd (true≢false (sym (or_left (same_name m m) (has_name m ms) (same_name-self m)) ∙ sym (same m)))
+    absurd (true≢false (sym (or_left (same_name m m) (has_name m ms) (same_name-refl m)) ∙ sym (same m)))
 same-names (n ∷ ns) [] first second same =
-    absurd (true≢false (sym (or_left (same_name n n) (has_name n ns) (same_name-self n)) ∙ same n))
+    absurd (true≢false (sym (or_left (same_name n n) (has_name n ns) (same_name-refl n)) ∙ same n))
 same-names (n ∷ ns) (m ∷ ms) first second same =
     ap (λ k. k ∷ ns) heads
     ∙ ap (λ ks. m ∷ ks) (same-names ns ms (sorted-tail n ns first) (sorted-tail m ms second) tails)
@@ -134,8 +127,8 @@ same-names (n ∷ ns) (m ∷ ms) first second same =
         (λ behind.
         let less : name_rank m < name_rank n = first-before m n ms second later in
         let more : name_rank n < name_rank m = first-before n m ns first behind in absurd (omega (arith, less, more)))
-        (or_cases (same_name m n) (has_name m ns) (same m ∙ or_left (same_name m m) (has_name m ms) (same_name-self m))))
-        (or_cases (same_name n m) (has_name n ms) (sym (same n) ∙ or_left (same_name n n) (has_name n ns) (same_name-self n))))
+        (or_cases (same_name m n) (has_name m ns) (same m ∙ or_left (same_name m m) (has_name m ms) (same_name-refl m))))
+        (or_cases (same_name n m) (has_name n ms) (sym (same n) ∙ or_left (same_name n n) (has_name n ns) (same_name-refl n))))
 
     tails : (k : NameLit) → has_name k ns ≡ has_name k ms
     tails k =
@@ -169,26 +162,6 @@ sorted_names-same ns ms same =
 
 -- ---- a list without a name
 
-pub has_name-without : (k n : NameLit) (ns : List NameLit) → has_name k (without n ns) ≡ (not (same_name n k) && has_name k ns)
-has_name-without k n [] = false-and (not (same_name n k))
-  where
-    false-and : (b : Bool) → false ≡ (b && false)
-    false-and true = refl
-    false-and false = refl
-has_name-without k n (m ∷ ms) =
-    by (same_name n m) (same_name k m) (same_name n k) (has_name k ms) (λ e. ap (same_name n) (same_name-says k m e)) (has_name-without k n ms) refl
-  where
-    by :
-        (s t u h : Bool)
-        → (t ≡ true → u ≡ s) → has_name k (without n ms) ≡ (not u && h) → same_name k m ≡ t
-        → has_name k (if not s then m ∷ without n ms else without n ms) ≡ (not u && (t || h))
-    by true true true h is rest at = rest
-    by true true false h is rest at = absurd (true≢false (sym (is refl)))
-    by true false u h is rest at = rest
-    by false true true h is rest at = absurd (true≢false (is refl))
-    by false true false h is rest at = ap (λ b. b || has_name k (without n ms)) at
-    by false false u h is rest at = ap (λ b. b || has_name k (without n ms)) at ∙ rest
-
 pub without-sorted : (n : NameLit) (ns : List NameLit) → are_sorted ns ≡ true → are_sorted (without n ns) ≡ true
 without-sorted n [] h = refl
 without-sorted n (m ∷ ms) h =
@@ -199,4 +172,4 @@ without-sorted n (m ∷ ms) h =
     kept false rest =
         sorted-cons m (without n ms) rest
         (λ k there.
-        first-before m k ms h (and_parts (not (same_name n k)) (has_name k ms) (sym (has_name-without k n ms) ∙ there)).1)
+        first-before m k ms h (and_parts (has_name k ms) (not (same_name n k)) (sym (has_name-without n k ms) ∙ there)).0)

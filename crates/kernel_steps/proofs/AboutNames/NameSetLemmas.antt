@@ -5,13 +5,15 @@ use Rattle.std.specs.Prelude.{if◌then◌else◌}
 use Rattle.std.specs.List.{list_any}
 use Rattle.std.proofs.lemmas.Bool.{cond-true, cond-false, true≢false}
 use Rattle.std.proofs.lemmas.List.Folds.{list_any-append}
+use Rattle.std.proofs.Math.Bool.{and_comm}
 use Rattle.plain_types.specs.declared.sequence.NameLit.{NameLit}
-use Rattle.plain_types.specs.Names.{same_name, opposite, has_name, without, can_resolve, resolvent}
-use Rattle.kernel_steps.specs.Names.{signed, with_name, with_names, sorted_names, are_sorted}
+use Rattle.plain_types.specs.Names.{same_name, opposite, has_name, without, can_resolve, resolvent, signed}
+use Rattle.plain_types.proofs.NameLemmas.{has_name-without}
+use Rattle.kernel_steps.specs.Names.{with_name, with_names, sorted_names, are_sorted}
 use Rattle.kernel_steps.specs.NameSet.{names_in}
 use Rattle.kernel_steps.proofs.AboutNames.NameTruth.{list_any-with_name, has_name-sorted_names}
 use Rattle.kernel_steps.proofs.AboutNames.SortedNames.{with_name-sorted}
-use Rattle.kernel_steps.proofs.AboutNames.NameRanks.{same-names, sorted_names-sorted, sorted-same, has_name-without, without-sorted}
+use Rattle.kernel_steps.proofs.AboutNames.NameRanks.{same-names, sorted_names-sorted, sorted-same, without-sorted}
 use Rattle.kernel_steps.proofs.AboutNames.NameLemmas.{with_names-append}
 use Rattle.kernel_steps.proofs.AboutSplits.SplitTables.{eqb-comm}
 
@@ -91,7 +93,8 @@ module _ (n : NameLit) (ns ps ns' ps' : List ℕ) where
       (λ k.
       names_in-has k ns' ps' ∙ h k
       ∙ ap (λ b. not (same_name n k) && b) (sym (names_in-has k ns ps))
-      ∙ sym (has_name-without k n (names_in ns ps)))
+      ∙ and_comm (not (same_name n k)) (has_name k (names_in ns ps))
+      ∙ sym (has_name-without n k (names_in ns ps)))
 
 module _ (n : NameLit) (ns ps more : List ℕ) where
   pub put-positive : n.positive ≡ true → Changes true n.name ps more → names_in ns more ≡ with_name n (names_in ns ps)

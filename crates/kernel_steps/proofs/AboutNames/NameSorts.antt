@@ -7,9 +7,9 @@ use Rattle.std.proofs.lemmas.List.{drop_more, length-drop}
 use Rattle.std.proofs.lemmas.List.Sorted.{list_any-IsPermutation}
 use Rattle.plain_types.specs.declared.sequence.NameLit.{NameLit}
 use Rattle.plain_types.specs.Names.{same_name, has_name}
+use Rattle.plain_types.proofs.NameLemmas.{same_name-refl, same_name-true}
 use Rattle.kernel_steps.specs.Names.{name_before, sorted_names, are_sorted, name_rank}
-use Rattle.kernel_steps.proofs.AboutNames.NameTruth.{same_name-says}
-use Rattle.kernel_steps.proofs.AboutNames.NameRanks.{before-rank, rank-same, same_name-self, sorted-cons, are-sorted_names}
+use Rattle.kernel_steps.proofs.AboutNames.NameRanks.{before-rank, rank-same, sorted-cons, are-sorted_names}
 
 -- ---- each once
 
@@ -33,13 +33,13 @@ rises-without n m ms r (suc i) (suc j) d before within =
 -- no name of a list that rises is lower than the first
 first-lowest : (n k : NameLit) (ns : List NameLit) → Rises (n ∷ ns) → has_name k (n ∷ ns) ≡ true → name_rank n ≤ name_rank k
 first-lowest n k ns h there =
-    ⊎_elim (λ here. omega (arith, ap name_rank (same_name-says k n here))) (λ later. behind ns h later) (or_cases (same_name k n) (has_name k ns) there)
+    ⊎_elim (λ here. omega (arith, ap name_rank (same_name-true k n here))) (λ later. behind ns h later) (or_cases (same_name k n) (has_name k ns) there)
   where
     behind : (ms : List NameLit) → Rises (n ∷ ms) → has_name k ms ≡ true → name_rank n ≤ name_rank k
     behind [] r later = absurd (true≢false (sym later))
     behind (m ∷ ms) r later =
         ⊎_elim
-        (λ here. omega (arith, rises-next n m ms r, ap name_rank (same_name-says k m here)))
+        (λ here. omega (arith, rises-next n m ms r, ap name_rank (same_name-true k m here)))
         (λ more. behind ms (rises-without n m ms r) more)
         (or_cases (same_name k m) (has_name k ms) later)
 
@@ -48,7 +48,7 @@ module _ (E : NameLit → NameLit → Bool) (same : (x y : NameLit) → E x y �
   dedup_from-has : (k n : NameLit) (ns : List NameLit) → has_name k (dedup_from E n ns) ≡ has_name k (n ∷ ns)
   dedup_from-has k n [] = refl
   dedup_from-has k n (m ∷ ms) =
-      by (E m n) (λ e. same_name-says m n (sym (same m n) ∙ e)) (dedup_from-has k n ms) (dedup_from-has k m ms)
+      by (E m n) (λ e. same_name-true m n (sym (same m n) ∙ e)) (dedup_from-has k n ms) (dedup_from-has k m ms)
     where
       or-twice : (a b : Bool) → (a || b) ≡ (a || (a || b))
       or-twice true b = refl
@@ -71,14 +71,14 @@ module _ (E : NameLit → NameLit → Bool) (same : (x y : NameLit) → E x y �
           (b : Bool) → same_name m n ≡ b
           → (Rises (n ∷ ms) → are_sorted (dedup_from E n ms) ≡ true) → are_sorted (dedup_from E m ms) ≡ true
           → are_sorted (cond b (dedup_from E n ms) (n ∷ dedup_from E m ms)) ≡ true
-      by true is rest later = rest (subst (λ k. Rises (k ∷ ms)) (same_name-says m n is) (rises-tail n (m ∷ ms) h))
+      by true is rest later = rest (subst (λ k. Rises (k ∷ ms)) (same_name-true m n is) (rises-tail n (m ∷ ms) h))
       by false is rest later =
           sorted-cons n (dedup_from E m ms) later
           (λ k there.
           let low : name_rank m ≤ name_rank k = first-lowest m k ms (rises-tail n (m ∷ ms) h) (sym (dedup_from-has k m ms) ∙ there) in
           let next : name_rank n ≤ name_rank m = rises-next n m ms h in
           let other : name_rank m ≡ name_rank n → ⊥ =
-          λ e. true≢false (sym (ap (λ j. same_name j n) (rank-same m n e) ∙ same_name-self n) ∙ is) in
+          λ e. true≢false (sym (ap (λ j. same_name j n) (rank-same m n e) ∙ same_name-refl n) ∙ is) in
           omega (arith, low, next, other))
 
   -- sorted by rank, and then each once

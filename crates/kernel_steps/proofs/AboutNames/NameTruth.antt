@@ -1,31 +1,19 @@
 -- Tests of sorted lists of names, and the soundness of resolution on names.
-use Rattle.std.proofs.Common.{◌≡◌, ℕ, Bool, true, false, ◌||◌, ◌==◌, List, [], ◌∷◌, Some, refl, ap, ap₂, sym, ◌∙◌, ⊎_elim}
+use Rattle.std.proofs.Common.{◌≡◌, Bool, true, false, ◌||◌, List, [], ◌∷◌, Some, refl, ap, sym, ◌∙◌, ⊎_elim}
 use mathlib.Core.Bool.{beq}
 use Rattle.std.specs.Prelude.{not, if◌then◌else◌}
 use Rattle.std.specs.List.{list_any, list_all}
-use Rattle.std.proofs.lemmas.Bool.{and_parts, or_cases, or_left, or_right, cases_Bool, eqb-true, true≢false}
+use Rattle.std.proofs.lemmas.Bool.{and_parts, or_cases, or_left, or_right, cases_Bool, true≢false}
 use Rattle.std.proofs.lemmas.Option.{none-some, same_Some}
 use Rattle.std.proofs.lemmas.List.Folds.{list_any-append}
 use Rattle.fol_base.proofs.WorkedExamples.TestLemmas.{if_some}
 use Rattle.plain_types.specs.declared.sequence.NameLit.{NameLit}
 use Rattle.plain_types.specs.Names.{same_name, opposite, has_name, without, can_resolve, resolvent}
+use Rattle.plain_types.proofs.NameLemmas.{same_name-true}
 use Rattle.kernel_steps.specs.Names.{name_before, with_name, with_names, sorted_names, chained_from}
 use Rattle.kernel_steps.specs.Soundness.{NameTruth, names_true, ChainIsSound}
 
 -- ---- sorted lists have the names of the list
-
--- names that are the same are equal
-pub same_name-says : (n m : NameLit) → same_name n m ≡ true → n ≡ m
-same_name-says n m h =
-    let parts = and_parts (beq n.positive m.positive) (n.name == m.name) h in
-    let signed : Bool → ℕ → NameLit = λ p k. record { positive = p; name = k } in
-    ap₂ signed (beq-says n.positive m.positive parts.0) (eqb-true n.name m.name parts.1)
-  where
-    beq-says : (a b : Bool) → beq a b ≡ true → a ≡ b
-    beq-says true true e = refl
-    beq-says true false e = absurd (true≢false (sym e))
-    beq-says false true e = absurd (true≢false (sym e))
-    beq-says false false e = refl
 
 or-swap : (a b c : Bool) → (a || (b || c)) ≡ (b || (a || c))
 or-swap true true c = refl
@@ -49,7 +37,7 @@ with_name-cases p n m ms rest false false is later = ap (λ b. p m || b) later �
 pub list_any-with_name : (p : NameLit → Bool) (n : NameLit) (ms : List NameLit) → list_any p (with_name n ms) ≡ (p n || list_any p ms)
 list_any-with_name p n [] = refl
 list_any-with_name p n (m ∷ ms) =
-    with_name-cases p n m ms (with_name n ms) (same_name n m) (name_before n m) (same_name-says n m) (list_any-with_name p n ms)
+    with_name-cases p n m ms (with_name n ms) (same_name n m) (name_before n m) (same_name-true n m) (list_any-with_name p n ms)
 
 pub list_any-with_names :
     (p : NameLit → Bool) (ns sorted : List NameLit) → list_any p (with_names ns sorted) ≡ (list_any p ns || list_any p sorted)
@@ -112,7 +100,7 @@ without-true :
     → name_true truth n ≡ false → names_true truth ns ≡ true → names_true truth (without n ns) ≡ true
 without-true truth n [] fails holds = holds
 without-true truth n (m ∷ ns) fails holds =
-    without-cases truth n m ns (without n ns) (same_name n m) (same_name-says n m) fails holds (without-true truth n ns fails)
+    without-cases truth n m ns (without n ns) (same_name n m) (same_name-true n m) fails holds (without-true truth n ns fails)
 
 -- a resolvent is true where both lists are
 pub resolvent-true :

@@ -7,7 +7,7 @@ use Rattle.std.specs.List.{list_any, list_all}
 use Rattle.std.specs.HashMap.{HashMap, get, hash_map_len, Updates}
 use Rattle.std.specs.declared.hash.FoldHasher.{FoldHasher}
 use Rattle.std.specs.declared.hash.BuildHasherDefault.{BuildHasherDefault}
-use Rattle.std.proofs.lemmas.Bool.{cond-true, cond-false, cases_Bool, cases_eq, eq-eqb, ne_eqb, eqb-true}
+use Rattle.std.proofs.lemmas.Bool.{cond-true, cond-false, cases_Bool, cases_eq, eq-eqb, ne_eqb, eqb-true, or_left, or_right}
 use Rattle.std.proofs.lemmas.List.{drop_more, take_more, length_push}
 use Rattle.std.proofs.lemmas.List.Folds.{list_any-append}
 use Rattle.fol_base.specs.Tree.{variable}
@@ -131,6 +131,14 @@ module _
       regroup true false c = refl
       regroup false true c = refl
       regroup false false c = refl
+
+-- ---- numbers of joined lists
+
+pub has-left : (n : ℕ) (xs ys : List ℕ) → has_number n xs ≡ true → has_number n (xs ++ ys) ≡ true
+has-left n xs ys there = list_any-append (λ k. n == k) xs ys ∙ or_left (has_number n xs) (has_number n ys) there
+
+pub has-right : (n : ℕ) (xs ys : List ℕ) → has_number n ys ≡ true → has_number n (xs ++ ys) ≡ true
+has-right n xs ys there = list_any-append (λ k. n == k) xs ys ∙ or_right (has_number n xs) (has_number n ys) there
 
 -- ---- places of the different numbers
 

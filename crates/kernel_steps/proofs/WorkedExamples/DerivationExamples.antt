@@ -3,11 +3,12 @@ use Rattle.std.proofs.Common.{◌≡◌, ℕ, zero, suc, List, [], ◌∷◌, �
 use Rattle.std.specs.Prelude.{Some, None, true, slice_get}
 use Rattle.std.proofs.lemmas.List.{append_assoc, append-nil}
 use Rattle.std.proofs.lemmas.Option.{none-some, same_Some}
+use Rattle.plain_types.specs.Names.{positive_of, negative_of}
 use Rattle.fol_base.specs.Clause.{TreeLiteral, TreeClause}
 use Rattle.fol_base.specs.Ground.{is_ground_literal}
 use Rattle.fol_base.specs.Examples.{x, p, q}
 use Rattle.fol_base.specs.Literal.{clause_of}
-use Rattle.kernel_steps.specs.Derivation.{negative_of, positive_of, component_clause, complement, IsComponent, IsOpposite, ComesBy, IsDerivation, IsRefutation, under_names}
+use Rattle.kernel_steps.specs.Derivation.{component_clause, complement, IsComponent, IsOpposite, ComesBy, IsDerivation, IsRefutation, under_names}
 use Rattle.kernel_steps.specs.Examples.{p₀, q₀, opposites, opposites_lines, implication, implication_lines, rewrites, rewrites_lines, components, components_lines, four_clauses, four_clauses_lines}
 use Rattle.kernel_steps.specs.declared.step.Line.{Line}
 

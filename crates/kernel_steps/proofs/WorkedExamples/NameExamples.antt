@@ -3,13 +3,14 @@ use Rattle.std.proofs.Common.{◌≡◌, ℕ, zero, suc, ◌+◌, ◌^◌, List,
 use Rattle.std.specs.Prelude.{Some, slice_get}
 use Rattle.std.proofs.lemmas.Bool.{true≢false}
 use Rattle.std.proofs.lemmas.Option.{none-some, same_Some}
+use Rattle.plain_types.specs.Names.{positive_of, negative_of}
 use Rattle.fol_base.specs.Clause.{TreeLiteral, TreeClause}
 use Rattle.fol_base.specs.Ground.{is_ground_literal}
 use Rattle.fol_base.specs.Examples.{x, a, b, p, q, clause}
 use Rattle.fol_base.specs.Literal.{clause_of}
 use Rattle.fol_base.specs.declared.clause.Side.TheVariants.{Left}
 use Rattle.kernel_steps.specs.Conclusion.{verdict, concludes}
-use Rattle.kernel_steps.specs.Derivation.{negative_of, positive_of, component_clause, IsOpposite, ComesBy, continued, AreSteps, reduced_parents, under_names}
+use Rattle.kernel_steps.specs.Derivation.{component_clause, IsOpposite, ComesBy, continued, AreSteps, reduced_parents, under_names}
 use Rattle.kernel_steps.specs.Examples.{not_p, not_true, listed, line, introduced, opposites, reducing_lines}
 use Rattle.kernel_steps.specs.declared.step.Step.TheVariants.{Para, Refl, Component, Opposite}
 use Rattle.kernel_steps.specs.declared.step.TheConstants.{CLAUSE_NUMBERS}

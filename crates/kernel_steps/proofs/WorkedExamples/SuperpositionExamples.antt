@@ -1,6 +1,7 @@
 -- The worked superpositions, by most general unifiers.
 use Rattle.std.proofs.Common.{◌≡◌, ℕ, zero, suc, [], ◌∷◌, refl, sym, ap, inl, inr}
 use Rattle.std.proofs.lemmas.Bool.{true≢false}
+use Rattle.plain_types.specs.Names.{positive_of, negative_of}
 use Rattle.fol_base.specs.Tree.{variable, application, no_trees, tree_then}
 use Rattle.fol_base.specs.Instance.{Substitution, instance}
 use Rattle.fol_base.specs.Unifier.{IsMostGeneralUnifierApart}
@@ -9,7 +10,7 @@ use Rattle.fol_base.specs.Examples.{x, a, b, f, p, q, equation, clause, is_predi
 use Rattle.fol_base.specs.declared.clause.Side.TheVariants.{Left}
 use Rattle.fol_base.proofs.AboutInstances.Shuffled.{shuffled, shuffled-even, shuffled-odd}
 use Rattle.fol_base.proofs.WorkedExamples.MatchingExamples.{first_argument}
-use Rattle.kernel_steps.specs.Derivation.{positive_of, negative_of, under_names}
+use Rattle.kernel_steps.specs.Derivation.{under_names}
 use Rattle.kernel_steps.specs.Inference.{NamedSuperposition}
 use Rattle.kernel_steps.specs.Examples.{not_p, not_true}
 

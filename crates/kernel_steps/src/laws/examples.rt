@@ -1,14 +1,15 @@
 // Worked examples of steps and derivations. The symbols are those of the base's examples.
 
 ghost use Rattle.std.specs.Prelude.{◌≡◌, ◌+◌, ◌^◌, true, false, [], ◌∷◌, Some, None, take, codes, IsTrue, IsFalse};
+ghost use Rattle.plain_types.specs.Names.{positive_of, negative_of};
 ghost use Rattle.fol_base.specs.Tree.{true_tree};
 ghost use Rattle.fol_base.specs.Examples.{x, a, b, p, q, clause};
 ghost use Rattle.fol_base.specs.Literal.{clause_of};
 ghost use Rattle.fol_base.specs.declared.clause.Side.TheVariants.{Left, Right};
 ghost use Rattle.kernel_steps.specs.Names.{sorted_names, chained};
-ghost use Rattle.kernel_steps.specs.Split.{is_split};
+ghost use Rattle.kernel_steps.specs.Split.{is_split, is_rising};
 ghost use Rattle.kernel_steps.specs.Conclusion.{verdict, binding_fault, rule_fault, concludes, empty_clause};
-ghost use Rattle.kernel_steps.specs.Derivation.{positive_of, negative_of, body, ComesBy, IsRefutation, continued, AreSteps, reduced_parents, under_names};
+ghost use Rattle.kernel_steps.specs.Derivation.{body, ComesBy, IsRefutation, continued, AreSteps, reduced_parents, under_names};
 ghost use Rattle.kernel_steps.specs.Keys.{key_text};
 ghost use Rattle.kernel_steps.specs.Lines.{own_terms};
 ghost use Rattle.kernel_steps.specs.FromTrees.{line_of};
@@ -115,7 +116,7 @@ pub fn derivation_examples()
     ensures signed_names { IsRefutation four_clauses four_clauses_lines }
 {}
 
-/// What is no refutation, by one change each.
+/// Derivations that are no refutations, by one change each.
 pub fn changed_derivation_examples()
     ensures other_parent { IsRefutation opposites (opposites_lines 2) → ⊥ }
     ensures other_index { IsRefutation opposites (opposites_with (line (step.Clausify 0) (not_p a ∷ [])) 3) → ⊥ }
@@ -123,11 +124,14 @@ pub fn changed_derivation_examples()
     ensures last_line_left_out { IsRefutation opposites (take 4 (opposites_lines 3)) → ⊥ }
 {}
 
-/// Lines that trees make, the variables of a clause as terms, and marks of numbers.
+/// Lines that trees make, the variables of a clause as terms, marks of numbers, and numbers that rise.
 pub fn line_examples()
     ensures line { clause_of (line_of (step.Refl 0 0 []) (under_names (p a ∷ []) (positive_of 0 ∷ []))).clause ≡ under_names (p a ∷ []) (positive_of 0 ∷ []) }
     ensures own_terms { own_terms (clause (q (x 1) ∷ [])) ≡ x 0 ∷ x 1 ∷ [] }
     ensures marked { is_marked (false ∷ true ∷ []) 1 ≡ true }
     ensures past_the_marks { is_marked (true ∷ []) 1 ≡ false }
     ensures marked_numbers { marked_numbers 3 (true ∷ false ∷ true ∷ []) ≡ 3 ∷ 5 ∷ [] }
+    ensures rising { IsTrue (is_rising (0 ∷ 2 ∷ [])) }
+    ensures falling { IsFalse (is_rising (2 ∷ 0 ∷ [])) }
+    ensures same_again { IsFalse (is_rising (1 ∷ 1 ∷ [])) }
 {}

@@ -1,13 +1,14 @@
 // Worked examples of the calculus. The symbols are those of the base's examples.
 
 ghost use Rattle.std.specs.Prelude.{◌≡◌, [], ◌∷◌, IsTrue, IsFalse};
+ghost use Rattle.plain_types.specs.Names.{positive_of, negative_of};
 ghost use Rattle.fol_base.specs.Tree.{true_tree};
 ghost use Rattle.fol_base.specs.Selection.{select_nothing, select_negative};
 ghost use Rattle.fol_base.specs.Clause.{TreeClause};
 ghost use Rattle.fol_base.specs.Examples.{x, a, b, c, f, p, q, r, equation, clause, is_predicate};
 ghost use Rattle.fol_base.specs.Rules.{disequation};
 ghost use Rattle.fol_base.specs.declared.clause.Side.TheVariants.{Left, Right};
-ghost use Rattle.kernel_steps.specs.Derivation.{positive_of, negative_of, under_names};
+ghost use Rattle.kernel_steps.specs.Derivation.{under_names};
 ghost use Rattle.kernel_steps.specs.Examples.{not_p, not_true};
 ghost use Rattle.kernel_steps.specs.Inference.{have_heads_of_one_kind, NamedSuperposition, NamedResolution, NamedFactoring, MergesEqual, RewritesBy, CutsBy, Reduces, is_tautology, IsIrreducible};
 

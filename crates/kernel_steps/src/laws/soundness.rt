@@ -1,10 +1,10 @@
-// What derivations establish.
+// Soundness: what derivations prove.
 
 ghost use Rattle.kernel_steps.specs.Soundness.{ParaIsSound, ReflIsSound, FactorIsSound, MergeIsSound, ChainIsSound, DerivationsAreSound, GroundLinesAreGrounded, RefutationsRefute, GroundRefutationsRefute, GroundRefutationsHerbrandRefute, HerbrandRefuted};
 ghost use Rattle.kernel_steps.specs.Examples.{unrelated, general};
 ghost use Rattle.fol_base.specs.Examples.{functions};
 
-/// What a rule gives is true where what it is given is.
+/// The conclusion of a rule is true where its premises are.
 pub fn rules_are_sound()
     ensures para { ParaIsSound }
     ensures refl { ReflIsSound }
@@ -24,7 +24,7 @@ pub fn refutations_refute()
     ensures ground_form { GroundRefutationsRefute }
 {}
 
-/// What a derivation from a ground form establishes, whatever it binds.
+/// The meaning of a derivation from a ground form, whatever it binds.
 pub fn ground_forms_are_grounded()
     ensures lines { GroundLinesAreGrounded }
     ensures refutations { GroundRefutationsHerbrandRefute }

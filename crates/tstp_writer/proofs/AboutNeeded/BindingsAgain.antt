@@ -1,13 +1,14 @@
 -- What a line binds is read again as it was written.
 use mathlib.Core.Bool.{beq}
-use Rattle.std.proofs.Common.{◌≡◌, ℕ, Bool, true, false, ◌==◌, List, [], ◌∷◌, ◌++◌, map, Option, Some, refl, ap, ap₂, sym, ◌∙◌, subst}
+use Rattle.std.proofs.Common.{◌≡◌, ℕ, Bool, true, false, List, [], ◌∷◌, ◌++◌, map, Option, Some, refl, ap, ap₂, sym, ◌∙◌, subst}
 use Rattle.std.specs.Prelude.{fold, flat_map, unwrap_or, option_map, option_and_then, if◌then◌else◌}
 use Rattle.std.specs.List.{list_all}
-use Rattle.std.proofs.lemmas.Bool.{and_parts, and_from, eq-eqb}
+use Rattle.std.proofs.lemmas.Bool.{and_parts, and_from}
 use Rattle.std.proofs.lemmas.List.{map-append}
 use Rattle.std.proofs.lemmas.Grind.{flat_map-append}
 use Rattle.plain_types.specs.declared.sequence.NameLit.{NameLit}
 use Rattle.plain_types.specs.Names.{same_name}
+use Rattle.plain_types.proofs.NameLemmas.{same_name-refl}
 use Rattle.fol_base.specs.Tree.{Tree, tree_variables}
 use Rattle.fol_base.specs.Instance.{Substitution}
 use Rattle.fol_base.specs.Clause.{TreeLiteral, TreeClause, literal_eq, literals_eq, names_eq, clause_eq}
@@ -48,12 +49,9 @@ literals_eq-same : (ls : List TreeLiteral) → literals_eq ls ls ≡ true
 literals_eq-same [] = refl
 literals_eq-same (l ∷ ls) = and_from (literal_eq l l) (literals_eq ls ls) (literal_eq-same l) (literals_eq-same ls)
 
-same_name-same : (n : NameLit) → same_name n n ≡ true
-same_name-same n = and_from (beq n.positive n.positive) (n.name == n.name) (beq-same n.positive) (eq-eqb n.name n.name refl)
-
 pub names_eq-same : (ns : List NameLit) → names_eq ns ns ≡ true
 names_eq-same [] = refl
-names_eq-same (n ∷ ns) = and_from (same_name n n) (names_eq ns ns) (same_name-same n) (names_eq-same ns)
+names_eq-same (n ∷ ns) = and_from (same_name n n) (names_eq ns ns) (same_name-refl n) (names_eq-same ns)
 
 pub clause_eq-same : (c : TreeClause) → clause_eq c c ≡ true
 clause_eq-same c =

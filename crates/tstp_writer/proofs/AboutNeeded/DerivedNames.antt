@@ -12,7 +12,7 @@ use Rattle.fol_base.specs.Literal.{clause_of}
 use Rattle.tptp_tree.specs.declared.problem.Annotated.{Annotated}
 use Rattle.signature.specs.declared.symbol.Symbol.{Symbol}
 use Rattle.signature.specs.Form.{clausal_form}
-use Rattle.kernel_steps.specs.Derivation.{is_clause_step, ComesBy, negative_of, positive_of, complement, component_clause}
+use Rattle.kernel_steps.specs.Derivation.{is_clause_step, ComesBy, complement, component_clause}
 use Rattle.kernel_steps.specs.declared.step.Step.{Step}
 use Rattle.kernel_steps.specs.declared.step.Step.TheVariants.{Input, Negate, Clausify, Para, Refl, Factor, Merge, Component, Opposite, Split, Chain}
 use Rattle.kernel_steps.specs.declared.step.Line.{Line}
@@ -34,6 +34,7 @@ use Rattle.tstp_writer.proofs.AboutPrinted.NameOrder.{has-middle}
 use Rattle.tstp_writer.proofs.AboutPrinted.PlaceLemmas.{all-there}
 use Rattle.tstp_writer.specs.Cone.{has_number}
 use Rattle.plain_types.specs.declared.sequence.NameLit.{NameLit}
+use Rattle.plain_types.specs.Names.{positive_of, negative_of}
 use Rattle.kernel_steps.specs.Names.{are_sorted}
 use Rattle.clausal_form.proofs.AboutForms.FormLemmas.{forms-are-canonical}
 use Rattle.tstp_writer.proofs.AboutNeeded.DerivedLemmas.{IsReadBack, read-back, IsTakenLine, verdict-taken, IsTakenBy, form-fresh, NamesSoFar, names-so-far, component-new, component-place}

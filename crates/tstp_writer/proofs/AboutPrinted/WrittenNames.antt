@@ -7,6 +7,7 @@ use Rattle.std.proofs.lemmas.List.{append-nil}
 use Rattle.std.proofs.lemmas.Fmt.{decimal_injective}
 use Rattle.std.specs.Fmt.{decimal}
 use Rattle.plain_types.specs.declared.sequence.NameLit.{NameLit}
+use Rattle.plain_types.specs.Names.{signed}
 use Rattle.fol_base.specs.Tree.{Trees, no_trees, tree_then, application, true_tree}
 use Rattle.fol_base.specs.Instance.{Substitution}
 use Rattle.fol_base.specs.Clause.{TreeLiteral, TreeClause, clause_variables, clause_instance}
@@ -18,7 +19,7 @@ use Rattle.signature.specs.Symbol.{predicate_symbol, same_symbol, has_symbol, ar
 use Rattle.signature.specs.Prefix.{some_begins_with}
 use Rattle.signature.specs.Environment.{Environment}
 use Rattle.signature.specs.Clausal.{atom_literal}
-use Rattle.kernel_steps.specs.Names.{signed, are_sorted}
+use Rattle.kernel_steps.specs.Names.{are_sorted}
 use Rattle.kernel_steps.specs.Parents.{all_there}
 use Rattle.clausal_form.specs.DerivationItems.{introduced_in}
 use Rattle.clausal_form.specs.DerivationClause.{literals_of, is_literal as is_literal_formula, name_number, literal_name, ordinary_literals, clause_names, names_come_last, is_written_clause, literal_by, clause_by}

@@ -1,5 +1,5 @@
 use Rattle.std.proofs.Common.{◌≡◌, ◌++◌, map}
-use Rattle.kernel_steps.specs.Names.{signed}
+use Rattle.plain_types.specs.Names.{signed}
 use Rattle.kernel_steps.proofs.name_set.push_signed.Given as goal
 
 abbrev pub invariant-loop-number : goal.invariant-loop-number

@@ -7,4 +7,4 @@ use Rattle.tstp_writer.proofs.items.push_bind.Goals as goal
 pub returns : goal.returns
 returns c =
     added c.bytes-2.result _ _ _ _ (bind-text c.args.symbols.now (map tree_of c.args.terms.now))
-    (three_added c.bytes-2.result _ _ _ _ _ _ _ c.in_ok-bytes.ensures c.in_ok-push_terms.ensures c.bytes-2.ensures)
+    (three_added c.bytes-2.result _ _ _ _ _ _ _ c.in_ok-bytes.ensures.added c.in_ok-push_terms.ensures c.bytes-2.ensures.added)

@@ -5,4 +5,4 @@ use Rattle.tstp_writer.proofs.items.push_pivots.Goals as goal
 pub returns : goal.returns
 returns c =
     added c.bytes-2.result _ _ _ _ (pivots_of_parts c.args.prefix.now c.args.pivots.now c.requires)
-    (three_added c.bytes-2.result _ _ _ _ _ _ _ c.in_ok-bytes.ensures c.in_ok-push_signed_names.ensures c.bytes-2.ensures)
+    (three_added c.bytes-2.result _ _ _ _ _ _ _ c.in_ok-bytes.ensures.added c.in_ok-push_signed_names.ensures c.bytes-2.ensures.added)

@@ -33,5 +33,5 @@ returns c =
     (step_source (script_in c.args.script) c.args.layout.now c.args.line.now.step) c.args.number refl)
     (five_added c.bytes-2.result _ _ _ _ _ _ _ _ _ _ _ c.in_ok-push_head.ensures
     (names-lent c.args.script.symbols.now c.args.script.prefix.now (clause_of c.args.line.now.clause).literals _ c.args.line.now.clause.names _ _
-    c.as_slice.ensures c.in_ok-push_clause.ensures)
-    c.in_ok-bytes.ensures c.in_ok-push_source.ensures c.bytes-2.ensures)
+    c.as_slice.ensures c.in_ok-push_whole_clause.ensures)
+    c.in_ok-bytes.ensures.added c.in_ok-push_source.ensures c.bytes-2.ensures.added)

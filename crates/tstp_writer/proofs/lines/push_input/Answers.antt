@@ -13,6 +13,6 @@ returns c =
     let a : AnnotatedTree = entry_of c.args.annotated.now in
     added c.bytes-2.result _ _ _ _
     (line_of_parts (record a { name = line_name c.args.number }) (file_source (named c.args.script.file.now) a.name) c.args.number refl)
-    (five_added c.bytes-2.result _ _ _ _ _ _ _ _ _ _ _ c.in_ok-push_head.ensures c.in_ok-push_formula.ensures c.in_ok-bytes.ensures
+    (five_added c.bytes-2.result _ _ _ _ _ _ _ _ _ _ _ c.in_ok-push_head.ensures c.in_ok-push_formula.ensures c.in_ok-bytes.ensures.added
     (c.in_ok-push_file_source.ensures ∙ ap (λ n. c.bytes.new.self ++ source_text (file_source (named c.args.script.file.now) n)) c.as_slice.ensures)
-    c.bytes-2.ensures)
+    c.bytes-2.ensures.added)

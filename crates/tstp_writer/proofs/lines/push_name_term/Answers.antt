@@ -9,4 +9,4 @@ pub returns : goal.returns
 returns c =
     IfOk-weaker c.formula_name.result (λ done. c.formula_name.new.self ≡ c.args.page.now ++ formula_name_text c.args.name.now)
     (λ done. c.formula_name.new.self ≡ c.args.page.now ++ general_text (name_term c.args.name.now))
-    (λ done e. e ∙ ap (λ w. c.args.page.now ++ w) (formula-name-same c.args.name.now)) c.formula_name.ensures
+    (λ done e. e ∙ ap (λ w. c.args.page.now ++ w) (formula-name-same c.args.name.now)) c.formula_name.ensures.added

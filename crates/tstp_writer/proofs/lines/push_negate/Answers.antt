@@ -17,5 +17,5 @@ returns c =
     (line_of_parts
     (record { name = line_name c.args.number; role = NegatedConjecture; is_clause = false; formula = negation a.formula })
     (step_source (script_in c.args.script) c.args.layout.now (Negate c.args.place)) c.args.number refl)
-    (five_added c.bytes-2.result _ _ _ _ _ _ _ _ _ _ _ c.in_ok-push_head.ensures c.in_ok-push_negation.ensures c.in_ok-bytes.ensures
-    c.in_ok-push_source.ensures c.bytes-2.ensures)
+    (five_added c.bytes-2.result _ _ _ _ _ _ _ _ _ _ _ c.in_ok-push_head.ensures c.in_ok-push_negation.ensures c.in_ok-bytes.ensures.added
+    c.in_ok-push_source.ensures c.bytes-2.ensures.added)

@@ -1,6 +1,6 @@
 use Rattle.std.proofs.Common.{false, true, ap, sym, ◌∙◌, map, ◌++◌}
-use Rattle.plain_types.specs.Names.{has_name}
-use Rattle.kernel_steps.specs.Names.{signed, are_sorted}
+use Rattle.plain_types.specs.Names.{has_name, signed}
+use Rattle.kernel_steps.specs.Names.{are_sorted}
 use Rattle.kernel_steps.proofs.AboutNames.NameRanks.{sorted_names-sorted}
 use Rattle.kernel_steps.proofs.AboutNames.NameSetLemmas.{has-positive, has-negative}
 use Rattle.kernel_steps.proofs.name_set.NameSet.has.Goals as goal

@@ -1,0 +1,183 @@
+-- Steps in which nothing is split: their parents, and what they conclude where these get other numbers.
+use Rattle.std.proofs.Common.{◌≡◌, ℕ, true, false, ◌==◌, List, [], ◌∷◌, map, take, Option, Some, None, refl, ap, ap₂, sym, ◌∙◌, subst, ⊎_elim}
+use Rattle.std.specs.Prelude.{slice_get, option_map, if◌then◌else◌}
+use Rattle.std.specs.List.{list_all}
+use Rattle.std.proofs.lemmas.Bool.{or_cases, or_left, or_right, eqb-true, eq-eqb, false≢true}
+use Rattle.std.proofs.lemmas.Option.{same_Some, slice_get-map}
+use Rattle.fol_base.specs.Clause.{TreeClause}
+use Rattle.fol_base.specs.Literal.{clause_of}
+use Rattle.fol_base.specs.Rules.{superposed, resolved, factored, merged}
+use Rattle.fol_base.proofs.WorkedExamples.TestLemmas.{option_map-some, list_all-item}
+use Rattle.kernel_steps.specs.Parents.{Parent, Parents}
+use Rattle.kernel_steps.specs.Conclusion.{concludes, by_one, by_two}
+use Rattle.kernel_steps.specs.Derivation.{is_clause_step, introduces_name, is_component_of, line_parents, ComesBy, IsDerivation}
+use Rattle.kernel_steps.specs.Lines.{step_parents, is_plain_step}
+use Rattle.kernel_steps.specs.Split.{has_number}
+use Rattle.kernel_steps.specs.declared.step.Step.{Step}
+use Rattle.kernel_steps.specs.declared.step.Step.TheVariants.{Input, Negate, Clausify, Para, Refl, Factor, Merge, Component, Opposite, Split, Chain}
+use Rattle.kernel_steps.specs.declared.step.Line.{Line}
+use Rattle.kernel_steps.proofs.AboutCalls.VerdictParts.{by_one-parts, by_two-parts}
+use Rattle.kernel_steps.specs.ParentNumbers.{with_parents}
+use Rattle.tstp_writer.specs.Cone as cone
+use Rattle.tstp_writer.proofs.AboutNeeded.EarlierLemmas.{need-earlier}
+use Rattle.pool_writer.specs.Retraced.{steps_of}
+
+-- ---- other numbers
+
+-- what a line is as a parent
+abbrev pub parent_by : Step → TreeClause → Option Parent
+parent_by step c = if is_clause_step step then Some (record { clause = c; introduces = introduces_name step }) else None
+
+pub mapped-parent : (to : ℕ → ℕ) (step : Step) (c : TreeClause) → parent_by (with_parents to step) c ≡ parent_by step c
+mapped-parent to (Input place) c = refl
+mapped-parent to _ c = refl
+
+pub mapped-clause_step : (to : ℕ → ℕ) (step : Step) → is_clause_step (with_parents to step) ≡ is_clause_step step
+mapped-clause_step to (Input place) = refl
+mapped-clause_step to _ = refl
+
+pub mapped-plain : (to : ℕ → ℕ) (step : Step) → is_plain_step (with_parents to step) ≡ is_plain_step step
+mapped-plain to (Input place) = refl
+mapped-plain to _ = refl
+
+-- what a step needs, it needs under other numbers
+component-mapped : (to : ℕ → ℕ) (name : ℕ) (step : Step) → is_component_of name (with_parents to step) ≡ is_component_of name step
+component-mapped to name (Input place) = refl
+component-mapped to name _ = refl
+
+has-mapped : (to : ℕ → ℕ) (ns : List ℕ) (m : ℕ) → cone.has_number ns m ≡ true → cone.has_number (map to ns) (to m) ≡ true
+has-mapped to [] m has = absurd (false≢true has)
+has-mapped to (n ∷ ns) m has =
+    ⊎_elim (λ same. or_left (to n == to m) (cone.has_number (map to ns) (to m)) (eq-eqb (to n) (to m) (ap to (eqb-true n m same))))
+    (λ later. or_right (to n == to m) (cone.has_number (map to ns) (to m)) (has-mapped to ns m later))
+    (or_cases (n == m) (cone.has_number ns m) has)
+
+pub needs-mapped :
+    (to : ℕ → ℕ) (step other : Step) (m : ℕ) → cone.needs_step step m other ≡ true
+    → cone.needs_step (with_parents to step) (to m) (with_parents to other) ≡ true
+needs-mapped to (Input place) other m need = absurd (false≢true need)
+needs-mapped to (Negate place) other m need = absurd (false≢true need)
+needs-mapped to (Clausify i) other m need = absurd (false≢true need)
+needs-mapped to (Component name) other m need = absurd (false≢true need)
+needs-mapped to (Opposite name) other m need = component-mapped to name other ∙ need
+needs-mapped to (Para first second from from_side into into_side place first_bind second_bind) other m need = has-mapped to (first ∷ second ∷ []) m need
+needs-mapped to (Refl parent literal bind) other m need = has-mapped to (parent ∷ []) m need
+needs-mapped to (Factor parent becomes becomes_side literal other_side bind) other m need = has-mapped to (parent ∷ []) m need
+needs-mapped to (Merge parent stays goes bind) other m need = has-mapped to (parent ∷ []) m need
+needs-mapped to (Split parent definitions parts) other m need = has-mapped to (parent ∷ definitions) m need
+needs-mapped to (Chain numbers pivots) other m need = has-mapped to numbers m need
+
+-- ---- conclusions
+
+concludes-same : (c d : TreeClause) → concludes c ≡ concludes d → c ≡ d
+concludes-same c d h = cc
+
+-- a step concludes one clause
+pub comes-once :
+    (form : List TreeClause) (lines : List Line) (step : Step) (c d : TreeClause) → is_plain_step step ≡ true
+    → ComesBy step form lines c → ComesBy step form lines d → c ≡ d
+comes-once form lines (Clausify i) c d plain one other = same_Some c d (sym one ∙ other)
+comes-once form lines (Para first second from from_side into into_side place first_bind second_bind) c d plain one other =
+    concludes-same c d (sym one ∙ other)
+comes-once form lines (Refl parent literal bind) c d plain one other = concludes-same c d (sym one ∙ other)
+comes-once form lines (Factor parent becomes becomes_side literal other_side bind) c d plain one other = concludes-same c d (sym one ∙ other)
+comes-once form lines (Merge parent stays goes bind) c d plain one other = concludes-same c d (sym one ∙ other)
+comes-once form lines (Input place) c d plain one other = absurd (false≢true plain)
+comes-once form lines (Negate place) c d plain one other = absurd (false≢true plain)
+comes-once form lines (Component name) c d plain one other = absurd (false≢true plain)
+comes-once form lines (Opposite name) c d plain one other = absurd (false≢true plain)
+comes-once form lines (Split parent definitions parts) c d plain one other = absurd (false≢true plain)
+comes-once form lines (Chain numbers pivots) c d plain one other = absurd (false≢true plain)
+
+-- where its parents are the same, by their new numbers, it concludes the same
+pub comes-mapped :
+    (to : ℕ → ℕ) (form : List TreeClause) (before lines : List Line) (step : Step) (c : TreeClause) → is_plain_step step ≡ true
+    → ((m : ℕ) → has_number m (step_parents step) ≡ true → line_parents lines (to m) ≡ line_parents before m)
+    → ComesBy step form before c → ComesBy (with_parents to step) form lines c
+comes-mapped to form before lines (Clausify i) c plain same comes = comes
+comes-mapped to form before lines (Para first second from from_side into into_side place first_bind second_bind) c plain same comes =
+    ap₂ (λ (o p : Option Parent). by_two o first_bind p second_bind (λ ls ks. superposed ls from from_side ks into into_side place))
+    (same first (or_left (first == first) (has_number first (second ∷ [])) (eq-eqb first first refl)))
+    (same second (or_right (second == first) (has_number second (second ∷ [])) (or_left (second == second) false (eq-eqb second second refl))))
+    ∙ comes
+comes-mapped to form before lines (Refl parent literal bind) c plain same comes =
+    ap (λ (o : Option Parent). by_one o bind (λ ls. resolved ls literal))
+    (same parent (or_left (parent == parent) false (eq-eqb parent parent refl)))
+    ∙ comes
+comes-mapped to form before lines (Factor parent becomes becomes_side other other_side bind) c plain same comes =
+    ap (λ (o : Option Parent). by_one o bind (λ ls. factored ls becomes becomes_side other other_side))
+    (same parent (or_left (parent == parent) false (eq-eqb parent parent refl)))
+    ∙ comes
+comes-mapped to form before lines (Merge parent stays goes bind) c plain same comes =
+    ap (λ (o : Option Parent). by_one o bind (λ ls. merged ls stays goes))
+    (same parent (or_left (parent == parent) false (eq-eqb parent parent refl)))
+    ∙ comes
+comes-mapped to form before lines (Input place) c plain same comes = absurd (false≢true plain)
+comes-mapped to form before lines (Negate place) c plain same comes = absurd (false≢true plain)
+comes-mapped to form before lines (Component name) c plain same comes = absurd (false≢true plain)
+comes-mapped to form before lines (Opposite name) c plain same comes = absurd (false≢true plain)
+comes-mapped to form before lines (Split parent definitions parts) c plain same comes = absurd (false≢true plain)
+comes-mapped to form before lines (Chain numbers pivots) c plain same comes = absurd (false≢true plain)
+
+-- ---- parents
+
+one-there : (parents : Parents) (a k : ℕ) (p : Parent) → parents a ≡ Some p → has_number k (a ∷ []) ≡ true → (q : Parent) × (parents k ≡ Some q)
+one-there parents a k p there has =
+    ⊎_elim (λ same. (p, ap parents (eqb-true k a same) ∙ there)) (λ none. absurd (false≢true none)) (or_cases (k == a) false has)
+
+-- what a step concludes from is there
+parent-there :
+    (form : List TreeClause) (lines : List Line) (step : Step) (c : TreeClause) (m : ℕ) → is_plain_step step ≡ true
+    → ComesBy step form lines c → has_number m (step_parents step) ≡ true → (p : Parent) × (line_parents lines m ≡ Some p)
+parent-there form lines (Clausify i) c m plain comes has = absurd (false≢true has)
+parent-there form lines (Para first second from from_side into into_side place first_bind second_bind) c m plain comes has =
+    let parents : Parents = line_parents lines in
+    let parts = by_two-parts (parents first) first_bind (parents second) second_bind (λ ls ks. superposed ls from from_side ks into into_side place) c comes in
+    ⊎_elim (λ same. (parts.source, ap parents (eqb-true m first same) ∙ parts.first_there))
+    (λ later. one-there parents second m parts.target parts.second_there later)
+    (or_cases (m == first) (has_number m (second ∷ [])) has)
+parent-there form lines (Refl parent literal bind) c m plain comes has =
+    let parts = by_one-parts (line_parents lines parent) bind (λ ls. resolved ls literal) c comes in
+    one-there (line_parents lines) parent m parts.source parts.there has
+parent-there form lines (Factor parent becomes becomes_side other other_side bind) c m plain comes has =
+    let parts = by_one-parts (line_parents lines parent) bind (λ ls. factored ls becomes becomes_side other other_side) c comes in
+    one-there (line_parents lines) parent m parts.source parts.there has
+parent-there form lines (Merge parent stays goes bind) c m plain comes has =
+    let parts = by_one-parts (line_parents lines parent) bind (λ ls. merged ls stays goes) c comes in
+    one-there (line_parents lines) parent m parts.source parts.there has
+parent-there form lines (Input place) c m plain comes has = absurd (false≢true plain)
+parent-there form lines (Negate place) c m plain comes has = absurd (false≢true plain)
+parent-there form lines (Component name) c m plain comes has = absurd (false≢true plain)
+parent-there form lines (Opposite name) c m plain comes has = absurd (false≢true plain)
+parent-there form lines (Split parent definitions parts) c m plain comes has = absurd (false≢true plain)
+parent-there form lines (Chain numbers pivots) c m plain comes has = absurd (false≢true plain)
+
+-- a derivation that has these steps
+module _ (form : List TreeClause) (steps : List Step) (plain : list_all is_plain_step steps ≡ true)
+    (old : List Line) (derived : IsDerivation form old) (same : steps_of old ≡ steps)
+  where
+    pub step-at : (n : ℕ) (line : Line) → slice_get old n ≡ Some line → slice_get steps n ≡ Some line.step
+    step-at n line at =
+        ap (λ (ss : List Step). slice_get ss n) (sym same) ∙ slice_get-map (λ (l : Line). l.step) old n ∙ ap (option_map (λ (l : Line). l.step)) at
+
+    pub line-at : (n : ℕ) (step : Step) → slice_get steps n ≡ Some step → (line : Line) × (slice_get old n ≡ Some line) × (line.step ≡ step)
+    line-at n step at =
+        option_map-some (λ (l : Line). l.step) (slice_get old n) step
+        (sym (slice_get-map (λ (l : Line). l.step) old n) ∙ ap (λ (ss : List Step). slice_get ss n) same ∙ at)
+        (λ line line_is gives. (line, line_is, gives))
+
+    pub plain-at : (n : ℕ) (line : Line) → slice_get old n ≡ Some line → is_plain_step line.step ≡ true
+    plain-at n line at = list_all-item is_plain_step steps n line.step (step-at n line at) plain
+
+    pub parent-at :
+        (n m : ℕ) (line : Line) → slice_get old n ≡ Some line → has_number m (step_parents line.step) ≡ true
+        → (p : Parent) × (line_parents (take n old) m ≡ Some p)
+    parent-at n m line at has = parent-there form (take n old) line.step (clause_of line.clause) m (plain-at n line at) (derived n line at) has
+
+    pub steps-earlier : cone.StepsNeedEarlier steps
+    steps-earlier n m step other at other_at need =
+        let found = line-at n step at in
+        let needed = line-at m other other_at in
+        need-earlier form old derived n m found.0 needed.0 found.1 needed.1
+        (subst (λ (s : Step). cone.needs_step s m needed.0.step ≡ true) (sym found.2)
+        (subst (λ (s : Step). cone.needs_step step m s ≡ true) (sym needed.2) need))

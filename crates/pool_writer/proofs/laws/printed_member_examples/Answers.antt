@@ -1,7 +1,0 @@
-use Rattle.std.proofs.Common.{refl}
-use Rattle.std.specs.Fmt.{digits}
-use Rattle.pool_writer.proofs.laws.printed_member_examples.Goals as goal
-
-pub returns : goal.returns
-unfolding digits
-returns c = record { none = refl; one = refl; two = refl; asserted = refl }

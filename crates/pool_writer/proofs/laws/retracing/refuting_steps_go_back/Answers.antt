@@ -1,0 +1,5 @@
+use Rattle.pool_writer.proofs.AboutRetracing.RetraceLemmas.{some-step, refuting-earlier}
+use Rattle.pool_writer.proofs.laws.retracing.refuting_steps_go_back.Goals as goal
+
+pub returns : goal.returns
+returns c form steps are = (some-step form steps are, refuting-earlier form steps are)

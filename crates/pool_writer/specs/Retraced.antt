@@ -1,0 +1,50 @@
+-- A refutation made again from its steps: of the lines that the last one needs alone, with their parents' places for their numbers.
+use Rattle.std.specs.Prelude.{◌≡◌, ℕ, ◌<◌, ◌-◌, nat_le, List, Some, length, map, slice_get, IsTrue}
+use Rattle.std.specs.List.{list_all, position_or_len}
+use Rattle.fol_base.specs.Clause.{TreeClause}
+use Rattle.fol_base.specs.Literal.{clause_of}
+use Rattle.kernel_steps.specs.Derivation.{IsDerivation, IsRefutation}
+use Rattle.kernel_steps.specs.Lines.{is_plain_step}
+use Rattle.kernel_steps.specs.ParentNumbers.{with_parents}
+use Rattle.kernel_steps.specs.declared.step.Step.{Step}
+use Rattle.kernel_steps.specs.declared.step.Line.{Line}
+use Rattle.tstp_writer.specs.Cone.{StepsNeedEarlier, IsStepCone}
+
+-- the place of a number among rising ones: after those that are less
+abbrev pub place_among : List ℕ → ℕ → ℕ
+place_among numbers n = position_or_len (λ m. nat_le n m) numbers
+
+-- The line at a place is that of the number there: the same clause, by the same step, with the parents' places for their numbers.
+pub record IsRetraced (numbers : List ℕ) (old : List Line) (place : ℕ) (made : Line) : Type 0 where
+  pub number : ℕ
+  pub numbered : slice_get numbers place ≡ Some number
+  pub line : Line
+  pub there : slice_get old number ≡ Some line
+  pub step : made.step ≡ with_parents (place_among numbers) line.step
+  pub clause : clause_of made.clause ≡ clause_of line.clause
+
+abbrev pub steps_of : List Line → List Step
+steps_of lines = map (λ (l : Line). l.step) lines
+
+-- the steps of a refutation in which nothing is split
+pub record AreRefutingSteps (form : List TreeClause) (steps : List Step) : Type 0 where
+  pub lines : List Line
+  pub refutes : IsRefutation form lines
+  pub same : steps_of lines ≡ steps
+  pub plain : IsTrue (list_all is_plain_step steps)
+
+-- there is such a step, and each needs earlier ones alone
+abbrev pub RefutingStepsGoBack : Type 0
+RefutingStepsGoBack =
+    (form : List TreeClause) (steps : List Step) → AreRefutingSteps form steps → (0 < length steps) × StepsNeedEarlier steps
+
+-- the lines of these numbers, in order
+pub record AreRetraced (numbers : List ℕ) (old made : List Line) : Type 0 where
+  pub count : length made ≡ length numbers
+  pub each : (place : ℕ) (line : Line) → slice_get made place ≡ Some line → IsRetraced numbers old place line
+
+-- Of each derivation that has these steps, the lines are those that the last one needs.
+pub record IsRetracing (form : List TreeClause) (steps : List Step) (made : List Line) : Type 0 where
+  pub numbers : List ℕ
+  pub needed : IsStepCone steps (length steps - 1) numbers
+  pub lines : (old : List Line) → IsDerivation form old → steps_of old ≡ steps → AreRetraced numbers old made

@@ -1,5 +1,0 @@
-pub mod Needed
-pub mod Renumbered
-pub mod Retraced
-pub mod Laws
-pub mod Examples

@@ -1,9 +1,0 @@
-use Rattle.std.proofs.Common.{◌+◌, ◌≤◌}
-use Rattle.tstp_writer.specs.Marks.{IsPassed}
-use Rattle.tstp_writer.proofs.needed.cone.Given as goal
-
-abbrev pub invariant-loop-left : goal.invariant-loop-left
-invariant-loop-left l = (l.left ≤ l.last + 1) × IsPassed l.lines l.last l.left l.marks
-
-abbrev pub decreases-loop-left : goal.decreases-loop-left
-decreases-loop-left l = l.left
