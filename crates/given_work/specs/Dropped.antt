@@ -6,11 +6,11 @@ use Rattle.fol_base.specs.Literal.{clause_of}
 use Rattle.fol_base.specs.declared.clause.Clause.{Clause}
 use Rattle.term_bank.specs.Hash.{tree_hash}
 use Rattle.bank_clause.specs.declared.member.Member.{Member}
-use Rattle.simplification.specs.Simplified.{IsSimplified}
-use Rattle.simplification.specs.declared.simplifying.Simplified.{Simplified}
-use Rattle.simplification.specs.declared.simplifying.Simplified.TheVariants as outcome
-use Rattle.pool_core.specs.declared.batch.Redundancy.{Redundancy}
-use Rattle.pool_core.specs.declared.batch.Redundancy.TheVariants.{Tautology, Subsumed}
+use Rattle.demodulate.specs.Simplified.{IsSimplified}
+use Rattle.demodulate.specs.declared.simplifying.Simplified.{Simplified}
+use Rattle.demodulate.specs.declared.simplifying.Simplified.TheVariants as outcome
+use Rattle.pool_history.specs.declared.batch.Redundancy.{Redundancy}
+use Rattle.pool_history.specs.declared.batch.Redundancy.TheVariants.{Tautology, Subsumed}
 use Rattle.given_work.specs.declared.dropped.Dropped.{Dropped}
 use Rattle.given_work.specs.declared.dropped.DroppedConclusions.{DroppedConclusions}
 

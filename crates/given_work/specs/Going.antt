@@ -9,17 +9,18 @@ use Rattle.kernel_steps.specs.declared.step.TheConstants.{CLAUSE_NUMBERS}
 use Rattle.kernel_steps.specs.declared.step.Line.{Line}
 use Rattle.kernel_steps.specs.declared.step.Reduced.{Reduced}
 use Rattle.bank_clause.specs.declared.member.Member.{Member}
-use Rattle.reduction.specs.Reduced.{IsReduced}
-use Rattle.simplification.specs.Usable.{AreFormed, AreOfClauses, without}
-use Rattle.simplification.specs.Reducing.{NoStepBy}
-use Rattle.pool_core.specs.Record.{GivenJob}
-use Rattle.pool_core.specs.Lines.{result_of, with_parents}
-use Rattle.pool_core.specs.Reduction.{Lookup}
-use Rattle.pool_core.specs.Batches.{IsReducedBeside, IsRightRemoval}
-use Rattle.pool_core.specs.declared.options.Options.{Options}
-use Rattle.pool_core.specs.declared.batch.Fate.{Fate}
-use Rattle.pool_core.specs.declared.batch.Fate.TheVariants.{Kept, Dropped, Heavy}
-use Rattle.pool_core.specs.declared.batch.Removal.{Removal}
+use Rattle.reduced_clause.specs.Reduced.{IsReduced}
+use Rattle.demodulate.specs.Usable.{AreFormed, AreOfClauses, without}
+use Rattle.demodulate.specs.Reducing.{NoStepBy}
+use Rattle.pool_history.specs.Record.{GivenJob}
+use Rattle.kernel_steps.specs.ParentNumbers.{with_parents}
+use Rattle.pool_history.specs.Lines.{result_of}
+use Rattle.pool_history.specs.Reduction.{Lookup}
+use Rattle.pool_history.specs.Batches.{IsReducedBeside, IsRightRemoval}
+use Rattle.pool_history.specs.declared.options.Options.{Options}
+use Rattle.pool_history.specs.declared.batch.Fate.{Fate}
+use Rattle.pool_history.specs.declared.batch.Fate.TheVariants.{Kept, Dropped, Heavy}
+use Rattle.pool_history.specs.declared.batch.Removal.{Removal}
 use Rattle.given_work.specs.Telling.{AreToldSets, told_of}
 
 -- ---- lines

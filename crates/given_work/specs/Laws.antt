@@ -1,16 +1,17 @@
 -- What an index that was told the clauses of a job makes of its ticket.
 use Rattle.std.specs.Prelude.{◌≡◌, ℕ, false, List, length, Some, All}
+use mathlib.Core.List.{IsPrefix}
 use Rattle.bank_clause.specs.Clause.{clause_at}
 use Rattle.bank_clause.specs.declared.member.Member.{Member}
 use Rattle.subsume.specs.Members.{numbers_of}
-use Rattle.pool_core.specs.Answers.{IsTicket}
-use Rattle.pool_core.specs.View.{PoolView}
-use Rattle.pool_core.specs.Record.{GivenJob, clauses_of, given_job}
-use Rattle.pool_core.specs.Replay.{Origin, replay}
-use Rattle.pool_core.specs.Inputs.{AreInputs, IsHistoryOf, IsRightBatch}
-use Rattle.pool_core.specs.declared.batch.Batch.{Batch}
-use Rattle.pool_core.specs.declared.event.Event.{Event}
-use Rattle.pool_core.specs.declared.ticket.Ticket.{Ticket}
+use Rattle.pool_history.specs.Answers.{IsTicket}
+use Rattle.pool_history.specs.View.{PoolView}
+use Rattle.pool_history.specs.Record.{GivenJob, clauses_of, given_job}
+use Rattle.pool_history.specs.Replay.{Origin, replay}
+use Rattle.pool_history.specs.Inputs.{AreInputs, IsHistoryOf, IsRightBatch}
+use Rattle.pool_history.specs.declared.batch.Batch.{Batch}
+use Rattle.pool_history.specs.declared.event.Event.{Event}
+use Rattle.pool_history.specs.declared.ticket.Ticket.{Ticket}
 use Rattle.given_work.specs.View.{IndexView}
 use Rattle.given_work.specs.Learning.{AreNews, learned}
 use Rattle.given_work.specs.Learned.{HasLearned}
@@ -33,6 +34,12 @@ TicketsAreLearned =
     → HasLearned pool index → IsTicket pool.origin pool.history index.told ticket
     → AreNews index.members ticket.news
     × HasLearned pool (record { options = index.options; told = ticket.as_of; members = learned index.members ticket.news })
+
+-- What an index learned of a pool it has learned of the pool after further events.
+abbrev pub LearnedStays : Type 0
+LearnedStays =
+    (pool now : PoolView) (index : IndexView)
+    → now.origin ≡ pool.origin → IsPrefix pool.history now.history → HasLearned pool index → HasLearned now index
 
 -- An index that learned the whole history knows exactly the clauses that the job of a ticket was told.
 abbrev pub LearnedAreToldFor : Type 0

@@ -1,8 +1,8 @@
 -- What an index learned of a pool's history.
 use Rattle.std.specs.Prelude.{◌≡◌, ◌≤◌, List, [], map, length, take}
-use Rattle.pool_core.specs.View.{PoolView}
-use Rattle.pool_core.specs.News.{change_of, news_since}
-use Rattle.pool_core.specs.declared.ticket.Change.{Change}
+use Rattle.pool_history.specs.View.{PoolView}
+use Rattle.pool_history.specs.News.{change_of, news_since}
+use Rattle.pool_history.specs.declared.ticket.Change.{Change}
 use Rattle.given_work.specs.View.{IndexView}
 use Rattle.given_work.specs.Learning.{learned}
 

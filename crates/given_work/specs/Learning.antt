@@ -2,8 +2,8 @@
 use Rattle.std.specs.Prelude.{not, ◌==◌, List, [], ◌∷◌, ◌++◌, filter, fold}
 use Rattle.bank_clause.specs.declared.member.Member.{Member}
 use Rattle.subsume.specs.Editing.{HasNoNumber}
-use Rattle.pool_core.specs.declared.ticket.Change.{Change}
-use Rattle.pool_core.specs.declared.ticket.Change.TheVariants.{Activated, Died}
+use Rattle.pool_history.specs.declared.ticket.Change.{Change}
+use Rattle.pool_history.specs.declared.ticket.Change.TheVariants.{Activated, Died}
 
 -- a clause that is activated has the last position, and one that has died isn't told
 abbrev pub learns : List Member → Change → List Member

@@ -18,16 +18,16 @@ use Rattle.subsume.specs.Members.{numbers_of}
 use Rattle.eq_rules.specs.Inferences.{AreInferences, IsConcluded, IsMade}
 use Rattle.eq_rules.specs.declared.inference.Inference.{Inference}
 use Rattle.superpose.specs.Pairing.{is_from_into}
-use Rattle.pool_core.specs.Record.{GivenJob}
-use Rattle.pool_core.specs.Reduction.{Lookup}
-use Rattle.pool_core.specs.Batches.{IsRightFate}
-use Rattle.pool_core.specs.declared.options.Options.{Options}
-use Rattle.pool_core.specs.declared.batch.Entry.{Entry}
-use Rattle.pool_core.specs.declared.batch.Fate.{Fate}
-use Rattle.pool_core.specs.declared.batch.Fate.TheVariants.{Dropped, Kept}
-use Rattle.pool_core.specs.declared.batch.Redundancy.TheVariants.{Tautology, Subsumed}
-use Rattle.simplification.specs.declared.simplifying.Simplified.{Simplified}
-use Rattle.simplification.specs.declared.simplifying.Simplified.TheVariants as outcome
+use Rattle.pool_history.specs.Record.{GivenJob}
+use Rattle.pool_history.specs.Reduction.{Lookup}
+use Rattle.pool_history.specs.Batches.{IsRightFate}
+use Rattle.pool_history.specs.declared.options.Options.{Options}
+use Rattle.pool_history.specs.declared.batch.Entry.{Entry}
+use Rattle.pool_history.specs.declared.batch.Fate.{Fate}
+use Rattle.pool_history.specs.declared.batch.Fate.TheVariants.{Dropped, Kept}
+use Rattle.pool_history.specs.declared.batch.Redundancy.TheVariants.{Tautology, Subsumed}
+use Rattle.demodulate.specs.declared.simplifying.Simplified.{Simplified}
+use Rattle.demodulate.specs.declared.simplifying.Simplified.TheVariants as outcome
 use Rattle.given_work.specs.Store.{members_in}
 use Rattle.given_work.specs.Telling.{AreToldSets, Tells, told_of}
 

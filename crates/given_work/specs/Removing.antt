@@ -5,11 +5,11 @@ use Rattle.fol_base.specs.Clause.{TreeClause}
 use Rattle.fol_base.specs.WellFormed.{SymbolUse}
 use Rattle.bank_clause.specs.Clause.{clause_at}
 use Rattle.bank_clause.specs.declared.member.Member.{Member}
-use Rattle.pool_core.specs.Record.{GivenJob}
-use Rattle.pool_core.specs.Reduction.{Lookup}
-use Rattle.pool_core.specs.Batches.{IsRightRemoval, Simplifies, is_told_beside}
-use Rattle.pool_core.specs.declared.options.Options.{Options}
-use Rattle.pool_core.specs.declared.batch.Removal.{Removal}
+use Rattle.pool_history.specs.Record.{GivenJob}
+use Rattle.pool_history.specs.Reduction.{Lookup}
+use Rattle.pool_history.specs.Batches.{IsRightRemoval, Simplifies, is_told_beside}
+use Rattle.pool_history.specs.declared.options.Options.{Options}
+use Rattle.pool_history.specs.declared.batch.Removal.{Removal}
 use Rattle.given_work.specs.Telling.{Tells}
 use Rattle.given_work.specs.Going.{IsRemovalOf}
 

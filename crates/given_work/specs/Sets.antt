@@ -4,7 +4,7 @@ use Rattle.fol_base.specs.Clause.{TreeClause}
 use Rattle.bank_clause.specs.Clause.{clause_at}
 use Rattle.bank_clause.specs.declared.member.Member.{Member}
 use Rattle.rewriting.specs.Units.{IsUnit, clause_numbered}
-use Rattle.unit_index.specs.Indexed.{HasOneLiteral}
+use Rattle.unit_cutting.specs.Indexed.{HasOneLiteral}
 use Rattle.given_work.specs.declared.sets.Sets.{Sets}
 
 -- the members of a list whose clauses satisfy the predicate, by their numbers

@@ -7,13 +7,13 @@ use Rattle.bank_clause.specs.Clause.{AreMembersOf, clause_at}
 use Rattle.bank_clause.specs.declared.member.Member.{Member}
 use Rattle.term_bank.specs.declared.bank.Bank.{Bank}
 use Rattle.rewriting.specs.Units.{AreClausesOf}
-use Rattle.calculus.specs.Lifting.{among}
+use Rattle.laws_calculus.specs.Lifting.{among}
 use Rattle.subsume.specs.Members.{numbers_of}
-use Rattle.simplification.specs.Usable.{AreOfClauses, HasAll}
-use Rattle.pool_core.specs.Record.{GivenJob}
-use Rattle.pool_core.specs.Wholeness.{IsWhole}
-use Rattle.pool_core.specs.Reduction.{Lookup}
-use Rattle.pool_core.specs.Batches.{is_told}
+use Rattle.demodulate.specs.Usable.{AreOfClauses, HasAll}
+use Rattle.pool_history.specs.Record.{GivenJob}
+use Rattle.pool_history.specs.Wholeness.{IsWhole}
+use Rattle.pool_history.specs.Reduction.{Lookup}
+use Rattle.pool_history.specs.Batches.{is_told}
 
 -- ---- told clauses
 

@@ -3,7 +3,7 @@ use Rattle.std.specs.Prelude.{ℕ, List}
 use Rattle.std.specs.Coded.{Coded, codes}
 use Rattle.term_bank.specs.Reference.{reference_code}
 use Rattle.bank_clause.specs.declared.member.Member.{Member}
-use Rattle.pool_core.specs.declared.options.Options.{Options}
+use Rattle.pool_history.specs.declared.options.Options.{Options}
 
 -- the pool's options, the place in the history up to which it was told, and the told clauses that live, in the order of their positions
 pub record IndexView : Type 0 where

@@ -4,14 +4,14 @@ use Rattle.fol_base.specs.WellFormed.{SymbolUse}
 use Rattle.literal_selection.specs.declared.choice.Selection.{Selection}
 use Rattle.bank_clause.specs.declared.member.Member.{Member}
 use Rattle.eq_rules.specs.declared.inference.Inference.{Inference}
-use Rattle.pool_core.specs.Record.{GivenJob}
-use Rattle.pool_core.specs.Reduction.{Lookup}
-use Rattle.pool_core.specs.Batches.{IsRightWork}
-use Rattle.pool_core.specs.declared.options.Options.{Options}
-use Rattle.pool_core.specs.declared.batch.Entry.{Entry}
-use Rattle.pool_core.specs.declared.batch.Removal.{Removal}
-use Rattle.pool_core.specs.declared.batch.Work.{Work}
-use Rattle.pool_core.specs.declared.batch.Work.TheVariants.{Met}
+use Rattle.pool_history.specs.Record.{GivenJob}
+use Rattle.pool_history.specs.Reduction.{Lookup}
+use Rattle.pool_history.specs.Batches.{IsRightWork}
+use Rattle.pool_history.specs.declared.options.Options.{Options}
+use Rattle.pool_history.specs.declared.batch.Entry.{Entry}
+use Rattle.pool_history.specs.declared.batch.Removal.{Removal}
+use Rattle.pool_history.specs.declared.batch.Work.{Work}
+use Rattle.pool_history.specs.declared.batch.Work.TheVariants.{Met}
 use Rattle.given_work.specs.Meeting.{AreFirstEntries, AreMetWith}
 use Rattle.given_work.specs.Removing.{AreRemovalsOf}
 use Rattle.given_work.specs.Telling.{Tells}

@@ -8,7 +8,7 @@ ghost use Rattle.given_work.specs.Dropped.{AreDropped, Knows, cause_if_same, cau
 use fol_base::{Clause, Literal, same_clause};
 use indexmap::IndexMap;
 use plain_types::Mem;
-use pool_core::Redundancy;
+use pool_history::Redundancy;
 use std::alloc::Global;
 use term_bank::term_hash;
 
@@ -26,7 +26,7 @@ pub(crate) struct DroppedConclusions {
 }
 
 impl DroppedConclusions {
-    /// None.
+    /// No conclusion was dropped.
     pub(crate) fn new(alloc: Global) -> DroppedConclusions
         ensures { (es us ms : List Member) → AreDropped es us ms result }
     {

@@ -1,25 +1,25 @@
-// What becomes of the inferences of a given clause: an entry for each.
+// The entries of a given clause's inferences, one for each.
 
 ghost use Rattle.std.specs.Prelude.{◌≡◌, List, None, All, IfOk};
 ghost use Rattle.fol_base.specs.Literal.{clause_of};
 ghost use Rattle.bank_clause.specs.declared.member.Member.{Member};
-ghost use Rattle.simplification.specs.Simplified.{IsSimplified};
-ghost use Rattle.pool_core.specs.declared.batch.Fate.TheVariants.{Dropped};
+ghost use Rattle.demodulate.specs.Simplified.{IsSimplified};
+ghost use Rattle.pool_history.specs.declared.batch.Fate.TheVariants.{Dropped};
 ghost use Rattle.given_work.specs.Dropped.{AreDropped, outcome_by};
 ghost use Rattle.given_work.specs.Telling.{AreSetsOfBank};
 ghost use Rattle.given_work.specs.Meeting.{AreFirstEntries, IsConcludedWith, IsEntryOf, IsFateBy, IsFateOf, IsKeptWith, IsMadeWith};
 
 use crate::dropped::DroppedConclusions;
 use crate::going::one_clause;
+use demodulate::{Simplified, Simplifiers, simplify};
 use fol_base::Clause;
 use kernel_steps::{Derivation, Line, Reduced, Step};
 use plain_types::Mem;
-use pool_core::{Entry, Fate, MetEntries, Redundancy};
-use simplification::{Simplified, Simplifiers, simplify};
+use pool_history::{Entry, Fate, MetEntries, Redundancy};
 use std::alloc::Global;
 use superpose::{Inference, Made};
 
-/// The entries of inferences, in order. It stops once so many are there.
+/// The entries of inferences, in order. It stops once `left` of them are there.
 pub(crate) fn entries_of(
     alloc: Global,
     by: &Simplifiers<'_>,
@@ -69,7 +69,7 @@ fn entry_of(
     }
 }
 
-/// What becomes of a conclusion. One that is equal to a dropped one is dropped, too.
+/// The fate of a conclusion. One that is equal to a dropped one is dropped, too.
 fn fate_of(
     alloc: Global,
     by: &Simplifiers<'_>,
@@ -94,7 +94,7 @@ fn fate_of(
     }
 }
 
-/// What becomes of a conclusion that was simplified. One that is dropped is noted.
+/// The fate of a conclusion that was simplified. One that is dropped is noted.
 fn fate_by(
     alloc: Global,
     dropped: &mut DroppedConclusions,

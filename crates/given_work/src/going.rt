@@ -4,21 +4,21 @@ ghost use Rattle.std.specs.Prelude.{◌≡◌, ◌∷◌, [], Some, IfOk, map};
 ghost use Rattle.fol_base.specs.Clause.{TreeClause};
 ghost use Rattle.fol_base.specs.Literal.{clause_of};
 ghost use Rattle.bank_clause.specs.Clause.{IsMemberOf, clause_at};
-ghost use Rattle.pool_core.specs.Lines.{with_parents};
-ghost use Rattle.pool_core.specs.declared.batch.Fate.TheVariants.{Dropped};
+ghost use Rattle.kernel_steps.specs.ParentNumbers.{with_parents};
+ghost use Rattle.pool_history.specs.declared.batch.Fate.TheVariants.{Dropped};
 ghost use Rattle.given_work.specs.Telling.{AreSetsOfBank, AreToldWith};
 ghost use Rattle.given_work.specs.Going.{IsReducedBy, IsRemovalOf, IsReplacedOrSame, batch_lines, number_beside};
 
 use bank_clause::Member;
-use cutting::is_tautology;
+use demodulate::{Simplifiers, reduce};
 use fol_base::{Clause, Clauses};
 use kernel_steps::{CLAUSE_NUMBERS, Derivation, Line, Reduced, Step};
 use plain_types::{Mem, Numbers};
-use pool_core::{Fate, Redundancy, Removal};
-use reduction::{put_used, unreduced};
-use simplification::{Simplifiers, reduce};
+use pool_history::{Fate, Redundancy, Removal};
+use reduced_clause::{put_used, unreduced};
 use std::alloc::Global;
 use subsume::forward_except;
+use unit_cutting::is_tautology;
 
 /// How a told clause goes: it is reduced by the others, or it is redundant beside them, once it is reduced. None exactly where no reducing
 /// step applies to it and it isn't redundant. It is the clause that is left out.
@@ -51,7 +51,7 @@ fn reduced_member(alloc: Global, by: &Simplifiers<'_>, member: &Member) -> Mem<R
     Ok(reduced)
 }
 
-/// What becomes of a clause that was reduced.
+/// The removal of a clause that was reduced.
 fn removal_by(
     alloc: Global,
     by: &Simplifiers<'_>,
@@ -152,16 +152,5 @@ fn parent_beside(victim: u32, parent: u64) -> u64
 fn beside_victim(victim: u32, step: Step) -> Step
     ensures { result ≡ with_parents (number_beside victim) step }
 {
-    let mut step = step;
-    match &mut step {
-        Step::Para { first, second, .. } => {
-            *first = parent_beside(victim, *first);
-            *second = parent_beside(victim, *second);
-        }
-        Step::Refl { parent, .. } => *parent = parent_beside(victim, *parent),
-        Step::Factor { parent, .. } => *parent = parent_beside(victim, *parent),
-        Step::Merge { parent, .. } => *parent = parent_beside(victim, *parent),
-        _ => {}
-    }
-    step
+    step.map_parents(|parent| parent_beside(victim, parent))
 }

@@ -1,15 +1,15 @@
-// What a worker was told: the activated clauses that live, in the sets in which they are looked for.
+// A worker's index: the known clauses, which were activated and live, in the sets in which they are looked for.
 
 ghost use Rattle.std.specs.Prelude.{◌≡◌, [], false, All, IfOk};
 ghost use Rattle.bank_clause.specs.Clause.{AreMembersOf};
-ghost use Rattle.pool_core.specs.Answers.{IsChangeOf};
+ghost use Rattle.pool_history.specs.Answers.{IsChangeOf};
 ghost use Rattle.given_work.specs.Learning.{AreNews, learned};
 
 use crate::learning::learn_all;
 use crate::sets::Sets;
 use crate::store::Store;
 use plain_types::Mem;
-use pool_core::{News, Options};
+use pool_history::{News, Options};
 use std::alloc::Global;
 use std::marker::Model;
 use term_bank::Bank;
@@ -52,7 +52,7 @@ impl Index {
         })
     }
 
-    /// Learns what changed up to a place in the history. After want of memory the index is gone.
+    /// Learns what changed up to a place in the history. After an out-of-memory error the index is gone.
     pub fn learn(self, alloc: Global, bank: &Bank, news: &News, as_of: u64) -> Mem<Index>
         requires of_bank { AreMembersOf bank.now self.members }
         requires changes { All (IsChangeOf bank.now) news.now }
@@ -61,7 +61,7 @@ impl Index {
             ≡ record { options = self.options; told = as_of; members = learned self.members news.now }) }
         ensures of_bank { IfOk result (λ index. AreMembersOf bank.now index.members) }
     {
-        // What the index is made of keeps the allocator.
+        // The parts of the index keep the allocator.
         let _ = alloc;
         let Index {
             options,

@@ -1,20 +1,20 @@
-// What a worker learns: clauses that were activated, and clauses that died.
+// Learning from news: clauses that were activated, and clauses that died.
 
 ghost use Rattle.std.specs.Prelude.{◌≡◌, ◌<◌, All, IfOk};
 ghost use Rattle.kernel_steps.specs.declared.step.TheConstants.{CLAUSE_NUMBERS};
 ghost use Rattle.bank_clause.specs.Clause.{IsMemberOf};
 ghost use Rattle.subsume.specs.Editing.{HasNoNumber};
-ghost use Rattle.pool_core.specs.Answers.{IsChangeOf};
+ghost use Rattle.pool_history.specs.Answers.{IsChangeOf};
 ghost use Rattle.given_work.specs.Learning.{AreNews, IsNew, learned, learns};
 ghost use Rattle.given_work.specs.Store.{members_in};
 ghost use Rattle.given_work.specs.Kept.{IsKept};
-ghost use Rattle.pool_core.specs.declared.ticket.Change.TheVariants.{Activated};
+ghost use Rattle.pool_history.specs.declared.ticket.Change.TheVariants.{Activated};
 
 use crate::sets::Sets;
 use crate::store::Store;
 use bank_clause::Member;
 use plain_types::Mem;
-use pool_core::Change;
+use pool_history::Change;
 use term_bank::Bank;
 
 /// Learns one change.

@@ -7,7 +7,7 @@ ghost use Rattle.fol_base.specs.Term.{tree_of};
 ghost use Rattle.fol_base.specs.declared.limits.TheConstants.{SIZE_LIMIT};
 ghost use Rattle.disc_tree.specs.Entries.{KeepsAll};
 ghost use Rattle.given_work.specs.Occurring.{ListsLiterals, ListsSide, ListsTerm, ListsTerms, numbers_with_instances};
-ghost use Rattle.unit_index.specs.Indexed.{KeepsOthers};
+ghost use Rattle.unit_cutting.specs.Indexed.{KeepsOthers};
 
 use bank_clause::BankLiterals;
 use disc_tree::DiscTree;
@@ -30,7 +30,7 @@ pub(crate) fn put_literals(
     Ok(())
 }
 
-/// The same of one literal.
+/// As above, for one literal.
 fn put_literal(terms: &mut DiscTree, literal: LiteralRef<'_>, number: u32) -> Mem<()>
     ensures left { IfOk result (λ _. ListsSide number terms.new (lent_of literal.entry).left) }
     ensures right { IfOk result (λ _. ListsSide number terms.new (lent_of literal.entry).right) }
@@ -69,7 +69,7 @@ fn put_term(terms: &mut DiscTree, term: &Term, number: u32) -> Mem<()>
     }
 }
 
-/// The same of each argument of a term.
+/// As above, for each argument of a term.
 #[cycle(put_term)]
 fn put_arguments(terms: &mut DiscTree, arguments: &[Term], number: u32) -> Mem<()>
     ensures put { IfOk result (λ _. ListsTerms number terms.new (map tree_of arguments.now)) }
@@ -90,7 +90,7 @@ pub(crate) fn take_literals(terms: &mut DiscTree, literals: &BankLiterals<'_>, n
     }
 }
 
-/// The same of one literal.
+/// As above, for one literal.
 fn take_literal(terms: &mut DiscTree, literal: LiteralRef<'_>, number: u32)
     ensures { KeepsOthers number terms.old terms.new }
 {
@@ -109,7 +109,7 @@ fn take_term(terms: &mut DiscTree, term: &Term, number: u32)
     }
 }
 
-/// The same of each argument of a term.
+/// As above, for each argument of a term.
 #[cycle(take_term)]
 fn take_arguments(terms: &mut DiscTree, arguments: &[Term], number: u32)
     ensures { KeepsOthers number terms.old terms.new }

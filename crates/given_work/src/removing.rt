@@ -12,17 +12,17 @@ use crate::occurring::push_with_instances;
 use crate::sets::Sets;
 use crate::store::Store;
 use bank_clause::Member;
+use demodulate::Simplifiers;
 use disc_tree::DiscTree;
 use fol_base::{LendsLiterals, SIZE_LIMIT};
 use kernel_steps::CLAUSE_NUMBERS;
 use partners::in_order;
 use plain_types::{Mem, Numbers};
-use pool_core::{Removal, Removals};
-use simplification::Simplifiers;
+use pool_history::{Removal, Removals};
 use std::alloc::Global;
 use subsume::backward;
 use term_bank::Bank;
-use unit_index::has_one_literal;
+use unit_cutting::has_one_literal;
 
 /// The removals of the told clauses that a given one simplifies.
 pub(crate) fn removals_of(

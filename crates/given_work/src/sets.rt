@@ -5,7 +5,7 @@ ghost use Rattle.bank_clause.specs.Clause.{IsMemberOf};
 ghost use Rattle.bank_clause.specs.declared.member.Member.{Member};
 ghost use Rattle.rewriting.specs.Units.{AreClausesOf, IsUnit, clause_numbered};
 ghost use Rattle.subsume.specs.Editing.{HasNoNumber};
-ghost use Rattle.unit_index.specs.Indexed.{HasOneLiteral};
+ghost use Rattle.unit_cutting.specs.Indexed.{HasOneLiteral};
 ghost use Rattle.given_work.specs.Sets.{AreSetsOf, FindsThose, HasMembers};
 
 use bank_clause::Member;
@@ -14,7 +14,7 @@ use rewriting::{Units, is_unit};
 use std::alloc::Global;
 use subsume::Subsumers;
 use term_bank::Bank;
-use unit_index::{UnitIndex, has_one_literal};
+use unit_cutting::{UnitIndex, has_one_literal};
 
 /// The sets of told clauses by which others are simplified.
 #[derive(Drop)]

@@ -6,7 +6,7 @@ ghost use Rattle.bank_clause.specs.declared.member.Member.{Member};
 ghost use Rattle.partners.specs.Partners.{AreOfBank};
 ghost use Rattle.subsume.specs.Editing.{HasNoNumber};
 ghost use Rattle.given_work.specs.Occurring.{ListsMembers};
-ghost use Rattle.unit_index.specs.Indexed.{KeepsOthers};
+ghost use Rattle.unit_cutting.specs.Indexed.{KeepsOthers};
 ghost use Rattle.given_work.specs.Store.{ArePlaced, members_in};
 
 use crate::occurring::{put_literals, take_literals};
@@ -23,7 +23,7 @@ use term_bank::Bank;
 #[derive(Drop)]
 pub(crate) struct Store {
     pub(crate) slots: Vec<Option<Member>>,
-    /// The same clauses with what superposition asks of each, which is found once. Their positions are their places.
+    /// These clauses with the sites of each for superposition, which are found once. Their positions are their places.
     pub(crate) partners: Partners,
     /// The terms that occur in them.
     pub(crate) terms: DiscTree,
@@ -44,7 +44,7 @@ impl Store {
         })
     }
 
-    /// Adds a clause behind the others. No clause with its number is there.
+    /// Adds a clause after the others. No clause with its number is there.
     pub(crate) fn put(&mut self, bank: &Bank, member: &Member) -> Mem<()>
         requires placed { ArePlaced self.old }
         requires member { IsMemberOf bank.now member.now }

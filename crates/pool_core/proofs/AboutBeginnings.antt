@@ -1,5 +1,5 @@
 -- The new pool and its inputs.
-pub mod StartLemmas
 pub mod BegunLemmas
-pub mod BeginningLemmas
+pub mod InputLemmas
 pub mod LivingLemmas
+pub mod StartLemmas

@@ -1,12 +1,11 @@
 -- The work of a batch and its return.
-pub mod ProofStateLemmas
-pub mod ComingLemmas
 pub mod ArrivalLemmas
-pub mod ProposedLemmas
+pub mod ComingLemmas
 pub mod InternedLemmas
-pub mod RightBatchLemmas
+pub mod ProofStateLemmas
+pub mod ProposedLemmas
 pub mod ReturnLemmas
-pub mod TakenLemmas
-pub mod TakeableLemmas
+pub mod RightBatchLemmas
 pub mod StaleLemmas
-pub mod StayingLemmas
+pub mod TakeableLemmas
+pub mod TakenLemmas

@@ -1,17 +1,16 @@
 -- What a pool's notes tell, and the ticket of the clause that is given next. Only private functions cite this.
-use Rattle.std.specs.Prelude.{◌≡◌, ℕ, suc, ◌+◌, ◌-◌, ◌<◌, List, [], ◌∷◌, ◌++◌, map, length, Some, slice_get, option_map, unwrap_or, All, if◌then◌else◌}
+use Rattle.std.specs.Prelude.{◌≡◌, ℕ, suc, ◌+◌, ◌-◌, ◌<◌, List, ◌++◌, map, length, Some, slice_get, option_map, unwrap_or, All}
 use Rattle.fol_base.specs.Clause.{TreeClause}
 use Rattle.kernel_steps.specs.Conclusion.{empty_clause}
-use Rattle.kernel_steps.specs.Split.{has_number}
 use Rattle.bank_clause.specs.Clause.{clause_at, IsClauseOf}
-use Rattle.pool_core.specs.Record.{PoolRecord, GivenJob, clauses_of, clause_numbered, position_of}
-use Rattle.pool_core.specs.Replay.{Origin, replay}
-use Rattle.pool_core.specs.News.{TreeChange, activated, died, change_of, news_since}
-use Rattle.pool_core.specs.declared.event.Event.{Event}
+use Rattle.pool_history.specs.Record.{GivenJob, clauses_of, position_of}
+use Rattle.pool_history.specs.Replay.{Origin, replay}
+use Rattle.pool_history.specs.News.{first_told, TreeChange, activated, died, change_of, news_since}
+use Rattle.pool_history.specs.declared.event.Event.{Event}
 use Rattle.pool_core.specs.declared.register.Registration.{Registration}
 use Rattle.pool_core.specs.declared.pool.Note.{Note}
 use Rattle.pool_core.specs.declared.pool.Note.TheVariants.{Activated, Died}
-use Rattle.pool_core.specs.declared.ticket.Ticket.{Ticket}
+use Rattle.pool_history.specs.declared.ticket.Ticket.{Ticket}
 
 -- ---- notes
 
@@ -32,10 +31,6 @@ abbrev pub AreOfBank : ℕ → List Registration → Type 0
 AreOfBank bank ss = All (λ (s : Registration). IsClauseOf bank s.clause) ss
 
 -- ---- tickets
-
--- what a claim tells of the clause that it gives
-abbrev pub first_told : PoolRecord → ℕ → List TreeChange
-first_told r n = if has_number n r.positions then [] else activated n (clause_numbered r n) ∷ []
 
 -- the ticket of the clause that is next, before it is given out
 pub record IsNextTicket (origin : Origin) (history : List Event) (told number : ℕ) (ticket : Ticket) : Type 0 where

@@ -16,28 +16,28 @@ use Rattle.term_bank.specs.declared.table.Table.{Table}
 use Rattle.bank_clause.specs.Clause.{clause_at, IsKnown}
 use Rattle.clause_queue.specs.Pairs.{without}
 use Rattle.kernel_steps.specs.declared.key.Key.{Key}
-use Rattle.pool_core.specs.Answers.{dead_justifier}
+use Rattle.pool_history.specs.Answers.{dead_justifier}
 use Rattle.pool_core.specs.ClauseHash.{clause_hash}
-use Rattle.pool_core.specs.Inputs.{IsRightBatch}
-use Rattle.pool_core.specs.Lawful.{IsGivenOut}
-use Rattle.pool_core.specs.Record.{PoolRecord, Death, lives}
-use Rattle.pool_core.specs.Replay.{Origin, replay}
-use Rattle.pool_core.specs.Lines.{result_of}
-use Rattle.pool_core.specs.Counting.{lines_of_fate, lines_of_entries, keys_of, refutes, result_comes}
-use Rattle.pool_core.specs.Returning.{heavy_entries}
+use Rattle.pool_history.specs.Inputs.{IsRightBatch}
+use Rattle.pool_history.specs.Lawful.{IsGivenOut}
+use Rattle.pool_history.specs.Record.{PoolRecord, Death, lives}
+use Rattle.pool_history.specs.Replay.{Origin, replay}
+use Rattle.pool_history.specs.Lines.{result_of}
+use Rattle.pool_history.specs.Counting.{lines_of_fate, lines_of_entries, keys_of, refutes, result_comes}
+use Rattle.pool_history.specs.Returning.{heavy_entries, removals_of}
 use Rattle.pool_core.specs.State.{IsProofStateOf}
-use Rattle.pool_core.specs.declared.batch.Batch.{Batch}
-use Rattle.pool_core.specs.declared.batch.Entry.{Entry}
-use Rattle.pool_core.specs.declared.batch.Fate.{Fate}
-use Rattle.pool_core.specs.declared.batch.Fate.TheVariants.{Kept, Dropped, Heavy}
-use Rattle.pool_core.specs.declared.batch.Removal.{Removal}
-use Rattle.pool_core.specs.declared.batch.Work.{Work}
-use Rattle.pool_core.specs.declared.batch.Work.TheVariants.{Gone, Met}
-use Rattle.pool_core.specs.declared.event.Event.{Event}
+use Rattle.pool_history.specs.declared.batch.Batch.{Batch}
+use Rattle.pool_history.specs.declared.batch.Entry.{Entry}
+use Rattle.pool_history.specs.declared.batch.Fate.{Fate}
+use Rattle.pool_history.specs.declared.batch.Fate.TheVariants.{Kept, Dropped, Heavy}
+use Rattle.pool_history.specs.declared.batch.Removal.{Removal}
+use Rattle.pool_history.specs.declared.batch.Work.{Work}
+use Rattle.pool_history.specs.declared.batch.Work.TheVariants.{Gone, Met}
+use Rattle.pool_history.specs.declared.event.Event.{Event}
 use Rattle.pool_core.specs.declared.interning.Interned.{Interned}
 use Rattle.pool_core.specs.declared.interning.Results.{Results}
 use Rattle.pool_core.specs.declared.interning.Prepared.{Prepared}
-use Rattle.pool_core.specs.declared.outcome.Outcome.TheVariants.{Spent}
+use Rattle.pool_history.specs.declared.outcome.Outcome.TheVariants.{Spent}
 use Rattle.pool_core.specs.declared.pool.Note.{Note}
 use Rattle.pool_core.specs.declared.pool.Note.TheVariants.{Died}
 use Rattle.pool_core.specs.declared.pool.ProofState.{ProofState}
@@ -113,10 +113,6 @@ IsFit Heavy = Unit {0}
 abbrev pub entries_of : Work → List Entry
 entries_of (Gone m) = []
 entries_of (Met entries removals) = entries
-
-abbrev pub removals_of : Work → List Removal
-removals_of (Gone m) = m ∷ []
-removals_of (Met entries removals) = removals
 
 pub record IsFitWork (work : Work) : Type 0 where
   pub entries : All (λ (e : Entry). IsFit e.fate) (entries_of work)

@@ -1,22 +1,21 @@
 -- What a pool keeps: each field is what the replay of its history has.
 use Rattle.std.specs.Prelude.{◌≡◌, ℕ, ◌+◌, ◌<◌, ◌≤◌, ◌%◌, ◌==◌, true, false, [], map, length, take, position, slice_get, None, Some, vec_len, vec_capacity, All}
-use Rattle.fol_base.specs.Clause.{clause_size}
 use Rattle.fol_base.specs.Literal.{clause_of}
 use Rattle.kernel_steps.specs.Split.{has_number}
 use Rattle.kernel_steps.specs.declared.step.Line.{Line}
 use Rattle.term_bank.specs.declared.bank.Bank.{Bank}
 use Rattle.term_bank.specs.declared.table.Table.{Table}
-use Rattle.pool_core.specs.View.{PoolView}
+use Rattle.pool_history.specs.View.{PoolView}
 use Rattle.pool_core.specs.CountedList.{keys_in}
-use Rattle.pool_core.specs.Events.{events_of}
-use Rattle.pool_core.specs.Record.{PoolRecord, Registered, Death, GivenJob, clause_numbered}
-use Rattle.pool_core.specs.Registering.{has_none}
-use Rattle.pool_core.specs.Claiming.{ready}
-use Rattle.pool_core.specs.Replay.{Origin, start, replay}
-use Rattle.pool_core.specs.News.{changes_from}
+use Rattle.pool_core.specs.KeptEvents.{events_of}
+use Rattle.pool_history.specs.Record.{PoolRecord, Registered, Death, GivenJob}
+use Rattle.pool_history.specs.Registering.{has_none}
+use Rattle.pool_history.specs.Claiming.{pair_of, ready}
+use Rattle.pool_history.specs.Replay.{Origin, start, replay}
+use Rattle.pool_history.specs.News.{changes_from}
 use Rattle.pool_core.specs.Noted.{IsNoted, change_at}
-use Rattle.pool_core.specs.Answers.{death_of}
-use Rattle.pool_core.specs.Inputs.{AreInputs, IsLimit, IsHistoryOf}
+use Rattle.pool_history.specs.Answers.{death_of}
+use Rattle.pool_history.specs.Inputs.{AreInputs, IsLimit, IsHistoryOf}
 use Rattle.pool_core.specs.Started.{registered_at, IsOfTable}
 use Rattle.pool_core.specs.declared.register.Registration.{Registration}
 use Rattle.pool_core.specs.declared.pool.OutJob.{OutJob}
@@ -40,10 +39,6 @@ pub record IsRegistration (r : PoolRecord) (n : ℕ) (s : Registration) : Type 0
 -- a job that is out, by its number
 abbrev pub job_entry : GivenJob → ℕ × OutJob
 job_entry j = (j.job, record { number = j.number; left = j.left })
-
--- a clause that waits, with its size
-abbrev pub pair_of : PoolRecord → ℕ → ℕ × ℕ
-pair_of r n = (n, clause_size (clause_numbered r n))
 
 -- ---- what the work of batches changes
 

@@ -47,7 +47,7 @@ impl Chains {
         self.older[number]
     }
 
-    /// Makes room for so many more numbers, and leaves the chains as they are.
+    /// Makes room for `more` numbers, and leaves the chains as they are.
     pub(crate) fn reserve(&mut self, more: usize) -> Mem<()>
         ensures older { self.new.older.items ≡ self.old.older.items }
         ensures len { vec_len self.new.older ≡ vec_len self.old.older }

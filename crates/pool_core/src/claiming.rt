@@ -3,36 +3,35 @@
 ghost use Rattle.std.specs.Prelude.{◌≡◌, ℕ, suc, ◌+◌, ◌<◌, ◌≤◌, ◌==◌, ◌++◌, [], ◌∷◌, None, Some, if◌then◌else◌, map, length, take, All, slice_get, slice_set, IfOk, OnOk, OnErr, IsFalse, vec_len, vec_capacity};
 ghost use Rattle.std.specs.BTreeMap.{insert_entry};
 ghost use Rattle.std.specs.Ordering.{nat_cmp};
-ghost use Rattle.pool_core.specs.Answers.{IsAnswerToClaim, IsTicket, IsChangeOf, IsTicketOf, IsClaimedOf};
-ghost use Rattle.pool_core.specs.Claiming.{next_given};
-ghost use Rattle.pool_core.specs.Events.{events_of};
-ghost use Rattle.pool_core.specs.News.{change_of, changes_from, news_since};
-ghost use Rattle.pool_core.specs.Noted.{AreOfBank, IsNoted, IsNextTicket, change_at, first_told};
-ghost use Rattle.pool_core.specs.Record.{jobs_out, position_of};
+ghost use Rattle.pool_history.specs.Answers.{IsAnswerToClaim, IsTicket, IsChangeOf, IsTicketOf, IsClaimedOf};
+ghost use Rattle.pool_history.specs.Claiming.{next_given};
+ghost use Rattle.pool_core.specs.KeptEvents.{events_of};
+ghost use Rattle.pool_history.specs.News.{change_of, changes_from, news_since, first_told};
+ghost use Rattle.pool_core.specs.Noted.{AreOfBank, IsNoted, IsNextTicket, change_at};
+ghost use Rattle.pool_history.specs.Record.{jobs_out, position_of};
 ghost use Rattle.pool_core.specs.Register.{at_position};
-ghost use Rattle.pool_core.specs.Replay.{start, replay};
-ghost use Rattle.pool_core.specs.Solving.{must_solve};
-ghost use Rattle.pool_core.specs.declared.event.Event.TheVariants.{Claim};
+ghost use Rattle.pool_history.specs.Replay.{start, replay};
+ghost use Rattle.pool_history.specs.Solving.{must_solve};
+ghost use Rattle.pool_history.specs.declared.event.Event.TheVariants.{Claim};
 ghost use Rattle.pool_core.specs.declared.pool.Note.TheVariants.{Activated};
 ghost use Rattle.pool_core.specs.declared.register.Registration.{Registration};
 
-use crate::event::Event;
 use crate::history::History;
 use crate::pool::{Note, OutJob, Pool};
 use crate::register::Register;
-use crate::ticket::{Change, Claimed, News, Ticket};
 use bank_clause::Member;
 use clause_queue::Choice;
 use plain_types::{Mem, NoMemory};
+use pool_history::{Change, Claimed, Event, News, Ticket};
 use std::alloc::Global;
 use std::collections::BTreeMap;
 
-/// Of so many given claims the last is of the oldest clause.
+/// In each run of this many given claims the last is of the oldest clause.
 const GIVEN_CLAIMS: u64 = 6;
 
 impl Pool {
     /// The answer to a caller that knows the activations and deaths of the first `told` events: an outcome that stands, a clause to work on,
-    /// or how many jobs are out. After want of memory the pool is as before.
+    /// or how many jobs are out. After an out-of-memory error the pool is as before.
     pub fn claim(&mut self, alloc: Global, told: u64) -> Mem<Claimed>
         requires told { told ≤ length self.old.history }
         ensures bank { self.new.bank ≡ self.old.bank }
@@ -180,7 +179,7 @@ impl Pool {
     }
 }
 
-/// What a note tells.
+/// The change that a note tells.
 fn change(register: &Register, note: Note) -> Mem<Change>
     requires { IsNoted (length register.now.clauses) note }
     ensures told { IfOk result (λ change. change_of change ≡ change_at register.now.clauses note) }
@@ -255,7 +254,7 @@ fn activate(
     }
 }
 
-/// The next number. One past 64 bits is told as want of memory.
+/// The next number. One past 64 bits is told as out of memory.
 pub(crate) fn one_more(number: u64) -> Mem<u64>
     ensures { IfOk result (λ next. next ≡ number + 1) }
 {

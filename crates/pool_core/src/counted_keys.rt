@@ -32,7 +32,7 @@ impl CountedKeys {
         self.keys.len()
     }
 
-    /// Makes room for so many more names, and leaves the names as they are.
+    /// Makes room for `more` names, and leaves the names as they are.
     pub(crate) fn reserve(&mut self, more: usize) -> Mem<()>
         ensures keys { keys_in self.new ≡ keys_in self.old }
         ensures room { OnOk result (vec_len self.new.keys + more ≤ vec_capacity self.new.keys) }

@@ -7,7 +7,7 @@ ghost use Rattle.std.specs.Vec.Iter.{into_iter_items};
 ghost use Rattle.term_bank.specs.declared.bank.Bank.{Bank};
 ghost use Rattle.term_bank.specs.declared.table.Table.{Table};
 ghost use Rattle.pool_core.specs.CountedList.{keys_in};
-ghost use Rattle.pool_core.specs.Counting.{counts, keys_of, lines_of_entries, lines_of_fate};
+ghost use Rattle.pool_history.specs.Counting.{counts, keys_of, lines_of_entries, lines_of_fate};
 ghost use Rattle.pool_core.specs.Placing.{
   AreInterned,
   IsResultOf,
@@ -22,18 +22,16 @@ ghost use Rattle.pool_core.specs.Placing.{
   HasRoom,
   entries_of,
   lines_of_removals,
-  removals_of,
 };
-ghost use Rattle.pool_core.specs.Record.{PoolRecord};
+ghost use Rattle.pool_history.specs.Record.{PoolRecord};
 ghost use Rattle.pool_core.specs.Register.{is_living_at};
-ghost use Rattle.pool_core.specs.Returning.{replaced, proposed, worked};
+ghost use Rattle.pool_history.specs.Returning.{removals_of, replaced, proposed, worked};
 
-use crate::batch::{Entry, Fate, MetEntries, Removal, Removals, Work};
 use crate::counted_keys::CountedKeys;
 use crate::interning::{Interned, Prepared};
-use crate::options::Options;
 use crate::pool::ProofState;
 use kernel_steps::Key;
+use pool_history::{Entry, Fate, MetEntries, Options, Removal, Removals, Work};
 use std::vec::IntoIter;
 use term_bank::Bank;
 

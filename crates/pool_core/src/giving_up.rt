@@ -1,12 +1,12 @@
 // Jobs that are given up.
 
 ghost use Rattle.std.specs.Prelude.{◌≡◌, ◌++◌, [], ◌∷◌};
-ghost use Rattle.pool_core.specs.Lawful.{IsOut};
-ghost use Rattle.pool_core.specs.Replay.{replay};
-ghost use Rattle.pool_core.specs.declared.event.Event.TheVariants.{Abandon};
+ghost use Rattle.pool_history.specs.Lawful.{IsOut};
+ghost use Rattle.pool_history.specs.Replay.{replay};
+ghost use Rattle.pool_history.specs.declared.event.Event.TheVariants.{Abandon};
 
-use crate::event::Event;
 use crate::pool::Pool;
+use pool_history::Event;
 
 impl Pool {
     /// Gives up a job that is out. Its clause waits again, if it lives, and keeps its position. No memory is taken.

@@ -1,10 +1,10 @@
 // The pool as the state of a turn lock: each event is of one job.
 
 ghost use Rattle.std.specs.Prelude.{[]};
-ghost use Rattle.pool_core.specs.Events.{job_of};
+ghost use Rattle.pool_history.specs.Events.{job_of};
 
-use crate::event::Event;
 use crate::pool::Pool;
+use pool_history::Event;
 use turn_lock::Historied;
 
 impl Historied for Pool {

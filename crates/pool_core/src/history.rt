@@ -1,12 +1,12 @@
 // The history of a pool, as contracts see it.
 
-ghost use Rattle.std.specs.Prelude.{◌≡◌, ◌+◌, ◌<◌, ◌≤◌, ◌++◌, [], ◌∷◌, length, vec_len, vec_capacity, OnOk};
-ghost use Rattle.pool_core.specs.Events.{events_of};
-ghost use Rattle.pool_core.specs.declared.event.Event.TheVariants.{Return};
+ghost use Rattle.std.specs.Prelude.{◌≡◌, Some, ◌+◌, ◌<◌, ◌≤◌, ◌++◌, [], ◌∷◌, length, vec_len, vec_capacity, OnOk};
+ghost use Rattle.pool_core.specs.KeptEvents.{events_of};
+ghost use Rattle.pool_history.specs.declared.batch.Batch.{Batch};
+ghost use Rattle.pool_history.specs.declared.event.Event.TheVariants.{Return};
 
-use crate::batch::Batch;
-use crate::event::Event;
 use plain_types::Mem;
+use pool_history::{Batch, Event};
 use std::alloc::Global;
 use std::snapshot::Snapshot;
 
@@ -34,7 +34,7 @@ impl History {
         self.events.len() as u64
     }
 
-    /// Makes room for so many more events, and leaves the events as they are.
+    /// Makes room for `more` events, and leaves the events as they are.
     pub(crate) fn reserve(&mut self, more: usize) -> Mem<()>
         ensures events { events_of self.new ≡ events_of self.old }
         ensures len { vec_len self.new.events ≡ vec_len self.old.events }
@@ -54,6 +54,7 @@ impl History {
     {
         self.events.push_reserved(Snapshot::of(event));
     }
+
     /// Adds the return of a batch, which comes back. There is room for it.
     pub(crate) fn push_return(&mut self, batch: Batch) -> Batch
         requires { vec_len self.old.events < vec_capacity self.old.events }
@@ -64,9 +65,19 @@ impl History {
     {
         let event = Event::Return(batch);
         self.push(&event);
-        let Some(batch) = event.into_batch() else {
+        let Some(batch) = returned_batch(event) else {
             unreachable!();
         };
         batch
+    }
+}
+
+/// The batch that was taken in an event, if one was.
+fn returned_batch(event: Event) -> Option<Batch>
+    ensures { (batch : Batch) → event ≡ Return batch → result ≡ Some batch }
+{
+    match event {
+        Event::Return(batch) => Some(batch),
+        _other => None,
     }
 }

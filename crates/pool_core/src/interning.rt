@@ -3,18 +3,17 @@
 ghost use Rattle.std.specs.Prelude.{◌≡◌, [], ◌++◌, List, All, OnOk, IfOk, option_to_list};
 ghost use Rattle.kernel_steps.specs.declared.step.Line.{Line};
 ghost use Rattle.term_bank.specs.Table.{IsTableOf};
-ghost use Rattle.pool_core.specs.Counting.{lines_of_fate, lines_of_entries, keys_of};
+ghost use Rattle.pool_history.specs.Counting.{lines_of_fate, lines_of_entries, keys_of};
 ghost use Rattle.pool_core.specs.Placing.{AreResults, KnowsMore, IsFit, IsFitWork, IsPrepared, lines_of_removals};
-ghost use Rattle.pool_core.specs.Returning.{heavy_entries};
-ghost use Rattle.pool_core.specs.declared.batch.Entry.{Entry};
-ghost use Rattle.pool_core.specs.declared.batch.Removal.{Removal};
+ghost use Rattle.pool_history.specs.Returning.{heavy_entries};
+ghost use Rattle.pool_history.specs.declared.batch.Entry.{Entry};
+ghost use Rattle.pool_history.specs.declared.batch.Removal.{Removal};
 
-use crate::batch::{Entry, Fate, Removal, Work};
 use crate::clause_hash::clause_hash;
-use crate::keys::copied_key;
 use bank_clause::BankClause;
 use kernel_steps::Key;
 use plain_types::{Mem, NoMemory};
+use pool_history::{Entry, Fate, Removal, Work};
 use std::alloc::Global;
 use std::sync::Wait;
 use term_bank::{Bank, Table};
@@ -33,7 +32,7 @@ pub struct Results {
     pub(crate) lines: usize,
 }
 
-/// What a batch brings: the results of its entries and of its removals, and the names of its heavy inferences.
+/// The memory that a batch needs, taken: the results of its entries and of its removals, and the names of its heavy inferences.
 #[derive(Drop)]
 pub struct Prepared {
     pub(crate) entries: Results,
@@ -169,7 +168,7 @@ fn heavy_keys(alloc: Global, entries: &[Entry]) -> Mem<Vec<Key>>
     let mut keys = Vec::new(alloc);
     for entry in entries {
         if let Fate::Heavy = entry.fate {
-            keys.push(copied_key(alloc, &entry.key)?)?;
+            keys.push(entry.key.copy(alloc)?)?;
         }
     }
     Ok(keys)

@@ -1,53 +1,59 @@
-// The pool of clauses: what is claimed and returned, and what the history of it amounts to.
-//
-// The definitions of the pool stand in `specs/`: the record, the events and their replay, lawful histories, right batches and answers.
-// `batch.rt`, `event.rt`, `ticket.rt`, `options.rt` and `outcome.rt` have the types. `history.rt` has the history, whose events contracts
-// alone see, `counted_keys.rt` the counted list, likewise, `register.rt` the registered clauses, which `clause_hash.rt` and `chains.rt`
-// find by their hashes, `start.rt` registers the inputs, and `pool.rt` has the pool and what it tells. `claiming.rt` has claims,
-// `giving_up.rt` jobs that are given up, `returning.rt` the call by which batches come back, `taking.rt` batches that are taken,
-// `interning.rt` with `keys.rt` their results in the bank, `proof_state.rt`, `placing.rt` and `counting.rt` the work of a batch, which
-// takes no memory, `members.rt` what a pool hands out of its clauses and lines, and `historied.rt` the pool as the state of a turn lock.
-// `laws.rt` has the laws and the worked examples.
-//
-// A claim makes the ticket first, then takes all its memory in one place (`take_memory`): the entry of the job, and room for an
-// activation and for an event and a count of notes of each job that is out. What follows can't fail. News are read off the notes, a list
-// of all activations and deaths, from the place that stands beside the event up to which the caller was told. A return takes its memory
-// in one place too, in `taking.rt`: the results with their terms in the bank, room for all that may come or die and for the clauses of
-// the jobs that are out, and at last the names that are set aside; after want of memory the batch comes back. Nothing in it is linear in
-// the pool. A job that is given up puts its clause back into the queue, where the node that the claim took out is spare.
+//! The pool of clauses: what is claimed and returned, and what it keeps to answer at once.
+//!
+//! Contracts see a pool as its bank, what it began with, and its history, the list of its events. What each call answers is told by the
+//! replay of these, whose definitions and laws stand in `pool_history`, a crate below; they are shown again here. So a contract names no
+//! field, and a theorem on histories is one on pools. The invariant (`specs/State.antt`) says of each field that it is the replay's.
+//!
+//! **What is kept, and why.**
+//!
+//! - The *register* (`register.rt`) has the registered clauses by their numbers, with the events in which they died, and finds the living
+//!   copy of a clause by its hash. Clauses of one hash are chained from the newest to the oldest (`chains.rt`, `clause_hash.rt`).
+//! - The *queue* has the clauses that wait, by age and by size.
+//! - The *notes* are a list of all activations and deaths. Beside each event stands how many came before it. So the news since an event
+//!   are read off the list, from one place on, however many workers ask and whenever they asked last.
+//! - The *steps* of the lines alone: a line's clause is its step's conclusion, and the writer makes it again for the few that it prints.
+//! - Of the events and the counted keys only the numbers (`history.rt`, `counted_keys.rt`): what a batch held is in the clauses and lines,
+//!   and contracts alone see more. The keys that were set aside are kept, since the outcome names one.
+//!
+//! **Calls.** `claim` (`claiming.rt`) gives out a clause, `give_back` (`returning.rt`) takes a batch or turns it down, and `abandon`
+//! (`giving_up.rt`) takes a job back. `pool.rt` begins a pool (`inputs.rt`) and tells of it, `members.rt` hands out clauses and lines.
+//! `historied.rt` makes a pool the state of a turn lock.
+//!
+//! **A return** does its work in two halves. `taking.rt` takes all the memory: the results are made of terms of the bank
+//! (`interning.rt`), and there is room for all that may come or die. After an out-of-memory error the batch comes back, and the pool is
+//! as before. Then `proof_state.rt`, `placing.rt` and `counting.rt` do what the replay says, in its order: the given clause dies or
+//! becomes active, entries are counted, results are registered, and removals take effect. That half can't fail.
+//!
+//! A claim does likewise: it makes the ticket, then takes room for the job's entry, for a position, and for an event and a count of notes
+//! for each job that is out. So giving a job up takes no memory, and can't fail: its event has room, and its clause a node in the queue.
+//!
+//! **Cost.** A claim costs the news since the caller was told and a logarithm for the queue and the jobs. A return costs its batch: each
+//! result is hashed once and looked up in one chain. Nothing is linear in the pool but `members`, `outcome` where nothing waits and keys
+//! were set aside, and a look-up where many equal clauses have died.
 #![tactic(auto)]
 
-mod batch;
 mod chains;
 mod claiming;
 mod clause_hash;
 mod counted_keys;
 mod counting;
-mod event;
 mod giving_up;
 mod historied;
 mod history;
+mod inputs;
 mod interning;
-mod keys;
 mod members;
-mod options;
-mod outcome;
 mod placing;
 mod pool;
 mod proof_state;
 mod register;
 mod returning;
-mod start;
 mod taking;
-mod ticket;
 
-pub use batch::{Batch, Entry, Fate, MetEntries, Redundancy, Removal, Removals, Work};
-pub use event::Event;
 pub use history::History;
-pub use options::Options;
-pub use outcome::Outcome;
 pub use pool::{Keys, Pool};
+pub use pool_history::{
+    Back, Batch, Change, Claimed, Entry, Event, Fate, MetEntries, News, Options, Outcome,
+    PropTicket, Redundancy, Removal, Removals, Ticket, Work, laws,
+};
 pub use returning::NotTaken;
-pub use ticket::{Back, Change, Claimed, News, PropTicket, Ticket};
-
-pub mod laws;

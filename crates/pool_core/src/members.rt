@@ -1,10 +1,10 @@
-// What a pool hands out of its clauses and lines.
+// The clauses and lines that a pool hands out.
 
 ghost use Rattle.std.specs.Prelude.{◌≡◌, map, IfOk};
 ghost use Rattle.bank_clause.specs.Clause.{clause_at, AreMembersOf};
 ghost use Rattle.kernel_steps.specs.declared.step.Line.{Line};
-ghost use Rattle.pool_core.specs.Replay.{replay};
-ghost use Rattle.pool_core.specs.Saturated.{member_numbers, members_of};
+ghost use Rattle.pool_history.specs.Replay.{replay};
+ghost use Rattle.pool_history.specs.Saturated.{member_numbers, members_of};
 
 use crate::pool::Pool;
 use bank_clause::{Member, Members};

@@ -5,7 +5,7 @@ ghost use Rattle.std.specs.List.{AllByRecursion};
 ghost use Rattle.kernel_steps.specs.Lines.{step_parents};
 ghost use Rattle.kernel_steps.specs.declared.step.Line.{Line};
 ghost use Rattle.kernel_steps.specs.declared.step.TheConstants.{CLAUSE_NUMBERS};
-ghost use Rattle.pool_core.specs.Lines.{line_number, with_parents};
+ghost use Rattle.pool_history.specs.Lines.{line_number, with_parents};
 ghost use Rattle.pool_core.specs.Placing.{HasParentsBelow};
 ghost use Rattle.pool_core.specs.Started.{registered_at};
 

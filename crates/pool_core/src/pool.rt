@@ -4,22 +4,20 @@ ghost use Rattle.std.specs.Prelude.{◌≡◌, ◌<◌, ◌&&◌, [], false, len
 ghost use Rattle.fol_base.specs.Literal.{clause_of};
 ghost use Rattle.term_bank.specs.Bank.{identity};
 ghost use Rattle.term_bank.specs.Table.{IsTableOf};
-ghost use Rattle.pool_core.specs.Events.{events_of};
-ghost use Rattle.pool_core.specs.Inputs.{AreInputs, IsLimit, IsHistoryOf};
-ghost use Rattle.pool_core.specs.Outcomes.{is_of_living, outcome_of};
-ghost use Rattle.pool_core.specs.Record.{is_awake, lives};
-ghost use Rattle.pool_core.specs.Replay.{replay};
+ghost use Rattle.pool_core.specs.KeptEvents.{events_of};
+ghost use Rattle.pool_history.specs.Inputs.{AreInputs, IsLimit, IsHistoryOf};
+ghost use Rattle.pool_history.specs.Outcomes.{is_of_living, outcome_of};
+ghost use Rattle.pool_history.specs.Record.{is_awake, lives};
+ghost use Rattle.pool_history.specs.Replay.{replay};
 
 use crate::counted_keys::CountedKeys;
 use crate::history::History;
-use crate::options::Options;
-use crate::outcome::Outcome;
 use crate::register::Register;
-use crate::start::{Start, started};
 use clause_queue::Queue;
 use fol_base::Clauses;
 use kernel_steps::{Key, Step};
 use plain_types::{Mem, Sequence};
+use pool_history::{Options, Outcome};
 use std::alloc::Global;
 use std::collections::BTreeMap;
 use std::marker::Model;
@@ -34,7 +32,7 @@ pub type Keys = Sequence<Key>;
 #[derive(Clone, Copy)]
 pub struct OutJob {
     pub(crate) number: u32,
-    /// With so many entries a batch may stop.
+    /// The number of entries at which a batch may stop.
     pub(crate) left: u32,
 }
 
@@ -45,7 +43,7 @@ pub enum Note {
     Died(u32),
 }
 
-/// What the work of a batch changes of a pool, beside the count.
+/// The parts of a pool that the work of a batch changes, beside the count.
 #[derive(Drop)]
 pub struct ProofState {
     pub(crate) register: Register,
@@ -83,7 +81,7 @@ pub struct Pool {
 }
 
 impl Model for Pool {
-    ghost use Rattle.pool_core.specs.View.{PoolView, view_code};
+    ghost use Rattle.pool_history.specs.View.{PoolView, view_code};
 
     ghost Value = { PoolView };
 
@@ -117,24 +115,12 @@ impl Pool {
         }) }
     {
         let mut table = table;
-        let start = started(rt, alloc, bank, &mut table, inputs.as_slice())?;
-        let Start {
-            register,
-            queue,
-            steps,
-            ended,
-        } = start;
+        let proof = ProofState::of_inputs(rt, alloc, bank, &mut table, inputs.as_slice())?;
         Ok(Pool {
             inputs: Snapshot::of(inputs),
             options,
             table,
-            proof: ProofState {
-                register,
-                queue,
-                notes: Vec::new(alloc),
-                steps,
-                ended,
-            },
+            proof,
             positions: Vec::new(alloc),
             jobs: BTreeMap::new(alloc),
             history: History::new(alloc),

@@ -5,24 +5,24 @@ ghost use Rattle.clause_queue.specs.Pairs.{without};
 ghost use Rattle.kernel_steps.specs.declared.step.Line.{Line};
 ghost use Rattle.term_bank.specs.declared.bank.Bank.{Bank};
 ghost use Rattle.term_bank.specs.declared.table.Table.{Table};
-ghost use Rattle.pool_core.specs.Counting.{result_comes};
+ghost use Rattle.pool_history.specs.Counting.{result_comes};
 ghost use Rattle.pool_core.specs.Placing.{IsInterned, IsArrival, IsLiving, HasRoom, line_count, with_queue, comes_if, spent_if};
-ghost use Rattle.pool_core.specs.Record.{PoolRecord};
-ghost use Rattle.pool_core.specs.Returning.{dies, becomes_active};
+ghost use Rattle.pool_history.specs.Record.{PoolRecord};
+ghost use Rattle.pool_history.specs.Returning.{dies, becomes_active};
 ghost use Rattle.pool_core.specs.State.{IsProofStateOf};
 ghost use Rattle.pool_core.specs.declared.pool.Note.TheVariants.{Died};
 
 use crate::interning::Interned;
-use crate::outcome::Outcome;
 use crate::placing::place_steps;
 use crate::pool::{Note, ProofState};
 use kernel_steps::Derivation;
 use plain_types::{Mem, NoMemory};
+use pool_history::Outcome;
 use term_bank::Bank;
 
 impl ProofState {
-    /// Makes room for so many more clauses that come by so many lines, for so many deaths, and for the clauses of so many jobs that are out. After
-    /// want of memory there may be some of that room.
+    /// Makes room for a number of clauses that come, for their lines, for deaths, and for the clauses of the jobs that are out. After
+    /// out of memory there may be some of that room.
     pub(crate) fn reserve(
         &mut self,
         clauses: usize,

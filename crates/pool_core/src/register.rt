@@ -137,7 +137,7 @@ impl Register {
             .find(|number| self.death(*number).is_some())
     }
 
-    /// Makes room for so many more clauses, and leaves the clauses as they are. Past 2^32 clauses there are no numbers for more.
+    /// Makes room for `more` clauses, and leaves the clauses as they are. Past 2^32 clauses there are no numbers for more.
     pub(crate) fn reserve(&mut self, more: usize) -> Mem<()>
         ensures clauses { self.new.clauses ≡ self.old.clauses }
         ensures kept { self.old.spare ≤ self.new.spare }

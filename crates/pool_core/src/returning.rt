@@ -2,20 +2,18 @@
 
 ghost use Rattle.std.specs.Prelude.{◌≡◌, ◌<◌, ◌≤◌, ◌++◌, [], ◌∷◌, Some, length, IfOk, IfErr, OnOk, OnErr, IsTrue};
 ghost use Rattle.term_bank.specs.Bank.{identity};
-ghost use Rattle.pool_core.specs.Answers.{IsAnswerToReturn, IsTicket, IsTicketOf, IsBackOf, TakesMemory, dead_justifier, death_of};
-ghost use Rattle.pool_core.specs.Inputs.{IsRightBatch};
-ghost use Rattle.pool_core.specs.Lawful.{IsGivenOut};
+ghost use Rattle.pool_history.specs.Answers.{IsAnswerToReturn, IsTicket, IsTicketOf, IsBackOf, TakesMemory, dead_justifier, death_of};
+ghost use Rattle.pool_history.specs.Inputs.{IsRightBatch};
+ghost use Rattle.pool_history.specs.Lawful.{IsGivenOut};
 ghost use Rattle.pool_core.specs.Noted.{IsTicketAgain};
-ghost use Rattle.pool_core.specs.Record.{is_dead, lives};
-ghost use Rattle.pool_core.specs.Replay.{replay};
-ghost use Rattle.pool_core.specs.declared.event.Event.TheVariants.{Stale, Void};
+ghost use Rattle.pool_history.specs.Record.{is_dead, lives};
+ghost use Rattle.pool_history.specs.Replay.{replay};
+ghost use Rattle.pool_history.specs.declared.event.Event.TheVariants.{Stale, Void};
 
-use crate::batch::{Batch, Work};
 use crate::claiming::one_more;
-use crate::event::Event;
 use crate::pool::{OutJob, Pool};
-use crate::ticket::{Back, Ticket};
 use plain_types::{Mem, NoMemory};
+use pool_history::{Back, Batch, Event, Ticket, Work};
 use std::alloc::Global;
 use std::sync::Wait;
 use term_bank::Bank;
@@ -26,7 +24,7 @@ pub struct NotTaken {
     pub batch: Batch,
 }
 
-/// A caller that has no use for the batch tells want of memory alone.
+/// For a caller that has no use for the batch, out of memory alone.
 impl From<NotTaken> for NoMemory {
     fn from(_: NotTaken) -> NoMemory {
         NoMemory
@@ -35,7 +33,7 @@ impl From<NotTaken> for NoMemory {
 
 impl Pool {
     /// The answer to the batch of a job that is out, of a caller that knows the activations and deaths of the first `told` events: the given
-    /// clause has died; or it lives, but a clause that justifies that it goes has died; or the batch is taken. Want of memory comes only where
+    /// clause has died; or it lives, but a clause that justifies that it goes has died; or the batch is taken. Out of memory is answered only where
     /// something is to be told or registered; the pool is as before then, and the batch comes back.
     pub fn give_back<R: Wait>(
         &mut self,
@@ -126,7 +124,7 @@ impl Pool {
         self.history.push(&Event::Void(job));
     }
 
-    /// A job whose batch is refused, since a justifier has died, stays out, and is told anew. After want of memory the pool is as before.
+    /// A job whose batch is refused, since a justifier has died, stays out, and is told anew. After an out-of-memory error the pool is as before.
     fn turn_down(
         &mut self,
         alloc: Global,

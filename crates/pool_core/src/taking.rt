@@ -4,25 +4,25 @@ ghost use Rattle.std.specs.Prelude.{◌≡◌, ◌+◌, ◌≤◌, ◌++◌, [],
 ghost use Rattle.term_bank.specs.Bank.{identity};
 ghost use Rattle.term_bank.specs.Table.{IsTableOf};
 ghost use Rattle.pool_core.specs.CountedList.{keys_in};
-ghost use Rattle.pool_core.specs.Counting.{lines_of_entries};
-ghost use Rattle.pool_core.specs.Placing.{KnowsMore, HasRoom, IsFitWork, IsInBank, IsTakeable, entries_of, removals_of, lines_of_removals, heavy_keys_of};
-ghost use Rattle.pool_core.specs.Replay.{replay};
-ghost use Rattle.pool_core.specs.declared.event.Event.TheVariants.{Return};
+ghost use Rattle.pool_history.specs.Counting.{lines_of_entries};
+ghost use Rattle.pool_core.specs.Placing.{KnowsMore, HasRoom, IsFitWork, IsInBank, IsTakeable, entries_of, lines_of_removals, heavy_keys_of};
+ghost use Rattle.pool_history.specs.Returning.{removals_of};
+ghost use Rattle.pool_history.specs.Replay.{replay};
+ghost use Rattle.pool_history.specs.declared.event.Event.TheVariants.{Return};
 
-use crate::batch::{Batch, Work};
 use crate::counted_keys::CountedKeys;
-use crate::event::Event;
 use crate::interning::{Prepared, prepare};
 use crate::pool::{Pool, ProofState};
 use crate::returning::NotTaken;
 use kernel_steps::Key;
 use plain_types::{Mem, NoMemory};
+use pool_history::{Batch, Event, Work};
 use std::alloc::Global;
 use std::sync::Wait;
 use term_bank::{Bank, Table};
 
 impl Pool {
-    /// Takes the batch of a job whose given clause lives. After want of memory the pool is as before, and the batch comes back.
+    /// Takes the batch of a job whose given clause lives. After an out-of-memory error the pool is as before, and the batch comes back.
     pub(crate) fn take<R: Wait>(
         &mut self,
         rt: &R,
@@ -89,30 +89,28 @@ impl Pool {
     }
 }
 
-impl Work {
-    /// How many entries there are.
-    fn entry_count(&self) -> usize
-        ensures { result ≡ length (entries_of self.now) }
-    {
-        match self {
-            Work::Gone(_) => 0,
-            Work::Met { entries, .. } => entries.len(),
-        }
-    }
-
-    /// How many clauses may go.
-    fn removal_count(&self) -> usize
-        ensures { result ≡ length (removals_of self.now) }
-    {
-        match self {
-            Work::Gone(_) => 1,
-            Work::Met { removals, .. } => removals.len(),
-        }
+/// How many entries there are.
+fn entry_count(work: &Work) -> usize
+    ensures { result ≡ length (entries_of work.now) }
+{
+    match work {
+        Work::Gone(_) => 0,
+        Work::Met { entries, .. } => entries.len(),
     }
 }
 
-/// Takes the memory of a return: the results in the bank, room for whatever the work may bring and for the clauses of so many jobs that are out,
-/// and at last the names that are set aside, which stay out after want of memory.
+/// How many clauses may go.
+fn removal_count(work: &Work) -> usize
+    ensures { result ≡ length (removals_of work.now) }
+{
+    match work {
+        Work::Gone(_) => 1,
+        Work::Met { removals, .. } => removals.len(),
+    }
+}
+
+/// Takes the memory of a return: the results in the bank, room for whatever the work may bring and for the clauses of the jobs that are out,
+/// and at last the names that are set aside, which stay out after an out-of-memory error.
 fn take_memory<R: Wait>(
     rt: &R,
     alloc: Global,
@@ -149,13 +147,13 @@ fn take_memory<R: Wait>(
         prepared.removals.clauses.len(),
     )?;
     let lines = sum(prepared.entries.lines, prepared.removals.lines)?;
-    proof.reserve(clauses, lines, work.removal_count(), out)?;
-    counted.reserve(sum(work.entry_count(), work.removal_count())?)?;
+    proof.reserve(clauses, lines, removal_count(work), out)?;
+    counted.reserve(sum(entry_count(work), removal_count(work))?)?;
     set_aside.append(&mut prepared.heavy)?;
     Ok(prepared)
 }
 
-/// The sum of two sizes. One past 64 bits is told as want of memory.
+/// The sum of two sizes. One past 64 bits is told as out of memory.
 fn sum(first: usize, second: usize) -> Mem<usize>
     ensures { IfOk result (λ all. all ≡ first + second) }
 {

@@ -2,18 +2,18 @@
 use Rattle.std.proofs.Common.{◌≡◌, ℕ, ◌+◌, true, false, List, length, ap, subst, ◌⊎◌, ⊎_elim, arith}
 use Rattle.std.specs.Prelude.{is_some, if◌then◌else◌}
 use Rattle.fol_base.specs.WellFormed.{SymbolUse}
-use Rattle.pool_core.specs.View.{PoolView}
-use Rattle.pool_core.specs.Record.{jobs_out}
-use Rattle.pool_core.specs.Solving.{must_solve}
-use Rattle.pool_core.specs.Replay.{Origin, replay}
-use Rattle.pool_core.specs.Inputs.{AreInputs, IsHistoryOf}
-use Rattle.pool_core.specs.Answers.{IsAnswerToClaim}
-use Rattle.pool_core.specs.declared.ticket.PropTicket.{PropTicket}
-use Rattle.pool_core.specs.declared.ticket.Claimed.{Claimed}
-use Rattle.pool_core.specs.declared.ticket.Claimed.TheVariants.{Solve, Idle}
-use Rattle.pool_core.specs.declared.event.Event.{Event}
-use Rattle.pool_core.proofs.AboutBeginnings.BeginningLemmas.{replay-sound}
-use Rattle.pool_core.proofs.AboutLines.SoundLemmas.{no-solve}
+use Rattle.pool_history.specs.View.{PoolView}
+use Rattle.pool_history.specs.Record.{jobs_out}
+use Rattle.pool_history.specs.Solving.{must_solve}
+use Rattle.pool_history.specs.Replay.{Origin, replay}
+use Rattle.pool_history.specs.Inputs.{AreInputs, IsHistoryOf}
+use Rattle.pool_history.specs.Answers.{IsAnswerToClaim}
+use Rattle.pool_history.specs.declared.ticket.PropTicket.{PropTicket}
+use Rattle.pool_history.specs.declared.ticket.Claimed.{Claimed}
+use Rattle.pool_history.specs.declared.ticket.Claimed.TheVariants.{Solve, Idle}
+use Rattle.pool_history.specs.declared.event.Event.{Event}
+use Rattle.pool_history.proofs.AboutLines.BeginningLemmas.{replay-sound}
+use Rattle.pool_history.proofs.AboutLines.SoundLemmas.{no-solve}
 use Rattle.proving.specs.Progress.{HasOut}
 
 -- ---- claims

@@ -7,26 +7,26 @@ use Rattle.kernel_steps.specs.declared.key.Key.{Key}
 use Rattle.kernel_steps.specs.declared.key.Key.TheVariants.{Replaced}
 use Rattle.kernel_steps.specs.declared.step.Line.{Line}
 use Rattle.sat_core.specs.declared.answer.Chain as log
-use Rattle.pool_core.specs.Record.{PoolRecord, GivenJob, SolverJob, given_job, without_job, nothing_registered}
-use Rattle.pool_core.specs.Counting.{counts, keys_of, lines_of_entries, refutes, result_comes, spends}
-use Rattle.pool_core.specs.Returning.{becomes_active, dies, proposed, removed, replaced, returns_to, sets_aside, takes_effect, worked}
-use Rattle.pool_core.specs.Solving.{modelled_by, refuted_by}
-use Rattle.pool_core.specs.Claiming.{claimed_by, given_out, next_given}
-use Rattle.pool_core.specs.Outcomes.{heavy_or_saturated, is_at_rest, is_of_living, outcome_by, outcome_of}
-use Rattle.pool_core.specs.Replay.{Origin, after, start, replay}
-use Rattle.pool_core.specs.declared.options.Options.{Options}
-use Rattle.pool_core.specs.declared.batch.Batch.{Batch}
-use Rattle.pool_core.specs.declared.batch.Fate.{Fate}
-use Rattle.pool_core.specs.declared.batch.Fate.TheVariants.{Kept, Dropped, Heavy as TooHeavy}
-use Rattle.pool_core.specs.declared.batch.Removal.{Removal}
-use Rattle.pool_core.specs.declared.batch.Work.{Work}
-use Rattle.pool_core.specs.declared.batch.Work.TheVariants.{Gone, Met}
-use Rattle.pool_core.specs.declared.event.Event.{Event}
-use Rattle.pool_core.specs.declared.event.Event.TheVariants.{Claim, Return, Stale, Void, ClaimSolve, ReturnModel, ReturnRefuted, Abandon}
-use Rattle.pool_core.specs.declared.outcome.Outcome.{Outcome}
-use Rattle.pool_core.specs.declared.outcome.Outcome.TheVariants.{Refuted, Saturated, Spent, Heavy}
-use Rattle.pool_core.proofs.AboutRecords.FrameLemmas.{Registers, by-if, inputs-register, result-registers, results-register}
-use Rattle.pool_core.proofs.AboutCounting.SpentLemmas.{spent_is_the_count}
+use Rattle.pool_history.specs.Record.{PoolRecord, GivenJob, SolverJob, given_job, without_job, nothing_registered}
+use Rattle.pool_history.specs.Counting.{counts, keys_of, lines_of_entries, refutes, result_comes, spends}
+use Rattle.pool_history.specs.Returning.{becomes_active, dies, proposed, removed, replaced, returns_to, sets_aside, takes_effect, worked}
+use Rattle.pool_history.specs.Solving.{modelled_by, refuted_by}
+use Rattle.pool_history.specs.Claiming.{claimed_by, given_out, next_given}
+use Rattle.pool_history.specs.Outcomes.{heavy_or_saturated, is_at_rest, is_of_living, outcome_by, outcome_of}
+use Rattle.pool_history.specs.Replay.{Origin, after, start, replay}
+use Rattle.pool_history.specs.declared.options.Options.{Options}
+use Rattle.pool_history.specs.declared.batch.Batch.{Batch}
+use Rattle.pool_history.specs.declared.batch.Fate.{Fate}
+use Rattle.pool_history.specs.declared.batch.Fate.TheVariants.{Kept, Dropped, Heavy as TooHeavy}
+use Rattle.pool_history.specs.declared.batch.Removal.{Removal}
+use Rattle.pool_history.specs.declared.batch.Work.{Work}
+use Rattle.pool_history.specs.declared.batch.Work.TheVariants.{Gone, Met}
+use Rattle.pool_history.specs.declared.event.Event.{Event}
+use Rattle.pool_history.specs.declared.event.Event.TheVariants.{Claim, Return, Stale, Void, ClaimSolve, ReturnModel, ReturnRefuted, Abandon}
+use Rattle.pool_history.specs.declared.outcome.Outcome.{Outcome}
+use Rattle.pool_history.specs.declared.outcome.Outcome.TheVariants.{Refuted, Saturated, Spent, Heavy}
+use Rattle.pool_history.proofs.AboutRecords.FrameLemmas.{Registers, by-if, inputs-register, result-registers, results-register}
+use Rattle.pool_history.proofs.AboutCounting.SpentLemmas.{spent_is_the_count}
 use Rattle.proving.specs.Causes.{HasCause, OutcomesHaveCauses}
 
 -- what events may make of a pool

@@ -3,14 +3,14 @@ use Rattle.std.proofs.Common.{◌≡◌, ℕ, List, [], ap, ◌∙◌, Some}
 use Rattle.fol_base.specs.Clause.{TreeClause}
 use Rattle.term_bank.specs.Bank.{identity}
 use Rattle.term_bank.specs.declared.bank.Bank.{Bank}
-use Rattle.pool_core.specs.View.{PoolView}
-use Rattle.pool_core.specs.Record.{jobs_out, nothing_registered}
-use Rattle.pool_core.specs.Inputs.{IsHistoryOf}
-use Rattle.pool_core.specs.Outcomes.{outcome_of}
-use Rattle.pool_core.specs.Replay.{Origin, start, replay}
-use Rattle.pool_core.specs.declared.options.Options.{Options}
-use Rattle.pool_core.specs.declared.outcome.Outcome.{Outcome}
-use Rattle.pool_core.proofs.AboutRecords.FrameLemmas.{inputs-register}
+use Rattle.pool_history.specs.View.{PoolView}
+use Rattle.pool_history.specs.Record.{jobs_out, nothing_registered}
+use Rattle.pool_history.specs.Inputs.{IsHistoryOf}
+use Rattle.pool_history.specs.Outcomes.{outcome_of}
+use Rattle.pool_history.specs.Replay.{Origin, start, replay}
+use Rattle.pool_history.specs.declared.options.Options.{Options}
+use Rattle.pool_history.specs.declared.outcome.Outcome.{Outcome}
+use Rattle.pool_history.proofs.AboutRecords.FrameLemmas.{inputs-register}
 use Rattle.proving.specs.Progress.{HasNoJob, IsLater}
 use Rattle.proving.specs.Proved.{IsProvedFrom}
 

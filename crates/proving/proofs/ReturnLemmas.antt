@@ -5,26 +5,27 @@ use Rattle.std.proofs.lemmas.List.{length-append, length-map, take-append-le}
 use Rattle.std.proofs.lemmas.Option.{none-some}
 use Rattle.term_bank.specs.Bank.{identity}
 use Rattle.bank_clause.specs.Clause.{AreMembersOf, IsMemberOf}
-use Rattle.pool_core.specs.declared.options.Options.{Options}
+use Rattle.pool_history.specs.declared.options.Options.{Options}
 use Rattle.std.proofs.lemmas.List.Elements.{All-nil}
 use Rattle.term_bank.specs.declared.bank.Bank.{Bank}
-use Rattle.pool_core.specs.View.{PoolView}
-use Rattle.pool_core.specs.Record.{PoolRecord, GivenJob, given_job, without_job}
-use Rattle.pool_core.specs.Replay.{Origin, retold, replay}
-use Rattle.pool_core.specs.Returning.{becomes_active, worked, returns_to}
-use Rattle.pool_core.specs.News.{news_since}
-use Rattle.pool_core.specs.Answers.{IsTicket, IsTicketOf, IsAnswerToReturn}
-use Rattle.pool_core.specs.declared.ticket.Ticket.{Ticket}
-use Rattle.pool_core.specs.declared.ticket.Back.{Back}
-use Rattle.pool_core.specs.declared.ticket.Back.TheVariants as back
-use Rattle.pool_core.specs.declared.batch.Batch.{Batch}
-use Rattle.pool_core.specs.declared.event.Event.{Event}
-use Rattle.pool_core.specs.declared.event.Event.TheVariants.{Return, Stale, Void}
-use Rattle.pool_core.proofs.AboutRecords.FrameLemmas.{by-if}
-use Rattle.pool_core.proofs.AboutClaims.HistoryLemmas.{replay-end}
-use Rattle.pool_core.proofs.AboutRecords.NewsLemmas.{worked-given}
+use Rattle.pool_history.specs.View.{PoolView}
+use Rattle.pool_history.specs.Record.{PoolRecord, GivenJob, given_job, without_job}
+use Rattle.pool_history.specs.Replay.{Origin, retold, replay}
+use Rattle.pool_history.specs.Returning.{becomes_active, worked, returns_to}
+use Rattle.pool_history.specs.News.{news_since}
+use Rattle.pool_history.specs.Answers.{IsTicket, IsTicketOf, IsAnswerToReturn}
+use Rattle.pool_history.specs.declared.ticket.Ticket.{Ticket}
+use Rattle.pool_history.specs.declared.ticket.Back.{Back}
+use Rattle.pool_history.specs.declared.ticket.Back.TheVariants as back
+use Rattle.pool_history.specs.declared.batch.Batch.{Batch}
+use Rattle.pool_history.specs.declared.event.Event.{Event}
+use Rattle.pool_history.specs.declared.event.Event.TheVariants.{Return, Stale, Void}
+use Rattle.pool_history.proofs.AboutRecords.FrameLemmas.{by-if}
+use Rattle.pool_history.proofs.AboutClaims.HistoryLemmas.{replay-end}
+use Rattle.pool_history.proofs.AboutRecords.NewsLemmas.{worked-given}
 use Rattle.given_work.specs.View.{IndexView}
 use Rattle.given_work.specs.Learned.{HasLearned}
+use Rattle.given_work.proofs.AboutLearning.TicketLemmas.{learned_stays}
 use Rattle.proving.specs.Progress.{HasNoJob, HasOut, IsGiven, IsIndexOf, IsLater}
 
 -- ---- later pools
@@ -49,19 +50,7 @@ later-index bank p q i later is = record {
   of_bank = is.of_bank;
   options = is.options ∙ ap (λ (o : Origin). o.options) (sym later.origin);
   unsplit = ap (λ (o : Origin). o.options.split) later.origin ∙ is.unsplit;
-  learned = record {
-    told =
-        let within = is.learned.told in
-        let more : length q.history ≡ length p.history + length (later.history).0 = ap length (sym (later.history).1) ∙ length-append p.history (later.history).0 in
-        omega (arith, within, more);
-    changes = is.learned.changes;
-    of_history =
-        is.learned.of_history
-        ∙ ap (λ es. news_since p.origin es 0)
-        (sym (take-append-le i.told p.history (later.history).0 is.learned.told) ∙ ap (take i.told) (later.history).1)
-        ∙ ap (λ (o : Origin). news_since o (take i.told q.history) 0) (sym later.origin);
-    members = is.learned.members;
-  };
+  learned = learned_stays p q i later.origin later.history is.learned;
 }
 
 -- ---- returns

@@ -2,8 +2,8 @@
 use Rattle.std.proofs.Common.{◌≡◌, length, ap, sym, ◌∙◌, subst}
 use Rattle.term_bank.specs.declared.bank.Bank.{Bank}
 use Rattle.bank_clause.specs.Clause.{AreMembersOf}
-use Rattle.pool_core.specs.View.{PoolView}
-use Rattle.pool_core.specs.declared.ticket.Ticket.{Ticket}
+use Rattle.pool_history.specs.View.{PoolView}
+use Rattle.pool_history.specs.declared.ticket.Ticket.{Ticket}
 use Rattle.given_work.specs.View.{IndexView}
 use Rattle.given_work.specs.Laws.{AreToldFor}
 use Rattle.given_work.specs.Learned.{HasLearned}

@@ -1,12 +1,12 @@
 -- The causes of outcomes.
 use Rattle.std.specs.Prelude.{◌≡◌, ◌≤◌, List, length, position, None, Some, IsTrue}
-use Rattle.pool_core.specs.Record.{PoolRecord}
-use Rattle.pool_core.specs.Outcomes.{is_at_rest, is_of_living, outcome_of}
-use Rattle.pool_core.specs.Replay.{Origin, replay}
-use Rattle.pool_core.specs.declared.options.Options.{Options}
-use Rattle.pool_core.specs.declared.event.Event.{Event}
-use Rattle.pool_core.specs.declared.outcome.Outcome.{Outcome}
-use Rattle.pool_core.specs.declared.outcome.Outcome.TheVariants.{Refuted, Saturated, Spent, Heavy}
+use Rattle.pool_history.specs.Record.{PoolRecord}
+use Rattle.pool_history.specs.Outcomes.{is_at_rest, is_of_living, outcome_of}
+use Rattle.pool_history.specs.Replay.{Origin, replay}
+use Rattle.pool_history.specs.declared.options.Options.{Options}
+use Rattle.pool_history.specs.declared.event.Event.{Event}
+use Rattle.pool_history.specs.declared.outcome.Outcome.{Outcome}
+use Rattle.pool_history.specs.declared.outcome.Outcome.TheVariants.{Refuted, Saturated, Spent, Heavy}
 
 -- What an outcome tells of the record: it was refuted; so many inferences were counted, which are at least the limit; or nothing is left to
 -- do, and the place is that of the first inference of living awake clauses that was set aside, or there is none.

@@ -4,12 +4,12 @@ use mathlib.Core.List.{IsPrefix}
 use Rattle.term_bank.specs.Bank.{identity}
 use Rattle.term_bank.specs.declared.bank.Bank.{Bank}
 use Rattle.bank_clause.specs.Clause.{AreMembersOf}
-use Rattle.pool_core.specs.View.{PoolView}
-use Rattle.pool_core.specs.Record.{jobs_out}
-use Rattle.pool_core.specs.Outcomes.{outcome_of}
-use Rattle.pool_core.specs.Replay.{replay}
-use Rattle.pool_core.specs.Answers.{IsTicket, IsTicketOf}
-use Rattle.pool_core.specs.declared.ticket.Ticket.{Ticket}
+use Rattle.pool_history.specs.View.{PoolView}
+use Rattle.pool_history.specs.Record.{jobs_out}
+use Rattle.pool_history.specs.Outcomes.{outcome_of}
+use Rattle.pool_history.specs.Replay.{replay}
+use Rattle.pool_history.specs.Answers.{IsTicket, IsTicketOf}
+use Rattle.pool_history.specs.declared.ticket.Ticket.{Ticket}
 use Rattle.given_work.specs.View.{IndexView}
 use Rattle.given_work.specs.Learned.{HasLearned}
 

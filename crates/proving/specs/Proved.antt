@@ -2,10 +2,10 @@
 use Rattle.std.specs.Prelude.{◌≡◌, List, Some}
 use Rattle.fol_base.specs.Clause.{TreeClause}
 use Rattle.term_bank.specs.Bank.{identity}
-use Rattle.pool_core.specs.Inputs.{IsHistoryOf}
-use Rattle.pool_core.specs.Outcomes.{outcome_of}
-use Rattle.pool_core.specs.Replay.{replay}
-use Rattle.pool_core.specs.declared.options.Options.{Options}
+use Rattle.pool_history.specs.Inputs.{IsHistoryOf}
+use Rattle.pool_history.specs.Outcomes.{outcome_of}
+use Rattle.pool_history.specs.Replay.{replay}
+use Rattle.pool_history.specs.declared.options.Options.{Options}
 use Rattle.proving.specs.declared.proved.Proved.{Proved}
 
 -- The pool began with the inputs and the options, its history is lawful, and the outcome is the one that stands on it.

@@ -1,7 +1,7 @@
 // The work on one ticket: what it tells is learned, and a batch is made that is right for its job.
 
 ghost use Rattle.std.specs.Prelude.{◌≡◌, length, IfOk};
-ghost use Rattle.pool_core.specs.Inputs.{IsRightBatch};
+ghost use Rattle.pool_history.specs.Inputs.{IsRightBatch};
 ghost use Rattle.proving.specs.Progress.{IsGiven, IsIndexOf};
 
 use given_work::{Index, work};

@@ -1,8 +1,14 @@
-// One worker on a pool: what it claims, the work on what it is given, and the loop until an outcome stands.
-//
-// The worker has the pool for itself. `claim.rt` claims the next clause: where no job is out and nothing is split, a ticket comes or an
-// outcome stands. `job.rt` learns what a ticket tells and works on its clause. `returning.rt` gives the batch back, and `rounds.rt` has
-// the loop over these, until an outcome stands. `proved.rt` makes the bank and the pool, and hands out what has ended.
+//! One worker on a pool: it claims a clause, works on it, gives the batch back, until an outcome stands.
+//!
+//! The head of `given_work` explains the given-clause loop; this is its outermost round, `saturate` in `rounds.rt`:
+//!
+//! - `claim.rt` claims the next clause. One worker alone has no job out when it claims, so a ticket comes or an outcome stands.
+//! - `job.rt` learns what the ticket tells and makes the batch.
+//! - `returning.rt` gives the batch back. A stale batch gets a new ticket for the job, and the round goes on with it.
+//! - `proved.rt` makes the bank and the pool from input clauses, runs the loop, and hands out what has ended.
+//!
+//! **What is proved.** The pool that is handed out has a lawful history that begins at these inputs and options, and the outcome is the one that
+//! stands on it. The loop is `rt.forever()`: that it ends isn't promised, since a limit on inferences bounds returns and not time.
 #![tactic(auto)]
 
 mod claim;

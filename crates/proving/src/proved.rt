@@ -2,7 +2,7 @@
 
 ghost use Rattle.std.specs.Prelude.{◌≡◌, false, map, IfOk};
 ghost use Rattle.fol_base.specs.Literal.{clause_of};
-ghost use Rattle.pool_core.specs.Inputs.{AreInputs, IsLimit};
+ghost use Rattle.pool_history.specs.Inputs.{AreInputs, IsLimit};
 ghost use Rattle.proving.specs.Proved.{IsProvedFrom};
 
 use crate::rounds::saturate;

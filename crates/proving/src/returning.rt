@@ -2,7 +2,7 @@
 
 ghost use Rattle.std.specs.Prelude.{◌≡◌, ◌≤◌, length, MatchOption, IfOk};
 ghost use Rattle.term_bank.specs.Bank.{identity};
-ghost use Rattle.pool_core.specs.Inputs.{IsRightBatch};
+ghost use Rattle.pool_history.specs.Inputs.{IsRightBatch};
 ghost use Rattle.proving.specs.Progress.{HasOut, IsGiven, IsLater};
 
 use plain_types::Mem;

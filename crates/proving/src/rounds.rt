@@ -14,7 +14,7 @@ use std::alloc::Global;
 use std::sync::Wait;
 use term_bank::Bank;
 
-/// Works on clauses of the pool one after another until an outcome stands. Clauses aren't split. After want of memory the pool is gone.
+/// Works on clauses of the pool one after another until an outcome stands. Clauses aren't split. After an out-of-memory error the pool is gone.
 pub(crate) fn saturate<R: Wait>(rt: &R, alloc: Global, bank: &Bank, pool: Pool) -> Mem<Pool>
     requires bank { pool.bank ≡ identity bank.now }
     requires unsplit { pool.origin.options.split ≡ false }

@@ -24,11 +24,12 @@ use Rattle.kernel_steps.specs.declared.step.TheConstants.{CLAUSE_NUMBERS}
 use Rattle.kernel_steps.specs.declared.step.Step.{Step}
 use Rattle.kernel_steps.specs.declared.step.Step.TheVariants.{Para, Refl, Factor, Merge}
 use Rattle.kernel_steps.specs.declared.step.Line.{Line}
+use Rattle.kernel_steps.proofs.AboutCalls.ParentLemmas.{same-bindings, same-kind}
 use Rattle.kernel_steps.proofs.AboutCalls.VerdictParts.{by_two-parts}
 use Rattle.kernel_steps.proofs.AboutCalls.SymbolLemmas.{steps_keep_symbols}
-use Rattle.reduction.proofs.VerdictLemmas.{by_one-onward, conclusion-onward}
-use Rattle.reduction.proofs.LineLemmas.{line_parent-plain}
-use Rattle.pool_core.specs.Lines.{with_parents}
+use Rattle.reduced_clause.proofs.VerdictLemmas.{by_one-onward, conclusion-onward}
+use Rattle.reduced_clause.proofs.LineLemmas.{line_parent-plain}
+use Rattle.kernel_steps.specs.ParentNumbers.{with_parents}
 use Rattle.given_work.specs.Going.{batch_line, batch_lines, number_beside}
 
 abbrev Lookup : Type 0
@@ -58,26 +59,12 @@ module _ (f : ℕ → ℕ) where
       by_one-onward (before parent) (after (f parent)) bind (λ ls. merged ls stays goes) c (λ p. onward parent p) h
   renumbered _ before after c kind onward h = absurd (true≢false (sym kind))
 
-  same-kind : (s : Step) → is_on_literals (with_parents f s) ≡ is_on_literals s
-  same-kind (Para first second from from_side into into_side place first_bind second_bind) = refl
-  same-kind (Refl parent literal bind) = refl
-  same-kind (Factor parent becomes becomes_side other other_side bind) = refl
-  same-kind (Merge parent stays goes bind) = refl
-  same-kind _ = refl
-
-  same-bindings : (s : Step) → bindings_of (with_parents f s) ≡ bindings_of s
-  same-bindings (Para first second from from_side into into_side place first_bind second_bind) = refl
-  same-bindings (Refl parent literal bind) = refl
-  same-bindings (Factor parent becomes becomes_side other other_side bind) = refl
-  same-bindings (Merge parent stays goes bind) = refl
-  same-bindings _ = refl
-
   abbrev pub renumbered_line : Line → Line
   renumbered_line l = record l { step = with_parents f l.step }
 
   same-parent : (l : Line) → is_on_literals l.step ≡ true → line_parent (renumbered_line l) ≡ line_parent l
   same-parent l kind =
-      line_parent-plain (renumbered_line l) (same-kind l.step ∙ kind) ∙ sym (line_parent-plain l kind)
+      line_parent-plain (renumbered_line l) (same-kind f l.step ∙ kind) ∙ sym (line_parent-plain l kind)
 
   abbrev OnLiterals : List Line → Type 0
   OnLiterals lines = list_all (λ (l : Line). is_on_literals l.step) lines ≡ true
@@ -98,7 +85,7 @@ module _ (f : ℕ → ℕ) where
   same-tests test same (l ∷ ls) = ap₂ (λ a b. a && b) (same l) (same-tests test same ls)
 
   binds-same : (test : Tree → Bool) (l : Line) → binds_each test (renumbered_line l).step ≡ binds_each test l.step
-  binds-same test l = ap (list_all (list_all test)) (same-bindings l.step)
+  binds-same test l = ap (list_all (list_all test)) (same-bindings f l.step)
 
   numbered-same : (l : Line) → IsNumbered l → IsNumbered (renumbered_line l)
   numbered-same l is = record {
@@ -108,7 +95,7 @@ module _ (f : ℕ → ℕ) where
         (λ (bs : List (List Tree)).
         let order = distinct (clause_variables (clause_of l.clause) ++ flat_map (λ b. trees_variables (trees_of b)) bs) in
         order ≡ numbers_from 0 (length order))
-        (sym (same-bindings l.step)) is.bindings;
+        (sym (same-bindings f l.step)) is.bindings;
   }
 
 -- ---- lines behind clauses by their numbers

@@ -8,11 +8,11 @@ use Rattle.fol_base.specs.Literal.{clause_of}
 use Rattle.fol_base.specs.declared.clause.Clause.{Clause}
 use Rattle.kernel_steps.specs.declared.step.Step.{Step}
 use Rattle.bank_clause.specs.declared.member.Member.{Member}
-use Rattle.simplification.specs.Simplified.{IsSimplified}
-use Rattle.pool_core.specs.declared.batch.Fate.TheVariants.{Dropped as IsDropped}
-use Rattle.pool_core.specs.declared.batch.Redundancy.{Redundancy}
-use Rattle.pool_core.specs.declared.batch.Redundancy.TheVariants.{Tautology, Subsumed}
-use Rattle.pool_core.proofs.AboutBeginnings.StartLemmas.{clause_eq-says}
+use Rattle.demodulate.specs.Simplified.{IsSimplified}
+use Rattle.pool_history.specs.declared.batch.Fate.TheVariants.{Dropped as IsDropped}
+use Rattle.pool_history.specs.declared.batch.Redundancy.{Redundancy}
+use Rattle.pool_history.specs.declared.batch.Redundancy.TheVariants.{Tautology, Subsumed}
+use Rattle.pool_history.proofs.AboutRecords.ItemLemmas.{clause_eq-says}
 use Rattle.given_work.specs.Dropped.{AreDropped, Knows, cause_if_same, cause_of, literals_hash, outcome_by}
 use Rattle.given_work.specs.Meeting.{IsFateBy}
 use Rattle.given_work.specs.declared.dropped.Dropped.{Dropped}

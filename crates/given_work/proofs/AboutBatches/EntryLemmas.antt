@@ -34,19 +34,19 @@ use Rattle.literal_selection.specs.Mode.{mode_of}
 use Rattle.fol_base.proofs.WorkedExamples.TestLemmas.{option_map-some}
 use Rattle.eq_rules.specs.Inferences.{IsConcluded, IsPremise, bindings_of as bound_of_step}
 use Rattle.bank_clause.specs.declared.member.Member.{Member}
-use Rattle.reduction.specs.Reduced.{IsReduced}
-use Rattle.simplification.specs.Simplified.{IsSimplified}
-use Rattle.simplification.specs.declared.simplifying.Simplified.{Simplified}
-use Rattle.simplification.specs.declared.simplifying.Simplified.TheVariants as outcome
-use Rattle.pool_core.specs.Record.{GivenJob}
-use Rattle.pool_core.specs.Reduction.{AreLinesFrom, Lookup, handed_back}
-use Rattle.pool_core.specs.Batches.{IsRightFate, is_told}
-use Rattle.pool_core.specs.declared.options.Options.{Options}
-use Rattle.pool_core.specs.declared.batch.Fate.{Fate}
-use Rattle.pool_core.proofs.AboutLines.FormedLemmas.{IsFormed, result-formed}
+use Rattle.reduced_clause.specs.Reduced.{IsReduced}
+use Rattle.demodulate.specs.Simplified.{IsSimplified}
+use Rattle.demodulate.specs.declared.simplifying.Simplified.{Simplified}
+use Rattle.demodulate.specs.declared.simplifying.Simplified.TheVariants as outcome
+use Rattle.pool_history.specs.Record.{GivenJob}
+use Rattle.pool_history.specs.Reduction.{AreLinesFrom, Lookup, handed_back}
+use Rattle.pool_history.specs.Batches.{IsRightFate, is_told}
+use Rattle.pool_history.specs.declared.options.Options.{Options}
+use Rattle.pool_history.specs.declared.batch.Fate.{Fate}
+use Rattle.pool_history.proofs.AboutLines.FormedLemmas.{IsFormed, result-formed}
 use Rattle.given_work.specs.Meeting.{AreEntriesOf, IsEntryOf, IsFateBy}
 use Rattle.eq_rules.specs.declared.inference.Inference.{Inference}
-use Rattle.pool_core.specs.declared.batch.Entry.{Entry}
+use Rattle.pool_history.specs.declared.batch.Entry.{Entry}
 use Rattle.given_work.specs.Telling.{AreToldSets, told_of}
 use Rattle.given_work.proofs.AboutBatches.BatchLines.{all-pass, inference-lines}
 use Rattle.given_work.proofs.AboutBatches.GoingLemmas.{irreducible-told, members-formed, sets-formed}

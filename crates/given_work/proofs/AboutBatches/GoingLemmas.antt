@@ -20,23 +20,23 @@ use Rattle.kernel_steps.specs.declared.step.Reduced.{Reduced}
 use Rattle.bank_clause.specs.Clause.{clause_at}
 use Rattle.bank_clause.specs.declared.member.Member.{Member}
 use Rattle.rewriting.specs.Units.{is_kept}
-use Rattle.calculus.specs.Lifting.{among, IsMember}
-use Rattle.reduction.specs.Reduced.{IsReduced, last_clause, with_number}
-use Rattle.reduction.proofs.ExtendingLemmas.{noted-all, with_number-has, with_number-keeps}
+use Rattle.laws_calculus.specs.Lifting.{among, IsMember}
+use Rattle.reduced_clause.specs.Reduced.{IsReduced, last_clause, with_number}
+use Rattle.reduced_clause.proofs.ExtendingLemmas.{noted-all, with_number-has, with_number-keeps}
 use Rattle.subsume.specs.Searching.{IsLowest, IsSubsumer}
 use Rattle.bank_clause.specs.Members.{AreMembersOfUse, IsMemberOfUse}
-use Rattle.simplification.specs.Reducing.{IsFurther, IsIrreducibleBySteps, IsReduction}
-use Rattle.simplification.specs.declared.reducing.Reduction.{Reduction}
-use Rattle.simplification.specs.declared.reducing.Reduction.TheVariants as ended
-use Rattle.simplification.specs.Usable.{AreFormed, IsAmong, without}
-use Rattle.pool_core.specs.Record.{GivenJob}
-use Rattle.pool_core.specs.Lines.{result_of}
-use Rattle.pool_core.specs.Reduction.{Lookup, AreLinesFrom, clauses_used, handed_back}
-use Rattle.pool_core.specs.Batches.{IsReducedBeside, IsRightlyReplaced, is_told, is_told_beside}
-use Rattle.pool_core.specs.declared.options.Options.{Options}
-use Rattle.pool_core.specs.declared.batch.Redundancy.TheVariants.{Tautology, Subsumed}
-use Rattle.pool_core.specs.declared.batch.Removal.{Removal}
-use Rattle.pool_core.specs.declared.batch.Fate.TheVariants.{Kept, Dropped}
+use Rattle.demodulate.specs.Reducing.{IsFurther, IsIrreducibleBySteps, IsReduction}
+use Rattle.demodulate.specs.declared.reducing.Reduction.{Reduction}
+use Rattle.demodulate.specs.declared.reducing.Reduction.TheVariants as ended
+use Rattle.demodulate.specs.Usable.{AreFormed, IsAmong, without}
+use Rattle.pool_history.specs.Record.{GivenJob}
+use Rattle.pool_history.specs.Lines.{result_of}
+use Rattle.pool_history.specs.Reduction.{Lookup, AreLinesFrom, clauses_used, handed_back}
+use Rattle.pool_history.specs.Batches.{IsReducedBeside, IsRightlyReplaced, is_told, is_told_beside}
+use Rattle.pool_history.specs.declared.options.Options.{Options}
+use Rattle.pool_history.specs.declared.batch.Redundancy.TheVariants.{Tautology, Subsumed}
+use Rattle.pool_history.specs.declared.batch.Removal.{Removal}
+use Rattle.pool_history.specs.declared.batch.Fate.TheVariants.{Kept, Dropped}
 use Rattle.given_work.specs.Going.{GoesRightly, IsReducedBy, IsRemovalOf, IsReplacedOrSame, StaysOrGoes, batch_lines}
 use Rattle.given_work.specs.Telling.{AreToldSets, told_of}
 use Rattle.given_work.proofs.AboutBatches.BatchLines.{all-pass, victim-bound, victim-lines}
@@ -256,7 +256,7 @@ module _
       let parts = Contains-filtered (λ m. not (m == n)) (clauses_named lines) k h in
       subst (λ ns. Contains ns k) (sym is-reduced.used)
       (Contains-distinct (clauses_named r.lines) k
-      (named-before n r.lines k is-reduced.are_lines.kinds parts.0 (λ e. true≢false (sym parts.1 ∙ ap not (eq-eqb k n e))))))
+      (named-before n r.lines k parts.0 (λ e. true≢false (sym parts.1 ∙ ap not (eq-eqb k n e))))))
 
   unsplit-result : (d : TreeClause) → d ∷ [] ≡ handed_back options.split d
   unsplit-result d = sym (ap (λ (b : Bool). handed_back b d) unsplit)

@@ -8,14 +8,15 @@ use Rattle.fol_base.specs.Clause.{TreeClause}
 use Rattle.fol_base.specs.Canonical.{distinct}
 use Rattle.fol_base.specs.Literal.{clause_of}
 use Rattle.fol_base.specs.Subsumption.{is_among}
-use Rattle.kernel_steps.specs.Lines.{clauses_named, is_on_literals, step_parents}
+use Rattle.kernel_steps.specs.Lines.{clauses_named, step_parents}
+use Rattle.kernel_steps.proofs.AboutCalls.ParentLemmas.{parents-mapped}
 use Rattle.kernel_steps.specs.declared.step.TheConstants.{CLAUSE_NUMBERS}
 use Rattle.kernel_steps.specs.declared.step.Step.{Step}
 use Rattle.kernel_steps.specs.declared.step.Step.TheVariants.{Para, Refl, Factor, Merge}
 use Rattle.kernel_steps.specs.declared.step.Line.{Line}
-use Rattle.reduction.specs.Reduced.{last_clause}
-use Rattle.reduction.proofs.SymbolLemmas.{has-distinct, Contains-has}
-use Rattle.pool_core.specs.Lines.{with_parents}
+use Rattle.reduced_clause.specs.Reduced.{last_clause}
+use Rattle.reduced_clause.proofs.SymbolLemmas.{has-distinct, Contains-has}
+use Rattle.kernel_steps.specs.ParentNumbers.{with_parents}
 use Rattle.given_work.specs.Going.{number_beside, batch_line, batch_lines}
 use Rattle.given_work.proofs.AboutIndexes.Slots.{Contains-cons_cases, Contains-here, Contains-later, Contains-none, Contains-filter, Contains-filtered}
 
@@ -73,30 +74,16 @@ Contains-mapped f (x ∷ xs) y h =
 
 -- ---- the clauses that lines use
 
-parents-mapped : (f : ℕ → ℕ) (s : Step) → is_on_literals s ≡ true → step_parents (with_parents f s) ≡ map f (step_parents s)
-parents-mapped f (Para first second from from_side into into_side place first_bind second_bind) kind = refl
-parents-mapped f (Refl parent literal bind) kind = refl
-parents-mapped f (Factor parent becomes becomes_side other other_side bind) kind = refl
-parents-mapped f (Merge parent stays goes bind) kind = refl
-parents-mapped f _ kind = absurd (true≢false (sym kind))
-
-kind-of : (lines : List Line) (l : Line) → Contains lines l → list_all (λ (l : Line). is_on_literals l.step) lines ≡ true → is_on_literals l.step ≡ true
-kind-of [] l h kinds = absurd (Contains-none l h)
-kind-of (k ∷ ks) l h kinds =
-    let parts = and_parts (is_on_literals k.step) (list_all (λ (l : Line). is_on_literals l.step) ks) kinds in
-    ⊎_elim (λ here. ap (λ (m : Line). is_on_literals m.step) (sym here) ∙ parts.0) (λ later. kind-of ks l later parts.1) (Contains-cons_cases k l ks h)
-
 -- another clause that the lines of a batch name is named by the lines of the reduced clause
 pub named-before :
     (victim : ℕ) (lines : List Line) (n : ℕ)
-    → list_all (λ (l : Line). is_on_literals l.step) lines ≡ true
     → Contains (clauses_named (batch_lines victim lines)) n → (n ≡ victim → ⊥) → Contains (clauses_named lines) n
-named-before victim lines n kinds h another =
+named-before victim lines n h another =
     let small = Contains-filtered (λ m. nat_lt m CLAUSE_NUMBERS) (flat_map (λ (l : Line). step_parents l.step) (batch_lines victim lines)) n h in
     let in_line = Contains-flat_mapped (λ (l : Line). step_parents l.step) (batch_lines victim lines) n small.0 in
     let was = Contains-mapped (batch_line victim) lines in_line.0 in_line.1 in
     let parents : step_parents (in_line.0).step ≡ map (number_beside victim) (step_parents (was.0).step) =
-    ap (λ (l : Line). step_parents l.step) (sym was.2) ∙ parents-mapped (number_beside victim) (was.0).step (kind-of lines was.0 was.1 kinds) in
+    ap (λ (l : Line). step_parents l.step) (sym was.2) ∙ parents-mapped (number_beside victim) (was.0).step in
     let parent = Contains-mapped (number_beside victim) (step_parents (was.0).step) n (subst (λ ms. Contains ms n) parents in_line.2) in
     let m : ℕ = parent.0 in
     let less : n < CLAUSE_NUMBERS = ltb-true n CLAUSE_NUMBERS small.1 in

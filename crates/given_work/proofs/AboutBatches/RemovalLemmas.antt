@@ -15,15 +15,15 @@ use Rattle.kernel_steps.specs.Inference.{CutsBy, RewritesBy}
 use Rattle.kernel_steps.specs.declared.step.TheConstants.{CLAUSE_NUMBERS}
 use Rattle.bank_clause.specs.Clause.{clause_at}
 use Rattle.bank_clause.specs.declared.member.Member.{Member}
-use Rattle.calculus.specs.Lifting.{IsMember}
+use Rattle.laws_calculus.specs.Lifting.{IsMember}
 use Rattle.subsume.specs.Searching.{IsSubsumedBy}
 use Rattle.bank_clause.specs.Members.{AreMembersOfUse, AreNumbersOf, IsMemberOfUse}
-use Rattle.pool_core.specs.Record.{GivenJob}
-use Rattle.pool_core.specs.Reduction.{Lookup}
-use Rattle.pool_core.specs.Batches.{IsReducedBeside, Simplifies, is_told, is_told_beside}
-use Rattle.pool_core.specs.Wholeness.{IsWhole}
-use Rattle.pool_core.specs.declared.options.Options.{Options}
-use Rattle.pool_core.specs.declared.batch.Removal.{Removal}
+use Rattle.pool_history.specs.Record.{GivenJob}
+use Rattle.pool_history.specs.Reduction.{Lookup}
+use Rattle.pool_history.specs.Batches.{IsReducedBeside, Simplifies, is_told, is_told_beside}
+use Rattle.pool_history.specs.Wholeness.{IsWhole}
+use Rattle.pool_history.specs.declared.options.Options.{Options}
+use Rattle.pool_history.specs.declared.batch.Removal.{Removal}
 use Rattle.given_work.specs.Going.{GoesRightly, StaysOrGoes}
 use Rattle.given_work.specs.Occurring.{ListsMembers, numbers_by_unit, numbers_with_instances}
 use Rattle.given_work.specs.Removing.{AddsNone, AreRemovalsAmong, AreRemovalsOf, HasSimplified, IsConsidered, Removes}

@@ -14,12 +14,12 @@ use Rattle.bank_clause.specs.declared.member.Member.{Member}
 use Rattle.term_bank.specs.declared.bank.Bank.{Bank}
 use Rattle.rewriting.specs.Units.{IsUnit, clause_numbered}
 use Rattle.subsume.specs.Members.{numbers_of}
-use Rattle.unit_index.specs.Indexed.{HasOneLiteral}
-use Rattle.simplification.specs.Usable.{HasAll, HasNumbered, IsMemberWith}
-use Rattle.pool_core.specs.Record.{GivenJob}
-use Rattle.pool_core.specs.Reduction.{Lookup}
-use Rattle.pool_core.specs.Wholeness.{IsWhole}
-use Rattle.pool_core.specs.Batches.{is_told}
+use Rattle.unit_cutting.specs.Indexed.{HasOneLiteral}
+use Rattle.demodulate.specs.Usable.{HasAll, HasNumbered, IsMemberWith}
+use Rattle.pool_history.specs.Record.{GivenJob}
+use Rattle.pool_history.specs.Reduction.{Lookup}
+use Rattle.pool_history.specs.Wholeness.{IsWhole}
+use Rattle.pool_history.specs.Batches.{is_told}
 use Rattle.given_work.specs.Sets.{AreSetsOf, FindsThose, HasMembers}
 use Rattle.given_work.specs.Telling.{AreSetsOfBank, AreToldSets, Tells, told_of}
 use Rattle.given_work.specs.declared.sets.Sets.{Sets}

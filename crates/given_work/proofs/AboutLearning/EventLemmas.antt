@@ -8,18 +8,18 @@ use Rattle.std.proofs.lemmas.List.Folds.{list_any-append}
 use Rattle.std.proofs.lemmas.List.Kept.{AllPairs-filter}
 use Rattle.std.proofs.lemmas.List.Sums.{fold-append}
 use Rattle.kernel_steps.specs.Split.{has_number}
-use Rattle.pool_core.specs.Record.{PoolRecord, Death, clause_numbered, has_died, lives, told_now, given_job}
-use Rattle.pool_core.specs.Claiming.{next_given, claimed_by}
-use Rattle.pool_core.specs.News.{activated, died, changes_between, changes_from, news_since}
-use Rattle.pool_core.specs.Replay.{Origin, after, start, replay}
-use Rattle.pool_core.specs.declared.options.Options.{Options}
-use Rattle.pool_core.specs.declared.event.Event.{Event}
-use Rattle.pool_core.specs.declared.event.Event.TheVariants.{Claim, Return, Stale, Void, ClaimSolve, ReturnModel, ReturnRefuted, Abandon}
-use Rattle.pool_core.proofs.AboutClaims.ClaimedRecords.{after-claim, given-waits, claim_after}
-use Rattle.pool_core.proofs.AboutRecords.GrowthLemmas.{living-not-dead, waiting-parts}
-use Rattle.pool_core.proofs.AboutRecords.NewsLemmas.{Adds, new-deaths, event-adds, living-kept, start-is}
-use Rattle.pool_core.proofs.AboutRecords.JobNumberLemmas.{returned-positions, modelled-positions, refuted-positions}
-use Rattle.pool_core.proofs.AboutRecords.PlaceLemmas.{Placed, after-placed, start-placed}
+use Rattle.pool_history.specs.Record.{PoolRecord, Death, clause_numbered, has_died, lives, told_now, given_job}
+use Rattle.pool_history.specs.Claiming.{next_given, claimed_by}
+use Rattle.pool_history.specs.News.{activated, died, changes_between, changes_from, news_since}
+use Rattle.pool_history.specs.Replay.{Origin, after, start, replay}
+use Rattle.pool_history.specs.declared.options.Options.{Options}
+use Rattle.pool_history.specs.declared.event.Event.{Event}
+use Rattle.pool_history.specs.declared.event.Event.TheVariants.{Claim, Return, Stale, Void, ClaimSolve, ReturnModel, ReturnRefuted, Abandon}
+use Rattle.pool_history.proofs.AboutClaims.ClaimedRecords.{after-claim, given-waits, claim_after}
+use Rattle.pool_history.proofs.AboutRecords.GrowthLemmas.{living-not-dead, waiting-parts}
+use Rattle.pool_history.proofs.AboutRecords.NewsLemmas.{Adds, new-deaths, event-adds, living-kept, start-is}
+use Rattle.pool_history.proofs.AboutRecords.JobNumberLemmas.{returned-positions, modelled-positions, refuted-positions}
+use Rattle.pool_history.proofs.AboutRecords.PlaceLemmas.{Placed, after-placed, start-placed}
 use Rattle.given_work.proofs.AboutLearning.ToldLemmas.{filter-twice, filter-every, neither, told_by, told_all, AreNewNumbers, new-append, told-both, new-both}
 
 -- the clauses that an event activates didn't die before

@@ -9,10 +9,10 @@ use Rattle.bank_clause.specs.Clause.{clause_at}
 use Rattle.bank_clause.specs.declared.member.Member.{Member}
 use Rattle.subsume.specs.Members.{numbers_of}
 use Rattle.subsume.specs.Editing.{HasNoNumber}
-use Rattle.pool_core.specs.Record.{PoolRecord, clauses_of}
-use Rattle.pool_core.specs.News.{TreeChange, activated, died, change_of}
-use Rattle.pool_core.specs.declared.ticket.Change.{Change}
-use Rattle.pool_core.specs.declared.ticket.Change.TheVariants.{Activated, Died}
+use Rattle.pool_history.specs.Record.{PoolRecord, clauses_of}
+use Rattle.pool_history.specs.News.{TreeChange, activated, died, change_of}
+use Rattle.pool_history.specs.declared.ticket.Change.{Change}
+use Rattle.pool_history.specs.declared.ticket.Change.TheVariants.{Activated, Died}
 use Rattle.given_work.specs.Learning.{learns, learned, IsNew, AreNews}
 use Rattle.given_work.proofs.AboutLearning.ToldLemmas.{told_by, told_all, IsNewNumber, AreNewNumbers}
 

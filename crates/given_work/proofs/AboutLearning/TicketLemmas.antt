@@ -1,8 +1,8 @@
 -- An index that learned what a ticket tells: it knows the clauses of the ticket's job.
-use Rattle.std.proofs.Common.{◌≡◌, ℕ, ◌==◌, Bool, true, false, List, [], ◌∷◌, ◌++◌, map, length, take, drop, ap, ap₂, sym, ◌∙◌, subst, arith}
+use Rattle.std.proofs.Common.{◌≡◌, ℕ, ◌+◌, ◌==◌, Bool, true, false, List, [], ◌∷◌, ◌++◌, map, length, take, drop, ap, ap₂, sym, ◌∙◌, subst, arith}
 use Rattle.std.specs.Prelude.{Some, cond, find, All, Contains}
 use Rattle.std.specs.List.{list_all}
-use Rattle.std.proofs.lemmas.List.{map-append, take-append-drop, take_all}
+use Rattle.std.proofs.lemmas.List.{length-append, map-append, take-append-drop, take-append-le, take_all}
 use Rattle.std.proofs.lemmas.List.Elements.{All-nil, All-weaker, All-contains_itself}
 use Rattle.std.proofs.lemmas.List.Sums.{fold-append}
 use Rattle.std.proofs.lemmas.Bool.{and_parts}
@@ -11,21 +11,21 @@ use Rattle.fol_base.specs.WellFormed.{SymbolUse}
 use Rattle.kernel_steps.specs.Split.{has_number}
 use Rattle.bank_clause.specs.declared.member.Member.{Member}
 use Rattle.subsume.specs.Members.{numbers_of}
-use Rattle.pool_core.specs.View.{PoolView}
-use Rattle.pool_core.specs.Record.{GivenJob, told_now}
-use Rattle.pool_core.specs.Replay.{Origin, start, replay}
-use Rattle.pool_core.specs.News.{TreeChange, activated, died, change_of, changes_from, news_since}
-use Rattle.pool_core.specs.Answers.{IsTicket}
-use Rattle.pool_core.specs.Inputs.{AreInputs, IsHistoryOf}
-use Rattle.pool_core.specs.declared.event.Event.{Event}
-use Rattle.pool_core.specs.declared.ticket.Change.{Change}
-use Rattle.pool_core.specs.declared.ticket.Ticket.{Ticket}
-use Rattle.pool_core.proofs.AboutCounting.CountedLemmas.{given_are_told}
-use Rattle.pool_core.proofs.AboutClaims.HistoryLemmas.{changes-append}
-use Rattle.pool_core.proofs.AboutRecords.NewsLemmas.{news_are_registered, jobs_are_told_now}
-use Rattle.pool_core.proofs.AboutRecords.PlaceLemmas.{replay-placed}
+use Rattle.pool_history.specs.View.{PoolView}
+use Rattle.pool_history.specs.Record.{GivenJob, told_now}
+use Rattle.pool_history.specs.Replay.{Origin, start, replay}
+use Rattle.pool_history.specs.News.{TreeChange, activated, died, change_of, changes_from, news_since}
+use Rattle.pool_history.specs.Answers.{IsTicket}
+use Rattle.pool_history.specs.Inputs.{AreInputs, IsHistoryOf}
+use Rattle.pool_history.specs.declared.event.Event.{Event}
+use Rattle.pool_history.specs.declared.ticket.Change.{Change}
+use Rattle.pool_history.specs.declared.ticket.Ticket.{Ticket}
+use Rattle.pool_history.proofs.AboutCounting.CountedLemmas.{given_are_told}
+use Rattle.pool_history.proofs.AboutClaims.HistoryLemmas.{changes-append}
+use Rattle.pool_history.proofs.AboutRecords.NewsLemmas.{news_are_registered, jobs_were_told}
+use Rattle.pool_history.proofs.AboutRecords.PlaceLemmas.{replay-placed}
 use Rattle.given_work.specs.View.{IndexView}
-use Rattle.given_work.specs.Laws.{AreToldFor, LearnedAreToldFor, TicketsAreLearned}
+use Rattle.given_work.specs.Laws.{AreToldFor, LearnedAreToldFor, LearnedStays, TicketsAreLearned}
 use Rattle.given_work.specs.Learning.{learns, learned, AreNews}
 use Rattle.given_work.specs.Learned.{HasLearned}
 use Rattle.given_work.proofs.AboutLearning.ToldLemmas.{told_all, AreNewNumbers}
@@ -76,7 +76,7 @@ module _ (pool : PoolView) (index : IndexView) where
     left = is.left;
     numbers =
         known has ∙ ap (λ es. told_now (replay origin es)) whole
-        ∙ sym (jobs_are_told_now origin history ticket.job is.job is.out (sym is.as_of.0 ∙ is.as_of.1));
+        ∙ sym ((jobs_were_told origin history ticket.job is.job is.out).1 ∙ ap (λ es. told_now (replay origin es)) all_told);
     looked_up =
         subst (All (IsRegistered (replay origin history))) (sym has.members)
         (learned-registered (replay origin history) has.changes [] (All-nil (IsRegistered (replay origin history)))
@@ -87,6 +87,9 @@ module _ (pool : PoolView) (index : IndexView) where
     where
       whole : take index.told history ≡ history
       whole = take_all index.told history (omega (arith, all))
+
+      all_told : take is.job.as_of history ≡ history
+      all_told = let same = sym is.as_of.0 ∙ is.as_of.1 in take_all is.job.as_of history (omega (arith, same))
 
       tells : (c : TreeChange) → Contains (news_since origin history 0) c → TellsRegistered (replay origin history) c
       tells (activated n c) there = news_are_registered origin history n c there
@@ -124,3 +127,17 @@ tickets_are_learned pool index ticket has is = (
 
 pub learned_are_told_for : LearnedAreToldFor
 learned_are_told_for pool index told ticket has all is = told-for pool index told ticket has all is
+
+pub learned_stays : LearnedStays
+learned_stays pool now index origin later has = record {
+  told =
+      let within = has.told in
+      let more : length now.history ≡ length pool.history + length later.0 = ap length (sym later.1) ∙ length-append pool.history later.0 in
+      omega (arith, within, more);
+  changes = has.changes;
+  of_history =
+      has.of_history
+      ∙ ap (λ es. news_since pool.origin es 0) (sym (take-append-le index.told pool.history later.0 has.told) ∙ ap (take index.told) later.1)
+      ∙ ap (λ (o : Origin). news_since o (take index.told now.history) 0) (sym origin);
+  members = has.members;
+}

@@ -8,8 +8,8 @@ use Rattle.std.proofs.lemmas.List.{length-append, get_or_append_left}
 use Rattle.std.proofs.lemmas.List.Sums.{fold-append}
 use Rattle.fol_base.specs.Clause.{TreeClause}
 use Rattle.kernel_steps.specs.Split.{has_number}
-use Rattle.pool_core.specs.Record.{Death, has_died}
-use Rattle.pool_core.specs.News.{TreeChange, activated, died}
+use Rattle.pool_history.specs.Record.{Death, has_died}
+use Rattle.pool_history.specs.News.{TreeChange, activated, died}
 
 -- ---- filters
 

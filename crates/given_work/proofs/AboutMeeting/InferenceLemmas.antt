@@ -21,7 +21,7 @@ use Rattle.eq_rules.specs.Inferences.{AreInferences, IsConcluded, IsMade, IsPrem
 use Rattle.eq_rules.specs.declared.inference.Inference.{Inference}
 use Rattle.eq_rules.specs.declared.inference.Made.{Made}
 use Rattle.eq_rules.specs.declared.inference.Made.TheVariants.{Conclusion, Heavy}
-use Rattle.reduction.proofs.VerdictLemmas.{conclusion-onward}
+use Rattle.reduced_clause.proofs.VerdictLemmas.{conclusion-onward}
 use Rattle.superpose.specs.Pairing.{is_from_into}
 use Rattle.given_work.specs.Meeting.{is_alone, is_factoring_of, is_resolution_of}
 

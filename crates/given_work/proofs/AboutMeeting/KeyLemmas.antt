@@ -13,7 +13,7 @@ use Rattle.kernel_steps.specs.declared.key.Key.{Key}
 use Rattle.kernel_steps.specs.declared.key.Key.TheVariants.{Para, Refl, Factor, Replaced}
 use Rattle.subsume.specs.Members.{numbers_of}
 use Rattle.eq_rules.specs.declared.inference.Inference.{Inference}
-use Rattle.pool_core.specs.Outcomes.{premises}
+use Rattle.pool_history.specs.Outcomes.{premises}
 use Rattle.given_work.specs.Meeting.{before_place, is_alone, is_met, is_pair}
 use Rattle.given_work.specs.Store.{members_in}
 use Rattle.bank_clause.specs.declared.member.Member.{Member}

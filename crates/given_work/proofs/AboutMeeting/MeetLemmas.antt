@@ -21,9 +21,9 @@ use Rattle.superpose.specs.Pairing.{is_from_into}
 use Rattle.partners.specs.Meeting.{AddsMeetings, AreLookedUp, is_meeting, is_partner}
 use Rattle.partners.specs.Partners.{Placed, before, partner_before, placed_numbered}
 use Rattle.subsume.specs.Members.{numbers_of}
-use Rattle.pool_core.specs.Record.{GivenJob}
-use Rattle.pool_core.specs.Reduction.{Lookup}
-use Rattle.pool_core.specs.Wholeness.{IsWhole}
+use Rattle.pool_history.specs.Record.{GivenJob}
+use Rattle.pool_history.specs.Reduction.{Lookup}
+use Rattle.pool_history.specs.Wholeness.{IsWhole}
 use Rattle.given_work.specs.Meeting.{AreAlone, AreMetWith, before_place, is_alone, is_met, is_pair}
 use Rattle.given_work.specs.Store.{ArePlaced, members_in}
 use Rattle.given_work.specs.Telling.{Tells, told_of}

@@ -23,15 +23,16 @@ use Rattle.fol_base.proofs.AboutOrders.TreeOrderLemmas.{tree_greater-itself, tre
 use Rattle.kbo_order.proofs.AboutLaws.StableLemmas.{trees_stable}
 use Rattle.kbo_order.proofs.AboutReading.HeadLemmas.{low_head-not_greater, smaller-not_greater}
 use Rattle.fol_base.proofs.AboutTerms.TreeLemmas.{list_of-trees_of, tree_size-positive}
+use Rattle.kbo_order.proofs.AboutMultisets.MemberLemmas.{In, In-left, In-right}
 use Rattle.bank_clause.specs.Clause.{clause_at}
 use Rattle.bank_clause.specs.declared.member.Member.{Member}
 use Rattle.disc_tree.specs.Entries.{IsIn, IsWith, KeepsAll}
 use Rattle.disc_tree.proofs.AboutPaths.EntryLemmas.{in-with}
 use Rattle.disc_tree.proofs.AboutQueries.UnifierLemmas.{instance-compatible}
-use Rattle.superpose.proofs.AboutLists.ListLemmas.{In, In-contained, In-left, In-right}
+use Rattle.superpose.proofs.AboutLists.ListLemmas.{In-contained}
 use Rattle.partners.proofs.IndexLemmas.{in-found}
 use Rattle.given_work.specs.Occurring.{ListsLiterals, ListsMembers, ListsSide, ListsTerm, ListsTerms, numbers_of_instances, numbers_with_instances}
-use Rattle.unit_index.specs.Indexed.{KeepsOthers}
+use Rattle.unit_cutting.specs.Indexed.{KeepsOthers}
 use Rattle.given_work.proofs.AboutIndexes.Slots.{Contains-filtered}
 
 -- ---- one term

@@ -6,7 +6,7 @@ use Rattle.kernel_steps.specs.declared.key.Key.TheVariants.{Para, Refl}
 use Rattle.kernel_steps.specs.declared.step.TheConstants.{CLAUSE_NUMBERS}
 use Rattle.bank_clause.specs.declared.member.Member.{Member}
 use Rattle.subsume.specs.Members.{numbers_of}
-use Rattle.pool_core.specs.declared.ticket.Change.TheVariants.{Activated, Died}
+use Rattle.pool_history.specs.declared.ticket.Change.TheVariants.{Activated, Died}
 use Rattle.given_work.specs.Going.{number_beside}
 use Rattle.given_work.specs.Learning.{learned}
 use Rattle.given_work.specs.Meeting.{is_met}

@@ -7,13 +7,13 @@ use Rattle.fol_base.specs.WellFormed.{SymbolUse}
 use Rattle.fol_base.proofs.WorkedExamples.TestLemmas.{option_map-some}
 use Rattle.bank_clause.specs.Clause.{clause_at}
 use Rattle.bank_clause.specs.declared.member.Member.{Member}
-use Rattle.pool_core.specs.Record.{Registered, clauses_of, given_job}
-use Rattle.pool_core.specs.Replay.{Origin, replay}
-use Rattle.pool_core.specs.Inputs.{AreInputs, IsHistoryOf, IsUseOf}
-use Rattle.pool_core.specs.Wholeness.{IsWhole}
-use Rattle.pool_core.specs.declared.event.Event.{Event}
-use Rattle.pool_core.proofs.AboutBeginnings.BeginningLemmas.{registered_are_whole}
-use Rattle.pool_core.specs.declared.ticket.Ticket.{Ticket}
+use Rattle.pool_history.specs.Record.{Registered, clauses_of, given_job}
+use Rattle.pool_history.specs.Replay.{Origin, replay}
+use Rattle.pool_history.specs.Inputs.{AreInputs, IsHistoryOf, IsUseOf}
+use Rattle.pool_history.specs.Wholeness.{IsWhole}
+use Rattle.pool_history.specs.declared.event.Event.{Event}
+use Rattle.pool_history.proofs.AboutLines.BeginningLemmas.{registered_are_whole}
+use Rattle.pool_history.specs.declared.ticket.Ticket.{Ticket}
 use Rattle.given_work.specs.Laws.{AreToldFor, ToldForJobsAreTold, WorkMakesRightBatches}
 use Rattle.given_work.specs.Telling.{Tells}
 use Rattle.given_work.proofs.AboutBatches.Justifiers.{all-from}

@@ -20,17 +20,17 @@ use Rattle.partners.specs.Partners.{Placed, placed_numbered}
 use Rattle.subsume.specs.Members.{numbers_of}
 use Rattle.eq_rules.specs.Inferences.{AreInferences, IsMade}
 use Rattle.eq_rules.specs.declared.inference.Inference.{Inference}
-use Rattle.pool_core.specs.Record.{GivenJob}
-use Rattle.pool_core.specs.Counting.{keys_of}
-use Rattle.pool_core.specs.Reduction.{Lookup}
-use Rattle.pool_core.specs.Batches.{IsGoneFor, IsReducedBeside, IsRightFate, IsRightRemoval, IsRightWork, MeetsAll, RemovesAll, Simplifies, is_to_meet, is_told, is_told_beside, told_before}
-use Rattle.pool_core.specs.declared.options.Options.{Options}
-use Rattle.pool_core.specs.declared.batch.Entry.{Entry}
-use Rattle.pool_core.specs.declared.batch.Fate.{Fate}
-use Rattle.pool_core.specs.declared.batch.Fate.TheVariants.{Dropped, Heavy, Kept}
-use Rattle.pool_core.specs.declared.batch.Removal.{Removal}
-use Rattle.pool_core.specs.declared.batch.Work.{Work}
-use Rattle.pool_core.specs.declared.batch.Work.TheVariants.{Gone}
+use Rattle.pool_history.specs.Record.{GivenJob}
+use Rattle.pool_history.specs.Counting.{keys_of}
+use Rattle.pool_history.specs.Reduction.{Lookup}
+use Rattle.pool_history.specs.Batches.{IsGoneFor, IsReducedBeside, IsRightFate, IsRightRemoval, IsRightWork, MeetsAll, RemovesAll, Simplifies, is_to_meet, is_told, is_told_beside, told_before}
+use Rattle.pool_history.specs.declared.options.Options.{Options}
+use Rattle.pool_history.specs.declared.batch.Entry.{Entry}
+use Rattle.pool_history.specs.declared.batch.Fate.{Fate}
+use Rattle.pool_history.specs.declared.batch.Fate.TheVariants.{Dropped, Heavy, Kept}
+use Rattle.pool_history.specs.declared.batch.Removal.{Removal}
+use Rattle.pool_history.specs.declared.batch.Work.{Work}
+use Rattle.pool_history.specs.declared.batch.Work.TheVariants.{Gone}
 use Rattle.given_work.specs.Going.{GoesRightly, IsRemovalOf, LeavesIrreducible}
 use Rattle.given_work.specs.Meeting.{AreEntriesOf, AreFirstEntries, AreMetWith, IsMadeWith, before_place, is_met}
 use Rattle.given_work.specs.Removing.{AreTold, Removes}

@@ -6,16 +6,16 @@ use Rattle.std.proofs.lemmas.Option.{slice_get-map, slice_get_within}
 use Rattle.fol_base.specs.Clause.{TreeClause}
 use Rattle.clause_queue.specs.declared.choice.Choice.{Choice}
 use Rattle.clause_queue.specs.declared.choice.Choice.TheVariants.{Light, Old}
-use Rattle.pool_core.specs.Record.{PoolRecord, Registered, Death, GivenJob, SolverJob, PropositionalClause, clause_numbered, has_died, lives, is_awake, jobs_out}
-use Rattle.pool_core.specs.Claiming.{ready, picked, next_choice, can_give}
-use Rattle.pool_core.specs.Solving.{must_solve}
-use Rattle.pool_core.specs.Outcomes.{is_at_rest, is_of_living, heavy_or_saturated, outcome_of, outcome_by}
+use Rattle.pool_history.specs.Record.{PoolRecord, Registered, Death, GivenJob, SolverJob, PropositionalClause, clause_numbered, has_died, lives, is_awake, jobs_out}
+use Rattle.pool_history.specs.Claiming.{ready, picked, next_choice, can_give, pair_of}
+use Rattle.pool_history.specs.Solving.{must_solve}
+use Rattle.pool_history.specs.Outcomes.{is_at_rest, is_of_living, heavy_or_saturated, outcome_of, outcome_by}
 use Rattle.pool_core.specs.Started.{registered_at}
-use Rattle.pool_core.specs.State.{IsStateOf, pair_of, job_entry}
-use Rattle.pool_core.specs.declared.outcome.Outcome.{Outcome}
+use Rattle.pool_core.specs.State.{IsStateOf, job_entry}
+use Rattle.pool_history.specs.declared.outcome.Outcome.{Outcome}
 use Rattle.pool_core.specs.declared.register.Registration.{Registration}
 use Rattle.pool_core.specs.declared.pool.Pool.TheInside.{Inside}
-use Rattle.pool_core.proofs.AboutBeginnings.StartLemmas.{all-at}
+use Rattle.pool_history.proofs.AboutRecords.ItemLemmas.{all-at}
 use Rattle.pool_core.proofs.AboutBeginnings.BegunLemmas.{awake-without, numbered}
 
 -- ---- a clause of a number

@@ -17,38 +17,38 @@ use Rattle.term_bank.specs.declared.table.Table.{Table}
 use Rattle.bank_clause.specs.Clause.{clause_at}
 use Rattle.clause_queue.specs.Pairs.{without, numbers}
 use Rattle.pool_core.specs.CountedList.{keys_in}
-use Rattle.pool_core.specs.Record.{PoolRecord, Registered, GivenJob, clauses_of, clause_numbered, position_of, given_job, jobs_out}
-use Rattle.pool_core.specs.Claiming.{ready, next_given, can_give, new_job}
-use Rattle.pool_core.specs.Replay.{Origin, after, replay}
-use Rattle.pool_core.specs.News.{TreeChange, changes_between, news_since}
-use Rattle.pool_core.specs.Noted.{IsNoted, IsNextTicket, clause_in, change_at, first_told}
-use Rattle.pool_core.specs.Answers.{IsTicket}
-use Rattle.pool_core.specs.Lawful.{IsAllowed}
-use Rattle.pool_core.specs.Solving.{must_solve}
-use Rattle.pool_core.specs.Outcomes.{outcome_of, outcome_by, heavy_or_saturated, is_of_living}
-use Rattle.pool_core.specs.Events.{events_of}
+use Rattle.pool_history.specs.Record.{PoolRecord, Registered, GivenJob, clauses_of, clause_numbered, position_of, given_job, jobs_out}
+use Rattle.pool_history.specs.Claiming.{ready, next_given, can_give, new_job}
+use Rattle.pool_history.specs.Replay.{Origin, after, replay}
+use Rattle.pool_history.specs.News.{TreeChange, changes_between, news_since, first_told}
+use Rattle.pool_core.specs.Noted.{IsNoted, IsNextTicket, clause_in, change_at}
+use Rattle.pool_history.specs.Answers.{IsTicket}
+use Rattle.pool_history.specs.Lawful.{IsAllowed}
+use Rattle.pool_history.specs.Solving.{must_solve}
+use Rattle.pool_history.specs.Outcomes.{outcome_of, outcome_by, heavy_or_saturated, is_of_living}
+use Rattle.pool_core.specs.KeptEvents.{events_of}
 use Rattle.pool_core.specs.Register.{at_position}
 use Rattle.pool_core.specs.Started.{registered_at, IsOfTable}
 use Rattle.pool_core.specs.State.{origin_of, IsRegistration, AreOfRegistered, IsStateOf, IsPool, job_entry}
-use Rattle.pool_core.specs.declared.options.Options.{Options}
-use Rattle.pool_core.specs.declared.outcome.Outcome.{Outcome}
-use Rattle.pool_core.specs.declared.event.Event.{Event}
-use Rattle.pool_core.specs.declared.event.Event.TheVariants.{Claim}
+use Rattle.pool_history.specs.declared.options.Options.{Options}
+use Rattle.pool_history.specs.declared.outcome.Outcome.{Outcome}
+use Rattle.pool_history.specs.declared.event.Event.{Event}
+use Rattle.pool_history.specs.declared.event.Event.TheVariants.{Claim}
 use Rattle.pool_core.specs.declared.pool.OutJob.{OutJob}
 use Rattle.pool_core.specs.declared.pool.Note.{Note}
 use Rattle.pool_core.specs.declared.pool.Note.TheVariants.{Activated}
 use Rattle.pool_core.specs.declared.pool.Pool.TheInside.{Inside}
 use Rattle.pool_core.specs.declared.register.Registration.{Registration}
-use Rattle.pool_core.specs.declared.ticket.Ticket.{Ticket}
-use Rattle.pool_core.proofs.AboutRecords.EditLemmas.{at-set, insert-last}
-use Rattle.pool_core.proofs.AboutRecords.FrameLemmas.{by-if}
-use Rattle.pool_core.proofs.AboutClaims.HistoryLemmas.{event-count, replay-end, news-end}
-use Rattle.pool_core.proofs.AboutBounds.JobLemmas.{Rising}
-use Rattle.pool_core.proofs.AboutClaims.PickLemmas.{given-in, number-in}
-use Rattle.pool_core.proofs.AboutBeginnings.StartLemmas.{all-at}
-use Rattle.pool_core.proofs.AboutRecords.RegisterLemmas.{found-place, position-end-new, position-end-old}
-use Rattle.pool_core.proofs.AboutClaims.StateLemmas.{clause-in, record_of, pool-rises, one-more-event, clause-there, clause-numbered, registered-count, given-count}
-use Rattle.pool_core.proofs.AboutClaims.ClaimedRecords.{absent-place, absent-position, after-claim, changes-claimed, claim_after, find-last, given-waits, has-no-position, has-position, positions_with, present-place, ready-claimed, rising-by, told-first}
+use Rattle.pool_history.specs.declared.ticket.Ticket.{Ticket}
+use Rattle.pool_history.proofs.AboutRecords.EditLemmas.{at-set, insert-last}
+use Rattle.pool_history.proofs.AboutRecords.FrameLemmas.{by-if}
+use Rattle.pool_history.proofs.AboutClaims.HistoryLemmas.{event-count, replay-end, news-end}
+use Rattle.pool_history.proofs.AboutBounds.JobLemmas.{Rising}
+use Rattle.pool_history.proofs.AboutClaims.PickLemmas.{given-in, number-in}
+use Rattle.pool_history.proofs.AboutRecords.ItemLemmas.{all-at, clause-numbered}
+use Rattle.pool_core.proofs.AboutRegister.RegisterLemmas.{found-place, position-end-new, position-end-old}
+use Rattle.pool_core.proofs.AboutClaims.StateLemmas.{rising-by, clause-in, record_of, pool-rises, one-more-event, clause-there, registered-count, given-count}
+use Rattle.pool_history.proofs.AboutClaims.ClaimedRecords.{absent-place, absent-position, after-claim, changes-claimed, claim_after, find-last, given-waits, has-no-position, has-position, positions_with, present-place, ready-claimed, told-first}
 
 -- ---- the pool after a claim
 

@@ -18,28 +18,28 @@ use Rattle.clause_queue.proofs.Numbers.{lacks_from}
 use Rattle.clause_queue.proofs.PairsLemmas.{absent-without}
 use Rattle.clause_queue.proofs.PutBack.{put_back_restores}
 use Rattle.pool_core.specs.CountedList.{keys_in}
-use Rattle.pool_core.specs.Record.{PoolRecord, GivenJob, Death, clause_numbered, numbers_of, lives, is_out, waits, is_awake, given_job, without_job}
-use Rattle.pool_core.specs.Claiming.{ready}
-use Rattle.pool_core.specs.Replay.{after, without_solver}
-use Rattle.pool_core.specs.News.{TreeChange}
+use Rattle.pool_history.specs.Record.{PoolRecord, GivenJob, Death, clause_numbered, numbers_of, lives, is_out, waits, is_awake, given_job, without_job}
+use Rattle.pool_history.specs.Claiming.{ready, pair_of}
+use Rattle.pool_history.specs.Replay.{after, without_solver}
+use Rattle.pool_history.specs.News.{TreeChange}
 use Rattle.pool_core.specs.Noted.{IsNoted}
 use Rattle.pool_core.specs.Started.{registered_at, IsOfTable}
-use Rattle.pool_core.specs.Events.{events_of}
-use Rattle.pool_core.specs.Lawful.{IsOut}
-use Rattle.pool_core.specs.State.{origin_of, AreOfRegistered, IsStateOf, IsPool, pair_of}
-use Rattle.pool_core.specs.declared.event.Event.{Event}
-use Rattle.pool_core.specs.declared.event.Event.TheVariants.{Abandon}
-use Rattle.pool_core.specs.declared.options.Options.{Options}
+use Rattle.pool_core.specs.KeptEvents.{events_of}
+use Rattle.pool_history.specs.Lawful.{IsOut}
+use Rattle.pool_core.specs.State.{origin_of, AreOfRegistered, IsStateOf, IsPool}
+use Rattle.pool_history.specs.declared.event.Event.{Event}
+use Rattle.pool_history.specs.declared.event.Event.TheVariants.{Abandon}
+use Rattle.pool_history.specs.declared.options.Options.{Options}
 use Rattle.pool_core.specs.declared.pool.OutJob.{OutJob}
 use Rattle.pool_core.specs.declared.pool.Pool.TheInside.{Inside}
 use Rattle.pool_core.specs.declared.register.Registration.{Registration}
-use Rattle.pool_core.proofs.AboutRecords.EditLemmas.{filter-less, filter-pairs, remove-filter, lookup-find}
-use Rattle.pool_core.proofs.AboutClaims.ClaimedRecords.{rising-by}
-use Rattle.pool_core.proofs.AboutClaims.HandLemmas.{AreInHand, hands-of, others-apart, all-none, all-found}
-use Rattle.pool_core.proofs.AboutBounds.JobLemmas.{Rising, none-removed}
+use Rattle.pool_history.proofs.AboutRecords.EditLemmas.{filter-less, filter-pairs, remove-filter, lookup-find}
+use Rattle.pool_history.proofs.AboutClaims.HandLemmas.{AreInHand, hands-of, others-apart, all-none, all-found}
+use Rattle.pool_history.proofs.AboutBounds.JobLemmas.{Rising, none-removed}
 use Rattle.pool_core.proofs.AboutBeginnings.LivingLemmas.{lives-there, awake-there, registered-there}
-use Rattle.pool_core.proofs.AboutClaims.PickLemmas.{In, RiseFrom, filter-rises, contains-in}
-use Rattle.pool_core.proofs.AboutClaims.StateLemmas.{clause-there, clause-numbered, record_of, pool-rises, one-more-event, registered-count}
+use Rattle.pool_history.proofs.AboutClaims.PickLemmas.{In, RiseFrom, filter-rises, contains-in}
+use Rattle.pool_core.proofs.AboutClaims.StateLemmas.{rising-by, clause-there, record_of, pool-rises, one-more-event, registered-count}
+use Rattle.pool_history.proofs.AboutRecords.ItemLemmas.{clause-numbered}
 
 -- ---- one job less
 

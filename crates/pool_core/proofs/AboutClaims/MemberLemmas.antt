@@ -7,13 +7,14 @@ use Rattle.std.proofs.lemmas.List.Elements.{All-nil, All-push}
 use Rattle.fol_base.specs.Clause.{TreeClause}
 use Rattle.bank_clause.specs.Clause.{clause_at, IsClauseOf, IsMemberOf, AreMembersOf}
 use Rattle.bank_clause.specs.declared.member.Member.{Member}
-use Rattle.pool_core.specs.Record.{PoolRecord, clause_numbered, lives, is_awake}
+use Rattle.pool_history.specs.Record.{PoolRecord, clause_numbered, lives, is_awake}
 use Rattle.pool_core.specs.State.{IsStateOf}
 use Rattle.pool_core.specs.declared.register.Registration.{Registration}
 use Rattle.pool_core.specs.declared.pool.Pool.TheInside.{Inside}
-use Rattle.pool_core.proofs.AboutRecords.EditLemmas.{filter-more}
+use Rattle.pool_history.proofs.AboutRecords.EditLemmas.{filter-more}
 use Rattle.pool_core.proofs.AboutBeginnings.LivingLemmas.{lives-there}
-use Rattle.pool_core.proofs.AboutClaims.StateLemmas.{one-of-bank, clause-there, clause-numbered}
+use Rattle.pool_core.proofs.AboutClaims.StateLemmas.{one-of-bank, clause-there}
+use Rattle.pool_history.proofs.AboutRecords.ItemLemmas.{clause-numbered}
 
 -- the members among the first numbers
 abbrev pub first_members : PoolRecord → ℕ → List ℕ

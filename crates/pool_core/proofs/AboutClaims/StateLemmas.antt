@@ -1,11 +1,10 @@
 -- What a pool's fields keep through an event that registers nothing.
-use Rattle.std.proofs.Common.{◌≡◌, ℕ, zero, suc, ◌+◌, ◌<◌, ◌≤◌, Bool, List, [], ◌∷◌, ◌++◌, map, length, take, drop, refl, ap, ap₂, sym, ◌∙◌, subst, ⊎_elim, arith}
+use Rattle.std.proofs.Common.{◌≡◌, ℕ, ◌+◌, ◌<◌, ◌≤◌, Bool, List, [], ◌∷◌, ◌++◌, map, length, take, drop, refl, ap, ap₂, sym, ◌∙◌, subst, ⊎_elim, arith}
 use Rattle.std.specs.Prelude.{Option, None, Some, Result, Ok, Err, OnOk, slice_get, option_map, unwrap_or, vec_len, vec_capacity, All}
 use Rattle.std.proofs.lemmas.Option.{slice_get-map, slice_get_within}
 use Rattle.std.proofs.lemmas.List.{length-append, length-map, length-take-le, map-append, take-append-le, take_all}
 use Rattle.std.proofs.lemmas.List.Elements.{All-weaker}
 use Rattle.std.proofs.Math.Seq.{take-append_seam, drop-append_seam}
-use Rattle.fol_base.specs.Clause.{TreeClause}
 use Rattle.fol_base.specs.WellFormed.{SymbolUse}
 use Rattle.kernel_steps.specs.Conclusion.{empty_clause}
 use Rattle.bank_clause.specs.Clause.{clause_at, IsClauseOf}
@@ -13,29 +12,30 @@ use Rattle.bank_clause.specs.declared.clause.BankClause.{BankClause}
 use Rattle.term_bank.specs.declared.bank.Bank.{Bank}
 use Rattle.term_bank.specs.declared.table.Table.{Table}
 use Rattle.pool_core.specs.CountedList.{keys_in}
-use Rattle.pool_core.specs.Record.{PoolRecord, Registered, clauses_of, clause_numbered}
-use Rattle.pool_core.specs.Replay.{Origin, after, start, replay}
-use Rattle.pool_core.specs.News.{TreeChange, change_of, changes_between, changes_from, news_since}
+use Rattle.pool_history.specs.Record.{PoolRecord, Registered, GivenJob, clauses_of}
+use Rattle.pool_history.specs.Replay.{Origin, after, start, replay}
+use Rattle.pool_history.specs.News.{TreeChange, change_of, changes_between, changes_from, news_since}
 use Rattle.pool_core.specs.Noted.{AreOfBank, IsNoted, clause_in, change_at}
-use Rattle.pool_core.specs.Events.{events_of}
-use Rattle.pool_core.specs.Inputs.{AreInputs, IsLimit, IsHistoryOf, IsUseOf}
-use Rattle.pool_core.specs.Lawful.{IsAllowed}
+use Rattle.pool_core.specs.KeptEvents.{events_of}
+use Rattle.pool_history.specs.Inputs.{AreInputs, IsLimit, IsHistoryOf, IsUseOf}
+use Rattle.pool_history.specs.Lawful.{IsAllowed}
 use Rattle.pool_core.specs.Placing.{KnowsMore}
 use Rattle.pool_core.specs.Started.{registered_at, IsOfTable}
 use Rattle.pool_core.specs.State.{origin_of, IsProofStateOf, IsStateOf, IsPool, job_entry}
-use Rattle.pool_core.specs.declared.options.Options.{Options}
-use Rattle.pool_core.specs.declared.event.Event.{Event}
+use Rattle.pool_history.specs.declared.options.Options.{Options}
+use Rattle.pool_history.specs.declared.event.Event.{Event}
 use Rattle.pool_core.specs.declared.register.Registration.{Registration}
+use Rattle.pool_core.specs.declared.pool.OutJob.{OutJob}
 use Rattle.pool_core.specs.declared.pool.ProofState.{ProofState}
 use Rattle.pool_core.specs.declared.pool.Note.{Note}
 use Rattle.pool_core.specs.declared.pool.Note.TheVariants.{Activated, Died}
 use Rattle.pool_core.specs.declared.pool.Pool.TheInside.{Inside}
-use Rattle.pool_core.specs.declared.ticket.Change.{Change}
-use Rattle.pool_core.proofs.AboutRecords.EditLemmas.{get-end}
-use Rattle.pool_core.proofs.AboutClaims.HistoryLemmas.{replay-end, changes-end, lawful-end, news-drop, news-bound}
-use Rattle.pool_core.proofs.AboutBounds.JobLemmas.{Rising}
-use Rattle.pool_core.proofs.AboutBeginnings.StartLemmas.{all-at}
-use Rattle.pool_core.proofs.AboutBounds.TimeLemmas.{jobs-rise}
+use Rattle.pool_history.specs.declared.ticket.Change.{Change}
+use Rattle.pool_history.proofs.AboutRecords.EditLemmas.{get-end, RisingBy}
+use Rattle.pool_history.proofs.AboutClaims.HistoryLemmas.{replay-end, changes-end, lawful-end, news-drop, news-bound}
+use Rattle.pool_history.proofs.AboutBounds.JobLemmas.{Rising}
+use Rattle.pool_history.proofs.AboutRecords.ItemLemmas.{all-at}
+use Rattle.pool_history.proofs.AboutBounds.TimeLemmas.{jobs-rise}
 
 -- ---- the clauses of a register
 
@@ -71,8 +71,10 @@ clause-there a r n s is there =
     ∙ ap (λ (o : Option Registered). option_map (λ (c : Registered). c.clause) o) (slice_get-map registered_at a.proof.register.clauses n)
     ∙ ap (λ (o : Option Registration). option_map (λ (c : Registered). c.clause) (option_map registered_at o)) there
 
-pub clause-numbered : (r : PoolRecord) (n : ℕ) (c : TreeClause) → clauses_of r n ≡ Some c → clause_numbered r n ≡ c
-clause-numbered r n c there = ap (λ (o : Option TreeClause). unwrap_or o empty_clause) there
+-- the numbers of the jobs that are out rise
+pub rising-by : (low high : ℕ) (js : List GivenJob) → Rising low high js → RisingBy (λ (j : GivenJob). j.job) (λ (j : GivenJob). let o : OutJob = record { number = j.number; left = j.left } in o) low high js
+rising-by low high [] rise = rise
+rising-by low high (j ∷ js) rise = (rise.0, rising-by j.job high js rise.1)
 
 pub registered-count : (a : Inside) (r : PoolRecord) → IsStateOf a r → length r.registered ≡ length a.proof.register.clauses
 registered-count a r is = ap length (sym is.proof.registered) ∙ length-map a.proof.register.clauses registered_at
@@ -275,11 +277,6 @@ kept-pool a b is kept = record {
     whole es = ap (λ (o : Origin). changes_from o.options (start o) es) kept.origin
 
 -- ---- what is told
-
-pub item-at : {X : Type 0} (xs : List X) (n : ℕ) → n < length xs → (x : X) × (slice_get xs n ≡ Some x)
-item-at [] n below = absurd (omega (arith, below))
-item-at (x ∷ xs) zero below = (x, refl)
-item-at (x ∷ xs) (suc n) below = item-at xs n (omega (arith, below))
 
 -- the changes that were collected from a place on are the news
 pub news-told :

@@ -9,27 +9,27 @@ use Rattle.kernel_steps.specs.declared.key.Key.{Key}
 use Rattle.kernel_steps.specs.declared.step.Line.{Line}
 use Rattle.term_bank.specs.declared.bank.Bank.{Bank}
 use Rattle.term_bank.specs.declared.table.Table.{Table}
-use Rattle.pool_core.specs.Record.{PoolRecord}
-use Rattle.pool_core.specs.Lines.{result_of}
-use Rattle.pool_core.specs.Registering.{has_none}
+use Rattle.pool_history.specs.Record.{PoolRecord}
+use Rattle.pool_history.specs.Lines.{result_of}
+use Rattle.pool_history.specs.Registering.{has_none}
 use Rattle.std.specs.List.{cons_option}
 use Rattle.fol_base.specs.declared.clause.Clause.{Clause}
-use Rattle.pool_core.specs.Counting.{refutes, result_comes, spends, counts, keys_of, lines_of_fate, lines_of_entries}
+use Rattle.pool_history.specs.Counting.{refutes, result_comes, spends, counts, keys_of, lines_of_fate, lines_of_entries}
 use Rattle.std.proofs.lemmas.List.{length-append, length-map}
 use Rattle.std.proofs.lemmas.List.Sums.{sum_by-cons}
 use Rattle.kernel_steps.specs.declared.key.Key.TheVariants.{Replaced}
 use Rattle.pool_core.specs.Placing.{IsInterned, AreInterned, IsArrival, AreArrivals, IsCountedStateOf, HasRoom, comes_if, spent_if}
-use Rattle.pool_core.specs.declared.batch.Entry.{Entry}
-use Rattle.pool_core.specs.declared.batch.Fate.{Fate}
-use Rattle.pool_core.specs.declared.batch.Fate.TheVariants.{Kept, Dropped, Heavy}
-use Rattle.pool_core.specs.Returning.{replaced}
+use Rattle.pool_history.specs.declared.batch.Entry.{Entry}
+use Rattle.pool_history.specs.declared.batch.Fate.{Fate}
+use Rattle.pool_history.specs.declared.batch.Fate.TheVariants.{Kept, Dropped, Heavy}
+use Rattle.pool_history.specs.Returning.{replaced}
 use Rattle.pool_core.specs.declared.interning.Interned.{Interned}
 use Rattle.pool_core.specs.State.{IsProofStateOf}
-use Rattle.pool_core.specs.declared.options.Options.{Options}
-use Rattle.pool_core.specs.declared.outcome.Outcome.{Outcome}
-use Rattle.pool_core.specs.declared.outcome.Outcome.TheVariants.{Refuted, Spent}
+use Rattle.pool_history.specs.declared.options.Options.{Options}
+use Rattle.pool_history.specs.declared.outcome.Outcome.{Outcome}
+use Rattle.pool_history.specs.declared.outcome.Outcome.TheVariants.{Refuted, Spent}
 use Rattle.pool_core.specs.declared.pool.ProofState.{ProofState}
-use Rattle.pool_core.proofs.AboutRecords.FrameLemmas.{Registers, by-if, result-registers, results-register}
+use Rattle.pool_history.proofs.AboutRecords.FrameLemmas.{Registers, by-if, result-registers, results-register}
 use Rattle.pool_core.proofs.AboutReturns.ComingLemmas.{refutes-is, result-empty, result-ended}
 
 -- ---- a result that refutes

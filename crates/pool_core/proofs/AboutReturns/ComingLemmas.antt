@@ -20,22 +20,23 @@ use Rattle.term_bank.specs.declared.table.Table.{Table}
 use Rattle.bank_clause.specs.Clause.{clause_at, IsKnown, equal_by_numbers}
 use Rattle.bank_clause.specs.declared.clause.BankClause.{BankClause}
 use Rattle.bank_clause.proofs.EqualityLemmas.{same-are-equal}
-use Rattle.pool_core.specs.Record.{PoolRecord, Registered, Death, GivenJob, clause_numbered, has_died, lives, is_out, waits, is_awake, has_living}
-use Rattle.pool_core.specs.Claiming.{ready}
-use Rattle.pool_core.specs.Lines.{with_parents, line_number, pool_line, result_of, with_lines}
-use Rattle.pool_core.specs.Registering.{comes, empty_comes, registered_last, with_propositional, with_refutation, has_none}
-use Rattle.pool_core.specs.Counting.{comes_by, result_comes, refutes}
-use Rattle.pool_core.specs.Tags.{line_names}
+use Rattle.pool_history.specs.Record.{PoolRecord, Registered, Death, GivenJob, clause_numbered, has_died, lives, is_out, waits, is_awake, has_living}
+use Rattle.pool_history.specs.Claiming.{ready, pair_of}
+use Rattle.pool_history.specs.Lines.{with_parents, line_number, pool_line, result_of, with_lines}
+use Rattle.pool_history.specs.Registering.{comes, empty_comes, registered_last, with_propositional, with_refutation, has_none}
+use Rattle.pool_history.specs.Counting.{comes_by, result_comes, refutes}
+use Rattle.pool_history.specs.Tags.{line_names}
 use Rattle.pool_core.specs.Register.{is_living_copy}
 use Rattle.pool_core.specs.Started.{registered_at, IsOfTable}
-use Rattle.pool_core.specs.State.{IsRegistration, IsProofStateOf, AreOfRegistered, pair_of}
-use Rattle.pool_core.specs.declared.outcome.Outcome.{Outcome}
-use Rattle.pool_core.specs.declared.outcome.Outcome.TheVariants.{Refuted}
+use Rattle.pool_core.specs.State.{IsRegistration, IsProofStateOf, AreOfRegistered}
+use Rattle.pool_history.specs.declared.outcome.Outcome.{Outcome}
+use Rattle.pool_history.specs.declared.outcome.Outcome.TheVariants.{Refuted}
 use Rattle.pool_core.specs.declared.pool.ProofState.{ProofState}
 use Rattle.pool_core.specs.declared.register.Registration.{Registration}
 use Rattle.pool_core.proofs.AboutBeginnings.BegunLemmas.{awake-without, numbered}
-use Rattle.pool_core.proofs.AboutRecords.EditLemmas.{get-end, filter-more}
-use Rattle.pool_core.proofs.AboutBeginnings.StartLemmas.{all-at, any-by-place, none-passes, clause_eq-refl, clause_eq-says, any-at, steps-of}
+use Rattle.pool_history.proofs.AboutRecords.EditLemmas.{get-end, filter-more}
+use Rattle.pool_core.proofs.AboutBeginnings.StartLemmas.{steps-of}
+use Rattle.pool_history.proofs.AboutRecords.ItemLemmas.{all-at, any-by-place, none-passes, clause_eq-refl, clause_eq-says, any-at}
 use Rattle.pool_core.proofs.AboutReturns.ProofStateLemmas.{count-of, get-front, get-last, lives-here, map-filter-within, no-death-of, no-position, not-active, not-dead, not-out, registered-at, with_pair-above}
 
 -- ---- a clause comes

@@ -4,6 +4,7 @@ use Rattle.std.specs.Prelude.{Option, None, Some, cond, filter_map, option_to_li
 use Rattle.std.specs.List.{cons_option}
 use Rattle.std.proofs.lemmas.List.{take_more, length-append}
 use Rattle.std.proofs.lemmas.List.Sums.{sum_by-append, sum_by-cons}
+use Rattle.plain_types.specs.Names.{negative_of}
 use Rattle.fol_base.specs.Literal.{clause_of}
 use Rattle.fol_base.specs.Clause.{TreeClause}
 use Rattle.fol_base.specs.declared.clause.Clause.{Clause}
@@ -12,15 +13,14 @@ use Rattle.kernel_steps.specs.declared.step.Line.{Line}
 use Rattle.term_bank.specs.Literal.{AreLiteralsOf}
 use Rattle.term_bank.specs.declared.bank.Bank.{Bank}
 use Rattle.term_bank.specs.declared.table.Table.{Table}
-use Rattle.bank_clause.specs.Parts.{assertion}
 use Rattle.bank_clause.specs.Clause.{clause_at, IsKnown}
 use Rattle.pool_core.specs.ClauseHash.{clause_hash}
-use Rattle.pool_core.specs.Counting.{is_heavy, keys_of}
-use Rattle.pool_core.specs.Returning.{heavy_entries}
+use Rattle.pool_history.specs.Counting.{is_heavy, keys_of}
+use Rattle.pool_history.specs.Returning.{heavy_entries}
 use Rattle.pool_core.specs.Placing.{IsInterned, AreInterned, AreResults, KnowsMore, IsFitResult, line_count}
-use Rattle.pool_core.specs.declared.batch.Entry.{Entry}
-use Rattle.pool_core.specs.declared.batch.Fate.{Fate}
-use Rattle.pool_core.specs.declared.batch.Fate.TheVariants.{Kept, Dropped, Heavy}
+use Rattle.pool_history.specs.declared.batch.Entry.{Entry}
+use Rattle.pool_history.specs.declared.batch.Fate.{Fate}
+use Rattle.pool_history.specs.declared.batch.Fate.TheVariants.{Kept, Dropped, Heavy}
 use Rattle.pool_core.specs.declared.interning.Interned.{Interned}
 use Rattle.pool_core.specs.declared.interning.Results.{Results}
 
@@ -63,7 +63,7 @@ added-one bank table (ls ∷ lss) (y ∷ ys) lines x are one = (are.0, added-one
 added-one bank table [] (y ∷ ys) lines x are one = absurd are
 added-one bank table (ls ∷ lss) [] lines x are one = absurd are
 
-no-assertions : (ns : List ℕ) → map assertion ns ≡ [] → ns ≡ []
+pub no-assertions : (ns : List ℕ) → map negative_of ns ≡ [] → ns ≡ []
 no-assertions [] none = refl
 no-assertions (n ∷ ns) none = absurd cc
 

@@ -14,21 +14,21 @@ use Rattle.kernel_steps.specs.Split.{has_number}
 use Rattle.clause_queue.specs.Pairs.{with_pair, without}
 use Rattle.term_bank.specs.declared.bank.Bank.{Bank}
 use Rattle.term_bank.specs.declared.table.Table.{Table}
-use Rattle.pool_core.specs.Record.{PoolRecord, Death, GivenJob, clause_numbered, numbers_of, has_died, lives, is_out, waits, is_awake}
-use Rattle.pool_core.specs.Claiming.{ready}
-use Rattle.pool_core.specs.Returning.{dies, becomes_active}
-use Rattle.pool_core.specs.Answers.{death_of}
+use Rattle.pool_history.specs.Record.{PoolRecord, Death, GivenJob, clause_numbered, numbers_of, has_died, lives, is_out, waits, is_awake}
+use Rattle.pool_history.specs.Claiming.{ready, pair_of}
+use Rattle.pool_history.specs.Returning.{dies, becomes_active}
+use Rattle.pool_history.specs.Answers.{death_of}
 use Rattle.pool_core.specs.Register.{death_at, is_living_at, dead_in, made_active}
 use Rattle.pool_core.specs.Started.{registered_at, IsOfTable}
-use Rattle.pool_core.specs.State.{IsRegistration, IsProofStateOf, AreOfRegistered, pair_of}
+use Rattle.pool_core.specs.State.{IsRegistration, IsProofStateOf, AreOfRegistered}
 use Rattle.pool_core.specs.Placing.{with_queue}
-use Rattle.pool_core.specs.declared.outcome.Outcome.{Outcome}
+use Rattle.pool_history.specs.declared.outcome.Outcome.{Outcome}
 use Rattle.pool_core.specs.declared.pool.ProofState.{ProofState}
 use Rattle.pool_core.specs.declared.register.Registration.{Registration}
-use Rattle.pool_core.proofs.AboutRecords.EditLemmas.{at-set, filter-less, filter-pairs}
+use Rattle.pool_history.proofs.AboutRecords.EditLemmas.{at-set, filter-less, filter-pairs}
 use Rattle.pool_core.proofs.AboutBeginnings.LivingLemmas.{no-death}
-use Rattle.pool_core.proofs.AboutRecords.RegisterLemmas.{no-place}
-use Rattle.pool_core.proofs.AboutBeginnings.StartLemmas.{all-at}
+use Rattle.pool_core.proofs.AboutRegister.RegisterLemmas.{no-place}
+use Rattle.pool_history.proofs.AboutRecords.ItemLemmas.{all-at}
 
 -- ---- the first of a list with one more
 

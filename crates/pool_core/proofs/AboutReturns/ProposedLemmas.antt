@@ -9,15 +9,15 @@ use Rattle.kernel_steps.specs.declared.step.Line.{Line}
 use Rattle.clause_queue.specs.Pairs.{without}
 use Rattle.term_bank.specs.declared.bank.Bank.{Bank}
 use Rattle.term_bank.specs.declared.table.Table.{Table}
-use Rattle.pool_core.specs.Record.{PoolRecord, Death, lives}
-use Rattle.pool_core.specs.Counting.{lines_of_fate, counts}
+use Rattle.pool_history.specs.Record.{PoolRecord, Death, lives}
+use Rattle.pool_history.specs.Counting.{lines_of_fate, counts}
 use Rattle.pool_core.specs.Register.{is_living_at}
-use Rattle.pool_core.specs.Returning.{dies, replaced, removed, proposed, takes_effect}
+use Rattle.pool_history.specs.Returning.{dies, replaced, removed, proposed, takes_effect}
 use Rattle.pool_core.specs.Placing.{AreInterned, AreArrivals, IsResultOf, IsCountedStateOf, NotesDeaths, HasRoom, lines_of_removals, with_queue}
 use Rattle.pool_core.specs.State.{IsProofStateOf}
-use Rattle.pool_core.specs.declared.options.Options.{Options}
-use Rattle.pool_core.specs.declared.batch.Fate.{Fate}
-use Rattle.pool_core.specs.declared.batch.Removal.{Removal}
+use Rattle.pool_history.specs.declared.options.Options.{Options}
+use Rattle.pool_history.specs.declared.batch.Fate.{Fate}
+use Rattle.pool_history.specs.declared.batch.Removal.{Removal}
 use Rattle.pool_core.specs.declared.interning.Interned.{Interned}
 use Rattle.pool_core.specs.declared.pool.Note.{Note}
 use Rattle.pool_core.specs.declared.pool.Note.TheVariants.{Died}
@@ -25,7 +25,7 @@ use Rattle.pool_core.specs.declared.pool.ProofState.{ProofState}
 use Rattle.std.proofs.lemmas.List.{length-append}
 use Rattle.std.proofs.lemmas.List.Sums.{sum_by-cons, sum_by-append}
 use Rattle.pool_core.proofs.AboutReturns.ArrivalLemmas.{recounted, room-first}
-use Rattle.pool_core.proofs.AboutCounting.DeathLemmas.{replaced-keeps, counts-keeps}
+use Rattle.pool_history.proofs.AboutCounting.DeathLemmas.{replaced-keeps, counts-keeps}
 use Rattle.pool_core.proofs.AboutReturns.ProofStateLemmas.{living-at}
 
 -- ---- lists

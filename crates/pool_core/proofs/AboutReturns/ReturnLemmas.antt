@@ -9,28 +9,30 @@ use Rattle.std.proofs.lemmas.Option.{none-some, same_Some}
 use Rattle.kernel_steps.specs.Split.{has_number}
 use Rattle.bank_clause.specs.Clause.{clause_at}
 use Rattle.clause_queue.specs.Pairs.{Waiting}
-use Rattle.pool_core.specs.Record.{PoolRecord, GivenJob, SolverJob, Death, clause_numbered, has_died, is_dead, lives, given_job, without_job}
+use Rattle.kernel_steps.proofs.AboutSplits.SplitTables.{has-right}
+use Rattle.pool_history.specs.Record.{PoolRecord, GivenJob, SolverJob, Death, clause_numbered, has_died, is_dead, lives, given_job, without_job}
 use Rattle.pool_core.specs.Register.{death_at}
-use Rattle.pool_core.specs.Replay.{after, without_solver}
-use Rattle.pool_core.specs.News.{TreeChange, activated}
+use Rattle.pool_history.specs.Replay.{after, without_solver}
+use Rattle.pool_history.specs.News.{TreeChange, activated}
 use Rattle.pool_core.specs.Noted.{IsNoted}
-use Rattle.pool_core.specs.Answers.{death_of, dead_justifier}
+use Rattle.pool_history.specs.Answers.{death_of, dead_justifier}
 use Rattle.pool_core.specs.Started.{registered_at}
-use Rattle.pool_core.specs.Events.{events_of}
-use Rattle.pool_core.specs.State.{origin_of, IsStateOf, IsPool, pair_of}
-use Rattle.pool_core.specs.declared.batch.Work.{Work}
-use Rattle.pool_core.specs.declared.batch.Work.TheVariants.{Gone, Met}
-use Rattle.pool_core.specs.declared.event.Event.TheVariants.{Void}
-use Rattle.pool_core.specs.declared.options.Options.{Options}
+use Rattle.pool_core.specs.KeptEvents.{events_of}
+use Rattle.pool_core.specs.State.{origin_of, IsStateOf, IsPool}
+use Rattle.pool_history.specs.Claiming.{pair_of}
+use Rattle.pool_history.specs.declared.batch.Work.{Work}
+use Rattle.pool_history.specs.declared.batch.Work.TheVariants.{Gone, Met}
+use Rattle.pool_history.specs.declared.event.Event.TheVariants.{Void}
+use Rattle.pool_history.specs.declared.options.Options.{Options}
 use Rattle.pool_core.specs.declared.pool.Pool.TheInside.{Inside}
 use Rattle.pool_core.specs.declared.register.Registration.{Registration}
 use Rattle.pool_core.proofs.AboutClaims.ClaimLemmas.{told-now}
 use Rattle.pool_core.proofs.AboutClaims.GiveUpLemmas.{IsGivenUpBy, given_up, given-up-state, length-without, ready-dead}
 use Rattle.pool_core.proofs.AboutBeginnings.LivingLemmas.{no-death}
-use Rattle.pool_core.proofs.AboutRecords.NumberLemmas.{numbers_fit}
-use Rattle.pool_core.proofs.AboutRecords.PlaceLemmas.{has-first, has-right}
+use Rattle.pool_history.proofs.AboutRecords.NumberLemmas.{numbers_fit}
+use Rattle.pool_history.proofs.AboutRecords.PlaceLemmas.{has-first}
 use Rattle.pool_core.proofs.AboutReturns.ProofStateLemmas.{death-at}
-use Rattle.pool_core.proofs.AboutBeginnings.StartLemmas.{all-at}
+use Rattle.pool_history.proofs.AboutRecords.ItemLemmas.{all-at}
 use Rattle.pool_core.proofs.AboutClaims.StateLemmas.{record_of, pool-rises, one-more-event}
 
 -- ---- the dead

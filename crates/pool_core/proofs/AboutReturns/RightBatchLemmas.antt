@@ -1,50 +1,41 @@
 -- What is right of a batch serves its return: one nameless, canonical and small result for each list of lines, whose parents are there, and justifiers
 -- that are registered.
-use Rattle.std.proofs.Common.{◌≡◌, ℕ, zero, suc, ◌+◌, ◌-◌, ◌<◌, ◌≤◌, Bool, true, false, not, ◌==◌, List, [], ◌∷◌, ◌++◌, map, length, take, get_or, refl, ap, ap₂, sym, ◌∙◌, subst, ⊎_elim, arith}
-use Rattle.std.specs.Prelude.{Option, None, Some, cond, nat_lt, filter, flat_map, option_map, option_and_then, is_some, slice_get, if◌then◌else◌, All}
-use Rattle.std.specs.List.{list_all, AllByRecursion, cons_option}
-use Rattle.std.proofs.lemmas.Bool.{and_parts, and_from, true≢false, ltb-true}
+use Rattle.std.proofs.Common.{◌≡◌, ℕ, zero, suc, ◌+◌, ◌-◌, ◌<◌, ◌≤◌, Bool, true, false, List, [], ◌∷◌, ◌++◌, map, length, take, get_or, refl, ap, ap₂, sym, ◌∙◌, subst, ⊎_elim, arith}
+use Rattle.std.specs.Prelude.{Option, None, Some, nat_lt, option_and_then, slice_get, if◌then◌else◌, All}
+use Rattle.std.proofs.lemmas.Bool.{ltb-true}
 use Rattle.std.proofs.lemmas.List.{length-take}
 use Rattle.std.proofs.lemmas.Option.{none-some, same_Some, slice_get_within, get_or_from_slice_get}
 use Rattle.fol_base.specs.Clause.{TreeClause, clause_size}
 use Rattle.fol_base.specs.declared.limits.TheConstants.{MOST_SYMBOLS}
 use Rattle.fol_base.specs.Literal.{clause_of}
 use Rattle.fol_base.specs.Canonical.{IsCanonical}
-use Rattle.fol_base.specs.Subsumption.{is_among}
-use Rattle.fol_base.specs.Rules.{superposed, resolved, factored, merged}
 use Rattle.fol_base.specs.declared.clause.Clause.{Clause}
-use Rattle.kernel_steps.specs.Conclusion.{verdict, concludes}
-use Rattle.kernel_steps.specs.Derivation.{continued, line_parents, line_parent}
-use Rattle.kernel_steps.specs.Lines.{AreLines, IsNumbered, clause_parents, step_parents, is_on_literals, clauses_named}
-use Rattle.kernel_steps.specs.Moves.{Move, AreMoves, IsMove, end_of_moves, units_of}
+use Rattle.kernel_steps.specs.Derivation.{line_parents, line_parent}
+use Rattle.kernel_steps.specs.Lines.{AreLines, IsNumbered, clause_parents}
+use Rattle.kernel_steps.specs.Moves.{Move, AreMoves, IsMove, end_of_moves}
 use Rattle.kernel_steps.specs.Names.{sorted_names}
-use Rattle.kernel_steps.specs.Parents.{Parent, Parents}
+use Rattle.kernel_steps.specs.Parents.{Parent}
 use Rattle.kernel_steps.specs.Sized.{IsSizedInference}
 use Rattle.kernel_steps.specs.declared.key.Key.{Key}
 use Rattle.kernel_steps.specs.declared.key.Key.TheVariants as key
 use Rattle.kernel_steps.specs.declared.step.TheConstants.{CLAUSE_NUMBERS}
-use Rattle.kernel_steps.specs.declared.step.Step.{Step}
-use Rattle.kernel_steps.specs.declared.step.Step.TheVariants.{Input, Negate, Clausify, Para, Refl, Factor, Merge, Component, Opposite, Split, Chain}
 use Rattle.kernel_steps.specs.declared.step.Line.{Line}
-use Rattle.kernel_steps.proofs.AboutCalls.VerdictParts.{by_one-parts, by_two-parts}
 use Rattle.literal_selection.specs.Mode.{mode_of}
-use Rattle.calculus.specs.Lifting.{among}
-use Rattle.pool_core.specs.Record.{GivenJob}
-use Rattle.pool_core.specs.Lines.{result_of}
-use Rattle.pool_core.specs.Reduction.{Lookup, AreLinesFrom, clauses_used, handed_back, IsRedundant, subsumers, same_numbers}
-use Rattle.pool_core.specs.Batches.{is_told, is_told_beside, IsRightFate, IsRightRemovalBy, IsRightWork}
+use Rattle.laws_calculus.specs.Lifting.{among}
+use Rattle.pool_history.specs.Record.{GivenJob}
+use Rattle.pool_history.specs.Lines.{result_of}
+use Rattle.pool_history.specs.Reduction.{Lookup, AreLinesFrom, handed_back}
+use Rattle.pool_history.specs.Batches.{is_told, is_told_beside, IsRightFate, IsRightRemovalBy, IsRightWork}
 use Rattle.pool_core.specs.Placing.{HasParentsBelow, IsFitResult, IsFit, IsFitWork}
-use Rattle.pool_core.specs.declared.options.Options.{Options}
-use Rattle.pool_core.specs.declared.batch.Fate.{Fate}
-use Rattle.pool_core.specs.declared.batch.Fate.TheVariants.{Kept, Dropped, Heavy}
-use Rattle.pool_core.specs.declared.batch.Redundancy.{Redundancy}
-use Rattle.pool_core.specs.declared.batch.Redundancy.TheVariants.{Tautology, Subsumed}
-use Rattle.pool_core.specs.declared.batch.Removal.{Removal}
-use Rattle.pool_core.specs.declared.batch.Work.{Work}
-use Rattle.pool_core.specs.declared.batch.Work.TheVariants.{Gone, Met}
-use Rattle.pool_core.proofs.AboutClaims.StateLemmas.{item-at}
-use Rattle.pool_core.proofs.AboutCounting.DeathLemmas.{among-pass}
-use Rattle.pool_core.proofs.AboutLines.SizeLemmas.{moves-size, conclusion-small}
+use Rattle.pool_history.specs.declared.options.Options.{Options}
+use Rattle.pool_history.specs.declared.batch.Fate.{Fate}
+use Rattle.pool_history.specs.declared.batch.Fate.TheVariants.{Kept, Dropped, Heavy}
+use Rattle.pool_history.specs.declared.batch.Removal.{Removal}
+use Rattle.pool_history.specs.declared.batch.Work.{Work}
+use Rattle.pool_history.specs.declared.batch.Work.TheVariants.{Gone, Met}
+use Rattle.pool_history.proofs.AboutRecords.ItemLemmas.{item-at}
+use Rattle.pool_history.proofs.AboutCounting.KnownLemmas.{parents-all, among-there}
+use Rattle.pool_history.proofs.AboutLines.SizeLemmas.{moves-size, conclusion-small}
 
 -- ---- lists
 
@@ -52,11 +43,6 @@ all-from : {X : Type 0} (P : X → Type 0) (xs : List X) → ((n : ℕ) (x : X) 
 all-from P xs each k d below =
     let item = item-at xs k below in
     subst P (sym (get_or_from_slice_get xs k item.0 d item.1)) (each k item.0 item.1)
-
-true-at : {X : Type 0} (p : X → Bool) (xs : List X) (n : ℕ) (x : X) → list_all p xs ≡ true → slice_get xs n ≡ Some x → p x ≡ true
-true-at p [] n x all there = absurd (none-some x there)
-true-at p (y ∷ ys) zero x all there = ap p (sym (same_Some y x there)) ∙ (and_parts (p y) (list_all p ys) all).0
-true-at p (y ∷ ys) (suc n) x all there = true-at p ys n x (and_parts (p y) (list_all p ys) all).1 there
 
 -- the line to which lines lead
 pub result-at : (lines : List Line) (c : TreeClause) → result_of lines ≡ Some c → (n : ℕ) × (l : Line) × (slice_get lines n ≡ Some l) × (clause_of l.clause ≡ c)
@@ -66,39 +52,11 @@ result-at (l ∷ m ∷ ls) c led = let rest = result-at (m ∷ ls) c led in (suc
 
 -- ---- parents of lines
 
--- all parents of a step that concludes are there
-step-parents-all :
-    (P : ℕ → Type 0) (parents : Parents) (step : Step) (c : TreeClause)
-    → ((n : ℕ) (p : Parent) → parents n ≡ Some p → P n) → is_on_literals step ≡ true → verdict step parents ≡ concludes c → AllByRecursion P (step_parents step)
-step-parents-all P parents (Para first second from from_side into into_side place first_bind second_bind) c each kind gives =
-    let parts = by_two-parts (parents first) first_bind (parents second) second_bind (λ ls ks. superposed ls from from_side ks into into_side place) c gives in
-    (each first parts.source parts.first_there, (each second parts.target parts.second_there, tt))
-step-parents-all P parents (Refl parent literal bind) c each kind gives =
-    let parts = by_one-parts (parents parent) bind (λ ls. resolved ls literal) c gives in (each parent parts.source parts.there, tt)
-step-parents-all P parents (Factor parent becomes becomes_side other other_side bind) c each kind gives =
-    let parts = by_one-parts (parents parent) bind (λ ls. factored ls becomes becomes_side other other_side) c gives in (each parent parts.source parts.there, tt)
-step-parents-all P parents (Merge parent stays goes bind) c each kind gives =
-    let parts = by_one-parts (parents parent) bind (λ ls. merged ls stays goes) c gives in (each parent parts.source parts.there, tt)
-step-parents-all P parents (Input place) c each kind gives = tt
-step-parents-all P parents (Negate place) c each kind gives = tt
-step-parents-all P parents (Clausify number) c each kind gives = tt
-step-parents-all P parents (Component name) c each kind gives = tt
-step-parents-all P parents (Opposite name) c each kind gives = tt
-step-parents-all P parents (Split parent definitions parts) c each kind gives = absurd (true≢false (sym kind))
-step-parents-all P parents (Chain numbers pivots) c each kind gives = absurd (true≢false (sym kind))
-
 module _ (is_predicate : ℕ → Bool) (clauses : Lookup) (lines : List Line) (right : AreLines is_predicate CLAUSE_NUMBERS (clause_parents clauses) lines) where
-  parents-all :
-      (P : ℕ → Type 0) → ((k n : ℕ) (p : Parent) → continued CLAUSE_NUMBERS (clause_parents clauses) (take k lines) n ≡ Some p → P n)
-      → (k : ℕ) (l : Line) → slice_get lines k ≡ Some l → AllByRecursion P (step_parents l.step)
-  parents-all P each k l there =
-      step-parents-all P (continued CLAUSE_NUMBERS (clause_parents clauses) (take k lines)) l.step (clause_of l.clause) (each k)
-      (true-at (λ (l : Line). is_on_literals l.step) lines k l right.kinds there) (right.steps k l there)
-
   -- they are clauses or lines before
   pub parents-below : All (HasParentsBelow (CLAUSE_NUMBERS + length lines)) lines
   parents-below =
-      all-from (HasParentsBelow (CLAUSE_NUMBERS + length lines)) lines (parents-all (λ n. n < CLAUSE_NUMBERS + length lines) (λ k n p there.
+      all-from (HasParentsBelow (CLAUSE_NUMBERS + length lines)) lines (parents-all is_predicate clauses lines right (λ n. n < CLAUSE_NUMBERS + length lines) (λ k n p there.
       by k n p (nat_lt n CLAUSE_NUMBERS) refl there))
     where
       line-there : (ls : List Line) (m : ℕ) (p : Parent) → option_and_then line_parent (slice_get ls m) ≡ Some p → m < length ls
@@ -115,36 +73,6 @@ module _ (is_predicate : ℕ → Bool) (clauses : Lookup) (lines : List Line) (r
           let short = length-take k lines in
           omega (arith, within, short)
 
-  -- those that are clauses are there
-  abbrev is_there : ℕ → Bool
-  is_there n = is_some (clauses n)
-
-  named-there : (ls : List Line) → ((k : ℕ) (l : Line) → slice_get ls k ≡ Some l → AllByRecursion (λ n. nat_lt n CLAUSE_NUMBERS ≡ true → is_there n ≡ true) (step_parents l.step))
-      → list_all is_there (filter (λ n. nat_lt n CLAUSE_NUMBERS) (flat_map (λ (l : Line). step_parents l.step) ls)) ≡ true
-  named-there [] each = refl
-  named-there (l ∷ ls) each =
-      some (step_parents l.step) (flat_map (λ (l : Line). step_parents l.step) ls) (each 0 l refl) (named-there ls (λ k m there. each (suc k) m there))
-    where
-      some :
-          (ns ms : List ℕ) → AllByRecursion (λ n. nat_lt n CLAUSE_NUMBERS ≡ true → is_there n ≡ true) ns
-          → list_all is_there (filter (λ n. nat_lt n CLAUSE_NUMBERS) ms) ≡ true → list_all is_there (filter (λ n. nat_lt n CLAUSE_NUMBERS) (ns ++ ms)) ≡ true
-      some [] ms all rest = rest
-      some (n ∷ ns) ms all rest = one (nat_lt n CLAUSE_NUMBERS) all.0 (some ns ms all.1 rest)
-        where
-          one :
-              (b : Bool) → (b ≡ true → is_there n ≡ true) → list_all is_there (filter (λ n. nat_lt n CLAUSE_NUMBERS) (ns ++ ms)) ≡ true
-              → list_all is_there (cond b (n ∷ filter (λ n. nat_lt n CLAUSE_NUMBERS) (ns ++ ms)) (filter (λ n. nat_lt n CLAUSE_NUMBERS) (ns ++ ms))) ≡ true
-          one true here more = and_from (is_there n) _ (here refl) more
-          one false here more = more
-
-  pub clauses-there : list_all is_there (clauses_named lines) ≡ true
-  clauses-there = named-there lines (parents-all (λ n. nat_lt n CLAUSE_NUMBERS ≡ true → is_there n ≡ true) (λ k n p there low.
-      found (clauses n) p (sym (ap (λ b. if b then clause_parents clauses n else line_parents (take k lines) (n - CLAUSE_NUMBERS)) low) ∙ there)))
-    where
-      found : (o : Option TreeClause) (p : Parent) → option_map (λ (c : TreeClause). let q : Parent = record { clause = c; introduces = false } in q) o ≡ Some p → is_some o ≡ true
-      found None p there = absurd (none-some p there)
-      found (Some c) p there = refl
-
 -- ---- names
 
 move-names : (is_predicate : ℕ → Bool) (clauses : Lookup) (c : TreeClause) (o : Option ℕ) (d : TreeClause) → IsMove is_predicate clauses c o d → d.names ≡ c.names
@@ -156,14 +84,6 @@ moves-names is_predicate clauses c [] moved = refl
 moves-names is_predicate clauses c (m ∷ ms) moved =
     moves-names is_predicate clauses m.gives ms moved.1 ∙ ap (λ (d : TreeClause). d.names) moved.0.canonical
     ∙ move-names is_predicate clauses c m.by moved.0.result moved.0.step
-
--- what is looked up among clauses is one of them
-among-there : (clauses : Lookup) (p : ℕ → Bool) (n : ℕ) (c : TreeClause) → among p clauses n ≡ Some c → clauses n ≡ Some c
-among-there clauses p n c there = by (p n) there
-  where
-    by : (b : Bool) → (if b then clauses n else None) ≡ Some c → clauses n ≡ Some c
-    by true h = h
-    by false h = absurd (none-some c h)
 
 module _ (is_predicate : ℕ → Bool) (options : Options) (clauses : Lookup) (j : GivenJob) (unsplit : options.split ≡ false) (nameless : (n : ℕ) (c : TreeClause) → clauses n ≡ Some c → c.names ≡ []) (sized : (n : ℕ) (c : TreeClause) → clauses n ≡ Some c → clause_size c ≤ MOST_SYMBOLS) where
   inference-names : (key : Key) (c : TreeClause) → IsSizedInference is_predicate (mode_of options.select) (among (is_told j) clauses) key c false → c.names ≡ []
@@ -245,72 +165,3 @@ module _ (is_predicate : ℕ → Bool) (options : Options) (clauses : Lookup) (j
     entries = λ k d below. fit-entry (get_or entries k d).key (get_or entries k d).fate (right.right_entries k d below);
     removals = λ k d below. fit-removal (get_or removals k d).victim (get_or removals k d).justifiers (get_or removals k d).fate (right.right_removals k d below);
   }
-
--- ---- justifiers
-
-module _ (is_predicate : ℕ → Bool) (options : Options) (clauses : Lookup) (j : GivenJob) where
-  abbrev known : ℕ → Bool
-  known n = is_some (clauses n)
-
-  known-from : (p : ℕ → Bool) (n : ℕ) (c : TreeClause) → among p clauses n ≡ Some c → known n ≡ true
-  known-from p n c there = ap is_some (among-there clauses p n c there)
-
-  units-known : (p : ℕ → Bool) (c : TreeClause) (ms : List Move) → AreMoves is_predicate (among p clauses) c ms → list_all known (units_of ms) ≡ true
-  units-known p c [] moved = refl
-  units-known p c (m ∷ ms) moved = by m.by moved.0.result moved.0.step (units-known p m.gives ms moved.1)
-    where
-      by :
-          (o : Option ℕ) (d : TreeClause) → IsMove is_predicate (among p clauses) c o d → list_all known (units_of ms) ≡ true
-          → list_all known (cons_option o (units_of ms)) ≡ true
-      by None d move rest = rest
-      by (Some n) d move rest = and_from (known n) (list_all known (units_of ms)) (known-from p n move.clause move.there) rest
-
-  filtered : (p q : ℕ → Bool) (ns : List ℕ) → list_all q ns ≡ true → list_all q (filter p ns) ≡ true
-  filtered p q [] all = refl
-  filtered p q (n ∷ ns) all = by (p n) (and_parts (q n) (list_all q ns) all) (filtered p q ns (and_parts (q n) (list_all q ns) all).1)
-    where
-      by : (b : Bool) → ((q n ≡ true) × (list_all q ns ≡ true)) → list_all q (filter p ns) ≡ true → list_all q (cond b (n ∷ filter p ns) (filter p ns)) ≡ true
-      by true parts rest = and_from (q n) (list_all q (filter p ns)) parts.0 rest
-      by false parts rest = rest
-
-  told-known : (ns : List ℕ) → list_all (λ n. is_some (among (is_told j) clauses n)) ns ≡ true → list_all known ns ≡ true
-  told-known [] all = refl
-  told-known (n ∷ ns) all =
-      let parts = and_parts (is_some (among (is_told j) clauses n)) (list_all (λ n. is_some (among (is_told j) clauses n)) ns) all in
-      and_from (known n) (list_all known ns) (by (is_told j n) parts.0) (told-known ns parts.1)
-    where
-      by : (b : Bool) → is_some (if b then clauses n else None) ≡ true → is_some (clauses n) ≡ true
-      by true h = h
-      by false h = absurd (true≢false (sym h))
-
-  subsumers-known : (p : ℕ → Bool) (c : TreeClause) (redundancy : Redundancy) → IsRedundant is_predicate (among p clauses) c redundancy → list_all known (subsumers redundancy) ≡ true
-  subsumers-known p c Tautology redundant = refl
-  subsumers-known p c (Subsumed n) redundant = and_from (known n) true (known-from p n redundant.clause redundant.there) refl
-
-  append-known : (ns ms : List ℕ) → list_all known ns ≡ true → list_all known ms ≡ true → list_all known (ns ++ ms) ≡ true
-  append-known [] ms one other = other
-  append-known (n ∷ ns) ms one other =
-      let parts = and_parts (known n) (list_all known ns) one in and_from (known n) (list_all known (ns ++ ms)) parts.0 (append-known ns ms parts.1 other)
-
-  same-known : (ns ms : List ℕ) → same_numbers ns ms ≡ true → list_all known ms ≡ true → list_all known ns ≡ true
-  same-known ns ms same all = among-pass known ns ms (and_parts (is_among ns ms) (is_among ms ns) same).0 all
-
-  -- the victim of a removal, and those by which it goes
-  pub victim-known : (victim : ℕ) (justifiers : List ℕ) (fate : Fate) → IsRightRemovalBy is_predicate options clauses j victim justifiers fate → known victim ≡ true
-  victim-known victim justifiers (Kept lines results) right = known-from (is_told j) victim right.clause right.there
-  victim-known victim justifiers (Dropped redundancy) right = known-from (is_told j) victim right.clause right.there
-  victim-known victim justifiers Heavy right = absurd right
-
-  pub justifiers-known : (victim : ℕ) (justifiers : List ℕ) (fate : Fate) → IsRightRemovalBy is_predicate options clauses j victim justifiers fate → list_all known justifiers ≡ true
-  justifiers-known victim justifiers (Kept lines results) right =
-      same-known justifiers (units_of (right.move ∷ right.moves) ++ clauses_used victim lines) right.justified
-      (append-known (units_of (right.move ∷ right.moves)) (clauses_used victim lines)
-      (units-known (is_told_beside j victim) right.clause (right.move ∷ right.moves) right.reduced.moved)
-      (filtered (λ n. not (n == victim)) known (clauses_named lines)
-      (told-known (clauses_named lines) (clauses-there is_predicate (among (is_told j) clauses) lines right.are_lines.lines_right))))
-  justifiers-known victim justifiers (Dropped redundancy) right =
-      same-known justifiers (units_of right.moves ++ subsumers redundancy) right.justified
-      (append-known (units_of right.moves) (subsumers redundancy)
-      (units-known (is_told_beside j victim) right.clause right.moves right.moved)
-      (subsumers-known (is_told_beside j victim) (end_of_moves right.clause right.moves) redundancy right.redundant))
-  justifiers-known victim justifiers Heavy right = absurd right

@@ -10,27 +10,27 @@ use Rattle.fol_base.specs.WellFormed.{SymbolUse}
 use Rattle.kernel_steps.specs.Split.{has_number}
 use Rattle.term_bank.specs.declared.table.Table.{Table}
 use Rattle.pool_core.specs.CountedList.{keys_in}
-use Rattle.pool_core.specs.Answers.{IsTicket, dead_justifier}
-use Rattle.pool_core.specs.Batches.{IsRightWork}
-use Rattle.pool_core.specs.Claiming.{ready}
-use Rattle.pool_core.specs.Events.{events_of}
-use Rattle.pool_core.specs.Inputs.{IsUseOf, IsRightBatch}
-use Rattle.pool_core.specs.Lawful.{IsAllowed, IsGivenOut, IsStale}
-use Rattle.pool_core.specs.News.{TreeChange, changes_between, news_since}
+use Rattle.pool_history.specs.Answers.{IsTicket, dead_justifier}
+use Rattle.pool_history.specs.Batches.{IsRightWork}
+use Rattle.pool_history.specs.Claiming.{ready, pair_of}
+use Rattle.pool_core.specs.KeptEvents.{events_of}
+use Rattle.pool_history.specs.Inputs.{IsUseOf, IsRightBatch}
+use Rattle.pool_history.specs.Lawful.{IsAllowed, IsGivenOut, IsStale}
+use Rattle.pool_history.specs.News.{TreeChange, changes_between, news_since}
 use Rattle.pool_core.specs.Noted.{IsNoted, IsTicketAgain, change_at}
-use Rattle.pool_core.specs.Record.{PoolRecord, GivenJob, Death, clauses_of, clause_numbered, numbers_of, lives, is_dead, is_awake, position_of, given_job}
-use Rattle.pool_core.specs.Replay.{Origin, after, retold, replay}
-use Rattle.pool_core.specs.State.{origin_of, IsProofStateOf, IsStateOf, IsPool, pair_of, job_entry}
-use Rattle.pool_core.specs.declared.batch.Batch.{Batch}
-use Rattle.pool_core.specs.declared.batch.Work.{Work}
-use Rattle.pool_core.specs.declared.batch.Work.TheVariants.{Gone, Met}
-use Rattle.pool_core.specs.declared.event.Event.{Event}
-use Rattle.pool_core.specs.declared.event.Event.TheVariants.{Stale}
+use Rattle.pool_history.specs.Record.{PoolRecord, GivenJob, Death, clauses_of, clause_numbered, numbers_of, lives, is_dead, is_awake, position_of, given_job}
+use Rattle.pool_history.specs.Replay.{Origin, after, retold, replay}
+use Rattle.pool_core.specs.State.{origin_of, IsProofStateOf, IsStateOf, IsPool, job_entry}
+use Rattle.pool_history.specs.declared.batch.Batch.{Batch}
+use Rattle.pool_history.specs.declared.batch.Work.{Work}
+use Rattle.pool_history.specs.declared.batch.Work.TheVariants.{Gone, Met}
+use Rattle.pool_history.specs.declared.event.Event.{Event}
+use Rattle.pool_history.specs.declared.event.Event.TheVariants.{Stale}
 use Rattle.pool_core.specs.declared.pool.Pool.TheInside.{Inside}
 use Rattle.pool_core.specs.declared.pool.ProofState.{ProofState}
-use Rattle.pool_core.specs.declared.ticket.Ticket.{Ticket}
-use Rattle.pool_core.proofs.AboutRecords.FrameLemmas.{by-if}
-use Rattle.pool_core.proofs.AboutClaims.HistoryLemmas.{event-count, replay-end, news-end}
+use Rattle.pool_history.specs.declared.ticket.Ticket.{Ticket}
+use Rattle.pool_history.proofs.AboutRecords.FrameLemmas.{by-if}
+use Rattle.pool_history.proofs.AboutClaims.HistoryLemmas.{event-count, replay-end, news-end}
 use Rattle.pool_core.proofs.AboutReturns.ReturnLemmas.{found-one}
 use Rattle.pool_core.proofs.AboutClaims.StateLemmas.{record_of, event-added, given-count}
 

@@ -9,36 +9,37 @@ use Rattle.fol_base.specs.WellFormed.{SymbolUse, WellFormed}
 use Rattle.term_bank.specs.declared.bank.Bank.{Bank}
 use Rattle.term_bank.specs.declared.table.Table.{Table}
 use Rattle.clause_queue.specs.Pairs.{without as without_pair}
-use Rattle.pool_core.specs.Answers.{dead_justifier}
-use Rattle.pool_core.specs.Batches.{IsRightWork}
-use Rattle.pool_core.specs.Claiming.{ready}
-use Rattle.pool_core.specs.Events.{events_of}
-use Rattle.pool_core.specs.Inputs.{IsUseOf}
-use Rattle.pool_core.specs.Lawful.{IsAllowed, IsGivenOut, justifiers_live}
+use Rattle.pool_history.specs.Answers.{dead_justifier}
+use Rattle.pool_history.specs.Batches.{IsRightWork}
+use Rattle.pool_history.specs.Claiming.{ready, pair_of}
+use Rattle.pool_core.specs.KeptEvents.{events_of}
+use Rattle.pool_history.specs.Inputs.{IsUseOf}
+use Rattle.pool_history.specs.Lawful.{IsAllowed, IsGivenOut, justifiers_live}
 use Rattle.pool_core.specs.Placing.{KnowsMore, NotesDeaths, IsFitWork, IsInBank, IsTakeable, IsWorkOf, IsLiving, IsOfGiven, HasRoom, with_queue}
-use Rattle.pool_core.specs.Record.{PoolRecord, Registered, GivenJob, Death, clauses_of, is_dead, lives, given_job}
-use Rattle.pool_core.specs.Replay.{after, with_events}
-use Rattle.pool_core.specs.Returning.{becomes_active, worked, returns_to}
-use Rattle.pool_core.specs.State.{origin_of, IsProofStateOf, IsStateOf, IsPool, pair_of}
-use Rattle.pool_core.specs.declared.batch.Batch.{Batch}
-use Rattle.pool_core.specs.declared.batch.Work.{Work}
-use Rattle.pool_core.specs.declared.batch.Work.TheVariants.{Gone, Met}
-use Rattle.pool_core.specs.declared.event.Event.TheVariants.{Return}
+use Rattle.pool_history.specs.Record.{PoolRecord, Registered, GivenJob, Death, clauses_of, is_dead, lives, given_job}
+use Rattle.pool_history.specs.Replay.{after, with_events}
+use Rattle.pool_history.specs.Returning.{becomes_active, worked, returns_to}
+use Rattle.pool_core.specs.State.{origin_of, IsProofStateOf, IsStateOf, IsPool}
+use Rattle.pool_history.specs.declared.batch.Batch.{Batch}
+use Rattle.pool_history.specs.declared.batch.Work.{Work}
+use Rattle.pool_history.specs.declared.batch.Work.TheVariants.{Gone, Met}
+use Rattle.pool_history.specs.declared.event.Event.TheVariants.{Return}
 use Rattle.pool_core.specs.declared.interning.Prepared.{Prepared}
-use Rattle.pool_core.specs.declared.options.Options.{Options}
-use Rattle.pool_core.specs.declared.outcome.Outcome.{Outcome}
+use Rattle.pool_history.specs.declared.options.Options.{Options}
+use Rattle.pool_history.specs.declared.outcome.Outcome.{Outcome}
 use Rattle.pool_core.specs.declared.pool.Note.{Note}
 use Rattle.pool_core.specs.declared.pool.Note.TheVariants.{Died}
 use Rattle.pool_core.specs.declared.pool.Pool.TheInside.{Inside}
 use Rattle.pool_core.specs.declared.pool.ProofState.{ProofState}
 use Rattle.pool_core.proofs.AboutClaims.GiveUpLemmas.{length-without, ready-given_up}
 use Rattle.pool_core.proofs.AboutReturns.ProofStateLemmas.{lives-here}
-use Rattle.pool_core.proofs.AboutReturns.RightBatchLemmas.{fit-work, justifiers-known}
-use Rattle.pool_core.proofs.AboutBeginnings.BeginningLemmas.{registered_are_whole}
-use Rattle.pool_core.proofs.AboutCounting.DeathLemmas.{below-count}
-use Rattle.pool_core.specs.Wholeness.{IsWhole}
-use Rattle.pool_core.proofs.AboutBeginnings.StartLemmas.{all-at}
-use Rattle.pool_core.proofs.AboutClaims.StateLemmas.{record_of, pool-rises, registered-count, item-at}
+use Rattle.pool_core.proofs.AboutReturns.RightBatchLemmas.{fit-work}
+use Rattle.pool_history.proofs.AboutCounting.KnownLemmas.{justifiers-known}
+use Rattle.pool_history.proofs.AboutLines.BeginningLemmas.{registered_are_whole}
+use Rattle.pool_history.proofs.AboutCounting.DeathLemmas.{below-count}
+use Rattle.pool_history.specs.Wholeness.{IsWhole}
+use Rattle.pool_history.proofs.AboutRecords.ItemLemmas.{all-at, item-at}
+use Rattle.pool_core.proofs.AboutClaims.StateLemmas.{record_of, pool-rises, registered-count}
 use Rattle.pool_core.proofs.AboutReturns.TakenLemmas.{without, without-state}
 
 -- ---- a batch that is to be taken

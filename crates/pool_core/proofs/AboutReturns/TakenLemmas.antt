@@ -16,27 +16,27 @@ use Rattle.kernel_steps.specs.declared.step.Line.{Line}
 use Rattle.term_bank.specs.declared.bank.Bank.{Bank}
 use Rattle.term_bank.specs.declared.table.Table.{Table}
 use Rattle.pool_core.specs.CountedList.{keys_in}
-use Rattle.pool_core.specs.Claiming.{ready}
-use Rattle.pool_core.specs.Counting.{result_comes, refutes, spends, counts, keys_of, lines_of_entries}
-use Rattle.pool_core.specs.Events.{events_of}
-use Rattle.pool_core.specs.Inputs.{IsUseOf}
-use Rattle.pool_core.specs.Lawful.{IsAllowed}
-use Rattle.pool_core.specs.News.{TreeChange, changes_between}
+use Rattle.pool_history.specs.Claiming.{ready, pair_of}
+use Rattle.pool_history.specs.Counting.{result_comes, refutes, spends, counts, keys_of, lines_of_entries}
+use Rattle.pool_core.specs.KeptEvents.{events_of}
+use Rattle.pool_history.specs.Inputs.{IsUseOf}
+use Rattle.pool_history.specs.Lawful.{IsAllowed}
+use Rattle.pool_history.specs.News.{TreeChange, changes_between}
 use Rattle.pool_core.specs.Noted.{IsNoted, change_at}
 use Rattle.pool_core.specs.Placing.{KnowsMore, NotesDeaths, entries_of, with_queue}
-use Rattle.pool_core.specs.Record.{PoolRecord, Registered, GivenJob, Death, clause_numbered, given_job, without_job}
-use Rattle.pool_core.specs.Replay.{after, with_events}
-use Rattle.pool_core.specs.Returning.{dies, replaced, removed, takes_effect, proposed, becomes_active, heavy_entries, sets_aside, worked}
+use Rattle.pool_history.specs.Record.{PoolRecord, Registered, GivenJob, Death, clause_numbered, given_job, without_job}
+use Rattle.pool_history.specs.Replay.{after, with_events}
+use Rattle.pool_history.specs.Returning.{dies, replaced, removed, takes_effect, proposed, becomes_active, heavy_entries, sets_aside, worked}
 use Rattle.pool_core.specs.Started.{registered_at, IsOfTable}
-use Rattle.pool_core.specs.State.{origin_of, IsProofStateOf, IsStateOf, IsPool, pair_of, job_entry}
-use Rattle.pool_core.specs.declared.batch.Batch.{Batch}
-use Rattle.pool_core.specs.declared.batch.Fate.{Fate}
-use Rattle.pool_core.specs.declared.batch.Fate.TheVariants.{Kept, Dropped, Heavy}
-use Rattle.pool_core.specs.declared.batch.Removal.{Removal}
-use Rattle.pool_core.specs.declared.batch.Work.{Work}
-use Rattle.pool_core.specs.declared.batch.Work.TheVariants.{Gone, Met}
-use Rattle.pool_core.specs.declared.event.Event.TheVariants.{Return}
-use Rattle.pool_core.specs.declared.options.Options.{Options}
+use Rattle.pool_core.specs.State.{origin_of, IsProofStateOf, IsStateOf, IsPool, job_entry}
+use Rattle.pool_history.specs.declared.batch.Batch.{Batch}
+use Rattle.pool_history.specs.declared.batch.Fate.{Fate}
+use Rattle.pool_history.specs.declared.batch.Fate.TheVariants.{Kept, Dropped, Heavy}
+use Rattle.pool_history.specs.declared.batch.Removal.{Removal}
+use Rattle.pool_history.specs.declared.batch.Work.{Work}
+use Rattle.pool_history.specs.declared.batch.Work.TheVariants.{Gone, Met}
+use Rattle.pool_history.specs.declared.event.Event.TheVariants.{Return}
+use Rattle.pool_history.specs.declared.options.Options.{Options}
 use Rattle.pool_core.specs.declared.pool.Note.{Note}
 use Rattle.pool_core.specs.declared.pool.Note.TheVariants.{Activated, Died}
 use Rattle.pool_core.specs.declared.pool.OutJob.{OutJob}
@@ -44,14 +44,13 @@ use Rattle.pool_core.specs.declared.pool.Pool.TheInside.{Inside}
 use Rattle.pool_core.specs.declared.pool.ProofState.{ProofState}
 use Rattle.pool_core.specs.declared.register.Registration.{Registration}
 use Rattle.pool_core.proofs.AboutReturns.ArrivalLemmas.{recounted}
-use Rattle.pool_core.proofs.AboutClaims.ClaimedRecords.{rising-by}
-use Rattle.pool_core.proofs.AboutCounting.CountedRecords.{lookup-more}
-use Rattle.pool_core.proofs.AboutRecords.EditLemmas.{remove-filter}
-use Rattle.pool_core.proofs.AboutRecords.FrameLemmas.{Registers, by-if, result-registers, results-register}
+use Rattle.pool_history.proofs.AboutCounting.CountedRecords.{lookup-more}
+use Rattle.pool_history.proofs.AboutRecords.EditLemmas.{remove-filter}
+use Rattle.pool_history.proofs.AboutRecords.FrameLemmas.{Registers, by-if, result-registers, results-register}
 use Rattle.pool_core.proofs.AboutClaims.GiveUpLemmas.{length-without, told-without}
-use Rattle.pool_core.proofs.AboutRecords.GrowthLemmas.{removed-grows, met-grows}
-use Rattle.pool_core.proofs.AboutBeginnings.StartLemmas.{all-at}
-use Rattle.pool_core.proofs.AboutClaims.StateLemmas.{clause-in, record_of, pool-rises, event-added, item-at, learned-all}
+use Rattle.pool_history.proofs.AboutRecords.GrowthLemmas.{removed-grows, met-grows}
+use Rattle.pool_history.proofs.AboutRecords.ItemLemmas.{all-at, item-at}
+use Rattle.pool_core.proofs.AboutClaims.StateLemmas.{rising-by, clause-in, record_of, pool-rises, event-added, learned-all}
 
 -- ---- what the work of a batch leaves
 

@@ -2,8 +2,8 @@ use Rattle.std.proofs.Common.{List, None, sym, subst}
 use Rattle.std.specs.Prelude.{IfOk}
 use Rattle.fol_base.specs.Literal.{clause_of}
 use Rattle.bank_clause.specs.declared.member.Member.{Member}
-use Rattle.simplification.specs.Simplified.{IsSimplified}
-use Rattle.simplification.specs.declared.simplifying.Simplified.{Simplified}
+use Rattle.demodulate.specs.Simplified.{IsSimplified}
+use Rattle.demodulate.specs.declared.simplifying.Simplified.{Simplified}
 use Rattle.given_work.specs.Dropped.{AreDropped}
 use Rattle.given_work.proofs.entries.fate_by.Goals as goal
 

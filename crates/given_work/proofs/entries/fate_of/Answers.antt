@@ -1,9 +1,9 @@
 use Rattle.std.proofs.Common.{ℕ, Option, ap, refl, sym, ◌∙◌, subst}
 use Rattle.literal_selection.specs.Mode.{mode_of}
-use Rattle.simplification.specs.Simplified.{IsSimplified}
+use Rattle.demodulate.specs.Simplified.{IsSimplified}
 use Rattle.fol_base.specs.Literal.{clause_of}
 use Rattle.kernel_steps.specs.Names.{are_sorted}
-use Rattle.pool_core.specs.declared.batch.Fate.TheVariants.{Dropped}
+use Rattle.pool_history.specs.declared.batch.Fate.TheVariants.{Dropped}
 use Rattle.given_work.specs.Dropped.{outcome_by}
 use Rattle.given_work.proofs.AboutBatches.DroppedLemmas.{cause-right, dropped-fate}
 use Rattle.given_work.proofs.AboutBatches.EntryLemmas.{conclusion-formed, conclusion-small, outcome-right}

@@ -3,7 +3,7 @@ use Rattle.fol_base.specs.Clause.{TreeClause, clause_size}
 use Rattle.fol_base.specs.Literal.{clause_of}
 use Rattle.fol_base.specs.declared.limits.TheConstants.{MOST_SYMBOLS}
 use Rattle.kernel_steps.specs.Names.{are_sorted}
-use Rattle.reduction.specs.Reduced.{IsReduced}
+use Rattle.reduced_clause.specs.Reduced.{IsReduced}
 use Rattle.bank_clause.specs.Clause.{clause_at}
 use Rattle.given_work.proofs.AboutBatches.GoingLemmas.{reduced-by}
 use Rattle.given_work.proofs.going.reduced_member.Goals as goal

@@ -1,5 +1,5 @@
 use Rattle.std.proofs.Common.{ℕ, Option, Some, sym, ◌∙◌, subst}
-use Rattle.pool_core.specs.declared.batch.Removal.{Removal}
+use Rattle.pool_history.specs.declared.batch.Removal.{Removal}
 use Rattle.given_work.specs.Going.{IsRemovalOf}
 use Rattle.given_work.proofs.AboutBatches.GoingLemmas.{IsFound, goes-dropped, goes-or-stays, goes-redundant}
 use Rattle.given_work.proofs.going.removal_by.Goals as goal

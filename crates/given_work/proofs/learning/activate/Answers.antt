@@ -5,7 +5,7 @@ use Rattle.kernel_steps.specs.declared.step.TheConstants.{CLAUSE_NUMBERS}
 use Rattle.bank_clause.specs.Clause.{IsMemberOf}
 use Rattle.bank_clause.specs.declared.member.Member.{Member}
 use Rattle.rewriting.specs.Units.{IsUnit}
-use Rattle.unit_index.specs.Indexed.{HasOneLiteral}
+use Rattle.unit_cutting.specs.Indexed.{HasOneLiteral}
 use Rattle.given_work.specs.Sets.{AreSetsOf}
 use Rattle.given_work.specs.Store.{members_in}
 use Rattle.given_work.proofs.AboutIndexes.SetLemmas.{members-new, those-new}

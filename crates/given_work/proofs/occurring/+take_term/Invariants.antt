@@ -1,7 +1,7 @@
 use Rattle.std.proofs.Common.{◌+◌, ◌*◌, map}
 use Rattle.fol_base.specs.Tree.{tree_size, trees_size, trees_of}
 use Rattle.fol_base.specs.Term.{tree_of}
-use Rattle.unit_index.specs.Indexed.{KeepsOthers}
+use Rattle.unit_cutting.specs.Indexed.{KeepsOthers}
 use Rattle.given_work.proofs.occurring.+take_term.Given as goal
 
 abbrev pub decreases-take_term : goal.decreases-take_term

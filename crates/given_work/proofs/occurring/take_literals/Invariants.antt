@@ -1,4 +1,4 @@
-use Rattle.unit_index.specs.Indexed.{KeepsOthers}
+use Rattle.unit_cutting.specs.Indexed.{KeepsOthers}
 use Rattle.given_work.proofs.occurring.take_literals.Given as goal
 
 abbrev pub invariant-loop-index : goal.invariant-loop-index

@@ -1,6 +1,6 @@
 use Rattle.std.proofs.Common.{[], List, ℕ, take, get_or, sym, ◌∙◌, subst, arith}
 use Rattle.std.proofs.lemmas.List.{take_all, take_more}
-use Rattle.pool_core.specs.declared.batch.Removal.{Removal}
+use Rattle.pool_history.specs.declared.batch.Removal.{Removal}
 use Rattle.given_work.specs.Removing.{AreRemovalsAmong, AreRemovalsOf}
 use Rattle.given_work.specs.Store.{members_in}
 use Rattle.given_work.proofs.AboutBatches.RemovalLemmas.{none-removed, removal-more, removals-all}

@@ -1,6 +1,6 @@
 use Rattle.std.proofs.Common.{sym, ◌∙◌}
 use Rattle.std.proofs.lemmas.Bool.{true≢false}
-use Rattle.unit_index.specs.Indexed.{HasOneLiteral}
+use Rattle.unit_cutting.specs.Indexed.{HasOneLiteral}
 use Rattle.given_work.proofs.AboutIndexes.SetLemmas.{those-put, those-skip}
 use Rattle.given_work.proofs.sets.put_unit.Goals as goal
 

@@ -2,7 +2,7 @@ use Rattle.std.proofs.Common.{Option, subst}
 use Rattle.std.proofs.lemmas.List.Elements.{All-contains}
 use Rattle.bank_clause.specs.Clause.{IsMemberOf, clause_at}
 use Rattle.bank_clause.specs.declared.member.Member.{Member}
-use Rattle.pool_core.specs.declared.batch.Removal.{Removal}
+use Rattle.pool_history.specs.declared.batch.Removal.{Removal}
 use Rattle.given_work.specs.Going.{IsRemovalOf}
 use Rattle.given_work.specs.Store.{members_in}
 use Rattle.given_work.proofs.AboutIndexes.Slots.{at-living}

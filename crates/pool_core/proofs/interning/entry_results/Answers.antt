@@ -1,9 +1,9 @@
 use Rattle.std.proofs.Common.{List, take, sym, subst}
 use Rattle.std.proofs.lemmas.List.{take_all}
 use Rattle.kernel_steps.specs.declared.step.Line.{Line}
-use Rattle.pool_core.specs.Counting.{lines_of_fate, lines_of_entries}
+use Rattle.pool_history.specs.Counting.{lines_of_fate, lines_of_entries}
 use Rattle.pool_core.specs.Placing.{AreResults}
-use Rattle.pool_core.specs.declared.batch.Entry.{Entry}
+use Rattle.pool_history.specs.declared.batch.Entry.{Entry}
 use Rattle.pool_core.proofs.AboutReturns.InternedLemmas.{no-results, mapped-more}
 use Rattle.pool_core.proofs.interning.entry_results.Goals as goal
 

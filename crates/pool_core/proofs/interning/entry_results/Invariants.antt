@@ -1,6 +1,6 @@
 use Rattle.std.proofs.Common.{take}
 use Rattle.term_bank.specs.Table.{IsTableOf}
-use Rattle.pool_core.specs.Counting.{lines_of_entries}
+use Rattle.pool_history.specs.Counting.{lines_of_entries}
 use Rattle.pool_core.specs.Placing.{AreResults, KnowsMore}
 use Rattle.pool_core.proofs.interning.entry_results.Given as goal
 

@@ -1,6 +1,6 @@
 use Rattle.std.proofs.Common.{◌≡◌, take}
-use Rattle.pool_core.specs.Counting.{keys_of}
-use Rattle.pool_core.specs.Returning.{heavy_entries}
+use Rattle.pool_history.specs.Counting.{keys_of}
+use Rattle.pool_history.specs.Returning.{heavy_entries}
 use Rattle.pool_core.proofs.interning.heavy_keys.Given as goal
 
 abbrev pub invariant-loop-entry : goal.invariant-loop-entry

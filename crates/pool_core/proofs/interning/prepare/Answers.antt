@@ -1,11 +1,11 @@
 use Rattle.std.proofs.Common.{List, [], ap, sym, ◌∙◌, subst}
 use Rattle.kernel_steps.specs.declared.step.Line.{Line}
-use Rattle.pool_core.specs.Counting.{lines_of_fate, lines_of_entries, keys_of}
+use Rattle.pool_history.specs.Counting.{lines_of_fate, lines_of_entries, keys_of}
 use Rattle.pool_core.specs.Placing.{AreResults, IsPrepared, lines_of_removals}
-use Rattle.pool_core.specs.Returning.{heavy_entries}
-use Rattle.pool_core.specs.declared.batch.Entry.{Entry}
-use Rattle.pool_core.specs.declared.batch.Removal.{Removal}
-use Rattle.pool_core.specs.declared.batch.Work.{Work}
+use Rattle.pool_history.specs.Returning.{heavy_entries}
+use Rattle.pool_history.specs.declared.batch.Entry.{Entry}
+use Rattle.pool_history.specs.declared.batch.Removal.{Removal}
+use Rattle.pool_history.specs.declared.batch.Work.{Work}
 use Rattle.pool_core.proofs.AboutReturns.InternedLemmas.{no-results, lone-lines, learned-results}
 use Rattle.pool_core.proofs.interning.prepare.Goals as goal
 

@@ -1,9 +1,9 @@
 use Rattle.std.proofs.Common.{List, take, sym, subst}
 use Rattle.std.proofs.lemmas.List.{take_all}
 use Rattle.kernel_steps.specs.declared.step.Line.{Line}
-use Rattle.pool_core.specs.Counting.{lines_of_fate}
+use Rattle.pool_history.specs.Counting.{lines_of_fate}
 use Rattle.pool_core.specs.Placing.{AreResults, lines_of_removals}
-use Rattle.pool_core.specs.declared.batch.Removal.{Removal}
+use Rattle.pool_history.specs.declared.batch.Removal.{Removal}
 use Rattle.pool_core.proofs.AboutReturns.InternedLemmas.{no-results, mapped-more}
 use Rattle.pool_core.proofs.interning.removal_results.Goals as goal
 

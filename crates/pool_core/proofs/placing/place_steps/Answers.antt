@@ -7,11 +7,11 @@ use Rattle.kernel_steps.specs.Lines.{step_parents}
 use Rattle.kernel_steps.specs.declared.step.Step.{Step}
 use Rattle.kernel_steps.specs.declared.step.Line.{Line}
 use Rattle.kernel_steps.specs.declared.step.TheConstants.{CLAUSE_NUMBERS}
-use Rattle.pool_core.specs.Lines.{line_number, with_parents}
+use Rattle.pool_history.specs.Lines.{line_number, with_parents}
 use Rattle.pool_core.specs.Placing.{HasParentsBelow}
 use Rattle.pool_core.specs.Started.{registered_at}
-use Rattle.pool_core.proofs.AboutRecords.EditLemmas.{get-middle}
-use Rattle.pool_core.proofs.AboutBeginnings.StartLemmas.{all-at}
+use Rattle.pool_history.proofs.AboutRecords.EditLemmas.{get-middle}
+use Rattle.pool_history.proofs.AboutRecords.ItemLemmas.{all-at}
 use Rattle.pool_core.proofs.placing.place_steps.Goals as goal
 
 nothing-left : (ls : List Line) → length ls ≡ 0 → ls ≡ []

@@ -1,7 +1,7 @@
 use Rattle.std.proofs.Common.{◌≡◌, ◌+◌, ◌++◌, map, length, vec_len, vec_capacity}
 use Rattle.std.specs.Vec.Iter.{into_iter_items}
 use Rattle.kernel_steps.specs.declared.step.Line.{Line}
-use Rattle.pool_core.specs.Lines.{line_number, with_parents}
+use Rattle.pool_history.specs.Lines.{line_number, with_parents}
 use Rattle.pool_core.specs.Started.{registered_at}
 use Rattle.pool_core.proofs.placing.place_steps.Given as goal
 

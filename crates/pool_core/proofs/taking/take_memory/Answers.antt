@@ -1,6 +1,7 @@
 use Rattle.std.proofs.Common.{◌++◌, subst, arith}
-use Rattle.pool_core.specs.Counting.{lines_of_entries}
-use Rattle.pool_core.specs.Placing.{HasRoom, entries_of, removals_of, lines_of_removals}
+use Rattle.pool_history.specs.Counting.{lines_of_entries}
+use Rattle.pool_core.specs.Placing.{HasRoom, entries_of, lines_of_removals}
+use Rattle.pool_history.specs.Returning.{removals_of}
 use Rattle.pool_core.proofs.AboutReturns.InternedLemmas.{results-count}
 use Rattle.pool_core.proofs.taking.take_memory.Goals as goal
 

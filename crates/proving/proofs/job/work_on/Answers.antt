@@ -1,5 +1,5 @@
 use Rattle.std.proofs.Common.{subst}
-use Rattle.pool_core.specs.declared.options.Options.{Options}
+use Rattle.pool_history.specs.declared.options.Options.{Options}
 use Rattle.given_work.proofs.AboutWhole.LawProofs.{told_for_jobs_are_told, work_makes_right_batches}
 use Rattle.given_work.specs.Working.{IsRightUnder}
 use Rattle.given_work.proofs.AboutLearning.TicketLemmas.{given-known, news-are-new}

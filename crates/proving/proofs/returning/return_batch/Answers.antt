@@ -1,6 +1,6 @@
 use Rattle.std.proofs.Common.{subst}
-use Rattle.pool_core.specs.Answers.{IsAnswerToReturn}
-use Rattle.pool_core.specs.declared.ticket.Back.{Back}
+use Rattle.pool_history.specs.Answers.{IsAnswerToReturn}
+use Rattle.pool_history.specs.declared.ticket.Back.{Back}
 use Rattle.proving.proofs.ReturnLemmas.{free-taken, free-void}
 use Rattle.proving.proofs.returning.return_batch.Goals as goal
 

@@ -1,6 +1,6 @@
 use Rattle.std.proofs.Common.{ℕ, subst}
 use Rattle.std.specs.Prelude.{Option, MatchOption}
-use Rattle.pool_core.specs.declared.ticket.Ticket.{Ticket}
+use Rattle.pool_history.specs.declared.ticket.Ticket.{Ticket}
 use Rattle.proving.specs.Progress.{HasOut, IsGiven}
 use Rattle.proving.proofs.ReturnLemmas.{later-index, later-then, no-answer}
 use Rattle.proving.proofs.rounds.finish.Goals as goal

@@ -1,5 +1,5 @@
 use Rattle.rewriting.specs.Units.{IsUnit}
-use Rattle.unit_index.specs.Indexed.{HasOneLiteral}
+use Rattle.unit_cutting.specs.Indexed.{HasOneLiteral}
 use Rattle.given_work.proofs.AboutIndexes.SetLemmas.{those-take}
 use Rattle.given_work.proofs.sets.Sets.remove.Goals as goal
 

@@ -1,9 +1,9 @@
 use Rattle.std.proofs.Common.{List, ◌++◌, get_or, ap, sym, ◌∙◌, subst, arith}
 use Rattle.std.specs.Prelude.{option_to_list}
 use Rattle.fol_base.specs.declared.clause.Clause.{Clause}
-use Rattle.pool_core.specs.Counting.{lines_of_fate}
+use Rattle.pool_history.specs.Counting.{lines_of_fate}
 use Rattle.pool_core.specs.Placing.{AreResults, IsFit, IsFitResult}
-use Rattle.pool_core.specs.declared.batch.Fate.{Fate}
+use Rattle.pool_history.specs.declared.batch.Fate.{Fate}
 use Rattle.pool_core.specs.declared.interning.Interned.{Interned}
 use Rattle.pool_core.specs.declared.interning.Results.{Results}
 use Rattle.pool_core.proofs.AboutReturns.InternedLemmas.{one-more-result}

@@ -1,8 +1,8 @@
 use Rattle.std.proofs.Common.{◌≡◌, ◌++◌, [], ◌∷◌, ℕ, length, refl, ap, sym, ◌∙◌, subst, arith}
 use Rattle.std.proofs.lemmas.Option.{none-some}
-use Rattle.pool_core.specs.Lawful.{IsOut}
-use Rattle.pool_core.specs.Replay.{replay}
-use Rattle.pool_core.specs.View.{PoolView}
+use Rattle.pool_history.specs.Lawful.{IsOut}
+use Rattle.pool_history.specs.Replay.{replay}
+use Rattle.pool_history.specs.View.{PoolView}
 use Rattle.pool_core.proofs.AboutClaims.GiveUpLemmas.{IsOutBy, out-by, number-out, absent-out, given-up-living, given-up-dead}
 use Rattle.pool_core.proofs.AboutBeginnings.LivingLemmas.{not-some}
 use Rattle.pool_core.proofs.AboutClaims.StateLemmas.{at-ok}

@@ -1,8 +1,8 @@
 use Rattle.std.proofs.Common.{◌≡◌, ℕ, refl, ap, sym, ◌∙◌, arith}
 use Rattle.std.specs.Prelude.{Option, None, is_some}
-use Rattle.pool_core.specs.Outcomes.{outcome_of}
-use Rattle.pool_core.specs.Record.{PoolRecord}
-use Rattle.pool_core.specs.Replay.{replay}
+use Rattle.pool_history.specs.Outcomes.{outcome_of}
+use Rattle.pool_history.specs.Record.{PoolRecord}
+use Rattle.pool_history.specs.Replay.{replay}
 use Rattle.pool_core.proofs.AboutClaims.ClaimLemmas.{open-without, some-out, no-value}
 use Rattle.pool_core.proofs.pool.Pool.claim.Goals as goal
 

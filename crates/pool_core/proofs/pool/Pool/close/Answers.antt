@@ -1,13 +1,13 @@
 use Rattle.std.proofs.Common.{◌≡◌, ◌++◌, [], ◌∷◌, ℕ, map, length, append-nil, refl, ap, sym, ◌∙◌, subst, arith}
 use Rattle.std.specs.Prelude.{is_some}
 use Rattle.std.proofs.lemmas.Option.{slice_get_within}
-use Rattle.pool_core.specs.Claiming.{ready}
+use Rattle.pool_history.specs.Claiming.{ready, pair_of}
 use Rattle.pool_core.specs.Placing.{IsTakeable}
-use Rattle.pool_core.specs.Record.{PoolRecord}
-use Rattle.pool_core.specs.Replay.{replay}
-use Rattle.pool_core.specs.Returning.{becomes_active}
-use Rattle.pool_core.specs.State.{IsProofStateOf, pair_of}
-use Rattle.pool_core.specs.View.{PoolView}
+use Rattle.pool_history.specs.Record.{PoolRecord}
+use Rattle.pool_history.specs.Replay.{replay}
+use Rattle.pool_history.specs.Returning.{becomes_active}
+use Rattle.pool_core.specs.State.{IsProofStateOf}
+use Rattle.pool_history.specs.View.{PoolView}
 use Rattle.pool_core.proofs.AboutClaims.StateLemmas.{record_of}
 use Rattle.pool_core.proofs.AboutReturns.TakenLemmas.{taken-pool, without, without-state, closed-follows}
 use Rattle.pool_core.proofs.AboutReturns.TakeableLemmas.{IsToBeTaken, to-be-taken, after-closed, queue-without, no-more-room, no-deaths}

@@ -1,9 +1,9 @@
 use Rattle.std.proofs.Common.{◌≡◌, ℕ, Bool, ap, sym, ◌∙◌, arith}
 use Rattle.std.specs.Prelude.{Some, find}
-use Rattle.pool_core.specs.Answers.{dead_justifier}
-use Rattle.pool_core.specs.Record.{PoolRecord, is_dead}
-use Rattle.pool_core.specs.Replay.{replay}
-use Rattle.pool_core.specs.View.{PoolView}
+use Rattle.pool_history.specs.Answers.{dead_justifier}
+use Rattle.pool_history.specs.Record.{PoolRecord, is_dead}
+use Rattle.pool_history.specs.Replay.{replay}
+use Rattle.pool_history.specs.View.{PoolView}
 use Rattle.pool_core.proofs.AboutReturns.ReturnLemmas.{dead-at, dead-fits, found-one}
 use Rattle.pool_core.proofs.AboutClaims.StateLemmas.{record_of}
 use Rattle.pool_core.proofs.pool.Pool.dead_justifier.Goals as goal

@@ -1,8 +1,8 @@
 use Rattle.std.proofs.Common.{ap, ◌∙◌}
-use Rattle.pool_core.specs.Answers.{death_of}
+use Rattle.pool_history.specs.Answers.{death_of}
 use Rattle.pool_core.specs.Register.{death_at}
-use Rattle.pool_core.specs.Replay.{replay}
-use Rattle.pool_core.specs.View.{PoolView}
+use Rattle.pool_history.specs.Replay.{replay}
+use Rattle.pool_history.specs.View.{PoolView}
 use Rattle.pool_core.proofs.AboutReturns.ProofStateLemmas.{death-at}
 use Rattle.pool_core.proofs.AboutClaims.StateLemmas.{record_of}
 use Rattle.pool_core.proofs.pool.Pool.death.Goals as goal

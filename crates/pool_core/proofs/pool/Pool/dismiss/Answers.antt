@@ -1,9 +1,9 @@
 use Rattle.std.proofs.Common.{◌≡◌, ◌++◌, [], ◌∷◌, ℕ, length, refl, ap, sym, ◌∙◌, subst, arith}
 use Rattle.std.specs.Prelude.{IsTrue}
-use Rattle.pool_core.specs.Lawful.{IsGivenOut}
-use Rattle.pool_core.specs.Record.{is_dead}
-use Rattle.pool_core.specs.Replay.{replay}
-use Rattle.pool_core.specs.View.{PoolView}
+use Rattle.pool_history.specs.Lawful.{IsGivenOut}
+use Rattle.pool_history.specs.Record.{is_dead}
+use Rattle.pool_history.specs.Replay.{replay}
+use Rattle.pool_history.specs.View.{PoolView}
 use Rattle.pool_core.proofs.AboutReturns.ReturnLemmas.{dismissed-pool, given-some}
 use Rattle.pool_core.proofs.AboutClaims.StateLemmas.{record_of}
 use Rattle.pool_core.proofs.pool.Pool.dismiss.Goals as goal

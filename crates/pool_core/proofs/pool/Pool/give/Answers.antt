@@ -1,19 +1,20 @@
 use Rattle.std.proofs.Common.{◌≡◌, ◌++◌, [], ◌∷◌, ℕ, List, length, refl, ap, sym, ◌∙◌, subst, arith}
 use Rattle.std.specs.Prelude.{Some, None}
-use Rattle.pool_core.specs.Answers.{IsTicket}
-use Rattle.pool_core.specs.Claiming.{next_given}
+use Rattle.pool_history.specs.Answers.{IsTicket}
+use Rattle.pool_history.specs.Claiming.{next_given}
 use Rattle.pool_core.specs.Noted.{IsNextTicket}
-use Rattle.pool_core.specs.Record.{PoolRecord}
-use Rattle.pool_core.specs.Replay.{replay}
+use Rattle.pool_history.specs.Record.{PoolRecord}
+use Rattle.pool_history.specs.Replay.{replay}
 use Rattle.pool_core.specs.State.{origin_of}
-use Rattle.pool_core.specs.Events.{events_of}
-use Rattle.pool_core.specs.View.{PoolView}
-use Rattle.pool_core.specs.declared.event.Event.{Event}
-use Rattle.pool_core.specs.declared.event.Event.TheVariants.{Claim}
+use Rattle.pool_core.specs.KeptEvents.{events_of}
+use Rattle.pool_history.specs.View.{PoolView}
+use Rattle.pool_history.specs.declared.event.Event.{Event}
+use Rattle.pool_history.specs.declared.event.Event.TheVariants.{Claim}
 use Rattle.pool_core.proofs.AboutClaims.ClaimLemmas.{claimed-pool, claimed-ticket, activated-by, given-registered, in-queue, one-spare}
-use Rattle.pool_core.proofs.AboutBounds.JobLemmas.{Rising}
+use Rattle.pool_history.proofs.AboutBounds.JobLemmas.{Rising}
 use Rattle.pool_core.proofs.AboutBeginnings.LivingLemmas.{nothing-to-solve}
-use Rattle.pool_core.proofs.AboutClaims.StateLemmas.{record_of, kept-pool, pool-rises, item-at}
+use Rattle.pool_core.proofs.AboutClaims.StateLemmas.{record_of, kept-pool, pool-rises}
+use Rattle.pool_history.proofs.AboutRecords.ItemLemmas.{item-at}
 use Rattle.pool_core.proofs.pool.Pool.give.Goals as goal
 
 pub invariant_of-self : goal.invariant_of-self

@@ -1,9 +1,9 @@
 use Rattle.std.proofs.Common.{◌≡◌, ◌||◌, true, refl, ap, sym, ◌∙◌, subst}
 use Rattle.std.specs.Prelude.{is_none, is_some}
 use Rattle.std.proofs.lemmas.Bool.{or_right}
-use Rattle.pool_core.specs.Answers.{dead_justifier, death_of}
-use Rattle.pool_core.specs.Record.{PoolRecord, lives}
-use Rattle.pool_core.specs.Replay.{replay}
+use Rattle.pool_history.specs.Answers.{dead_justifier, death_of}
+use Rattle.pool_history.specs.Record.{PoolRecord, lives}
+use Rattle.pool_history.specs.Replay.{replay}
 use Rattle.pool_core.proofs.AboutReturns.ReturnLemmas.{dead-of, living-of, dead-has-event, first-died, of-refused}
 use Rattle.pool_core.proofs.pool.Pool.give_back.Goals as goal
 

@@ -1,8 +1,8 @@
 use Rattle.std.proofs.Common.{◌&&◌, ap, ◌∙◌}
-use Rattle.pool_core.specs.Record.{lives, is_awake}
-use Rattle.pool_core.specs.Replay.{replay}
-use Rattle.pool_core.specs.Events.{events_of}
-use Rattle.pool_core.specs.View.{PoolView}
+use Rattle.pool_history.specs.Record.{lives, is_awake}
+use Rattle.pool_history.specs.Replay.{replay}
+use Rattle.pool_core.specs.KeptEvents.{events_of}
+use Rattle.pool_history.specs.View.{PoolView}
 use Rattle.pool_core.specs.State.{origin_of}
 use Rattle.pool_core.proofs.AboutBeginnings.LivingLemmas.{lives-there, not-some}
 use Rattle.pool_core.proofs.pool.Pool.is_living.Goals as goal

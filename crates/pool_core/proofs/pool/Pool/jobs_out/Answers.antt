@@ -1,5 +1,5 @@
 use Rattle.std.proofs.Common.{arith}
-use Rattle.pool_core.proofs.AboutRecords.FitLemmas.{jobs-fit}
+use Rattle.pool_core.proofs.AboutClaims.FitLemmas.{jobs-fit}
 use Rattle.pool_core.proofs.pool.Pool.jobs_out.Goals as goal
 
 pub overflow_cast-result : goal.overflow_cast-result

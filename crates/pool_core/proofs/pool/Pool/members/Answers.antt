@@ -1,8 +1,8 @@
 use Rattle.std.proofs.Common.{◌≡◌, ◌+◌, ℕ, map, length, refl, ap, sym, ◌∙◌, subst, arith}
-use Rattle.pool_core.specs.Record.{PoolRecord, clause_numbered}
-use Rattle.pool_core.specs.Replay.{replay}
+use Rattle.pool_history.specs.Record.{PoolRecord, clause_numbered}
+use Rattle.pool_history.specs.Replay.{replay}
 use Rattle.pool_core.specs.State.{IsStateOf}
-use Rattle.pool_core.specs.View.{PoolView}
+use Rattle.pool_history.specs.View.{PoolView}
 use Rattle.pool_core.proofs.AboutBeginnings.LivingLemmas.{not-some}
 use Rattle.pool_core.proofs.AboutClaims.MemberLemmas.{AreMembersUpTo, no-members, one-member, no-member, first_members}
 use Rattle.pool_core.proofs.AboutClaims.StateLemmas.{registered-count}

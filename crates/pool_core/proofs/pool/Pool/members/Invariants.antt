@@ -1,4 +1,4 @@
-use Rattle.pool_core.specs.Replay.{replay}
+use Rattle.pool_history.specs.Replay.{replay}
 use Rattle.pool_core.proofs.AboutClaims.MemberLemmas.{AreMembersUpTo}
 use Rattle.pool_core.proofs.pool.Pool.members.Given as goal
 

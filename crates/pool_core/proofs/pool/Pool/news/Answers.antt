@@ -3,14 +3,14 @@ use Rattle.std.specs.Prelude.{All}
 use Rattle.std.proofs.lemmas.List.{map-append, take_more}
 use Rattle.std.proofs.lemmas.List.Elements.{All-nil, All-push}
 use Rattle.std.proofs.lemmas.Option.{slice_get_read}
-use Rattle.pool_core.specs.Answers.{IsChangeOf}
-use Rattle.pool_core.specs.News.{TreeChange, change_of, changes_from, news_since}
+use Rattle.pool_history.specs.Answers.{IsChangeOf}
+use Rattle.pool_history.specs.News.{TreeChange, change_of, changes_from, news_since}
 use Rattle.pool_core.specs.Noted.{AreOfBank, IsNoted, change_at}
-use Rattle.pool_core.specs.Replay.{start}
-use Rattle.pool_core.specs.View.{PoolView}
+use Rattle.pool_history.specs.Replay.{start}
+use Rattle.pool_history.specs.View.{PoolView}
 use Rattle.pool_core.specs.declared.pool.Note.{Note}
-use Rattle.pool_core.specs.declared.ticket.Change.{Change}
-use Rattle.pool_core.proofs.AboutBeginnings.StartLemmas.{all-at}
+use Rattle.pool_history.specs.declared.ticket.Change.{Change}
+use Rattle.pool_history.proofs.AboutRecords.ItemLemmas.{all-at}
 use Rattle.pool_core.proofs.AboutClaims.StateLemmas.{news-told, all-of-bank, record_of}
 use Rattle.pool_core.proofs.pool.Pool.news.Goals as goal
 

@@ -1,7 +1,7 @@
 use Rattle.std.proofs.Common.{◌≡◌, ◌++◌, map, take}
 use Rattle.std.specs.Prelude.{All}
-use Rattle.pool_core.specs.Answers.{IsChangeOf}
-use Rattle.pool_core.specs.News.{change_of}
+use Rattle.pool_history.specs.Answers.{IsChangeOf}
+use Rattle.pool_history.specs.News.{change_of}
 use Rattle.pool_core.specs.Noted.{change_at}
 use Rattle.pool_core.proofs.pool.Pool.news.Given as goal
 

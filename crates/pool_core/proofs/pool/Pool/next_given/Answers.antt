@@ -1,13 +1,13 @@
 use Rattle.std.proofs.Common.{◌≡◌, ap, sym, ◌∙◌}
-use Rattle.pool_core.specs.Claiming.{next_given, next_choice}
-use Rattle.pool_core.specs.Events.{events_of}
-use Rattle.pool_core.specs.Record.{PoolRecord}
-use Rattle.pool_core.specs.Replay.{replay}
-use Rattle.pool_core.specs.Solving.{must_solve}
-use Rattle.pool_core.specs.View.{PoolView}
+use Rattle.pool_history.specs.Claiming.{next_given, next_choice}
+use Rattle.pool_core.specs.KeptEvents.{events_of}
+use Rattle.pool_history.specs.Record.{PoolRecord}
+use Rattle.pool_history.specs.Replay.{replay}
+use Rattle.pool_history.specs.Solving.{must_solve}
+use Rattle.pool_history.specs.View.{PoolView}
 use Rattle.pool_core.specs.State.{origin_of}
 use Rattle.pool_core.proofs.AboutBeginnings.LivingLemmas.{nothing-to-solve}
-use Rattle.pool_core.proofs.AboutClaims.PickLemmas.{peek-is-given, old-choice, light-choice}
+use Rattle.pool_history.proofs.AboutClaims.PickLemmas.{peek-is-given, old-choice, light-choice}
 use Rattle.pool_core.proofs.pool.Pool.next_given.Goals as goal
 use Rattle.pool_core.proofs.pool.Pool.next_given.Goals.{then-self, else-self}
 

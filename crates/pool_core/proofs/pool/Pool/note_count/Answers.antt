@@ -1,9 +1,9 @@
 use Rattle.std.proofs.Common.{◌≡◌, ◌<◌, ◌≤◌, ℕ, List, length, take, get_or, refl, ap, sym, ◌∙◌, arith}
 use Rattle.std.proofs.lemmas.Bool.{ltb-true, ltb-false}
 use Rattle.std.proofs.lemmas.Option.{slice_get_read}
-use Rattle.pool_core.specs.News.{changes_from}
-use Rattle.pool_core.specs.Replay.{start}
-use Rattle.pool_core.specs.View.{PoolView}
+use Rattle.pool_history.specs.News.{changes_from}
+use Rattle.pool_history.specs.Replay.{start}
+use Rattle.pool_history.specs.View.{PoolView}
 use Rattle.pool_core.proofs.AboutClaims.StateLemmas.{count-before, count-all}
 use Rattle.pool_core.proofs.pool.Pool.note_count.Goals as goal
 

@@ -2,9 +2,9 @@ use Rattle.std.proofs.Common.{◌≡◌, ◌<◌, length, ap, sym, ◌∙◌, su
 use Rattle.std.specs.Prelude.{Some}
 use Rattle.std.specs.Option.{option_copied}
 use Rattle.std.proofs.lemmas.Option.{none-some, same_Some}
-use Rattle.pool_core.specs.Record.{GivenJob, given_job}
-use Rattle.pool_core.specs.Replay.{replay}
-use Rattle.pool_core.specs.View.{PoolView}
+use Rattle.pool_history.specs.Record.{GivenJob, given_job}
+use Rattle.pool_history.specs.Replay.{replay}
+use Rattle.pool_history.specs.View.{PoolView}
 use Rattle.pool_core.specs.declared.pool.OutJob.{OutJob}
 use Rattle.pool_core.proofs.AboutClaims.GiveUpLemmas.{entry-out}
 use Rattle.pool_core.proofs.AboutReturns.ReturnLemmas.{out-below}

@@ -3,19 +3,19 @@ use Rattle.std.proofs.Common.{◌≡◌, ◌++◌, [], ◌∷◌, ℕ, List, map
 use Rattle.term_bank.specs.declared.bank.Bank.{Bank}
 use Rattle.term_bank.specs.declared.table.Table.{Table}
 use Rattle.pool_core.specs.CountedList.{keys_in}
-use Rattle.pool_core.specs.Claiming.{ready}
-use Rattle.pool_core.specs.Counting.{lines_of_entries}
-use Rattle.pool_core.specs.Events.{events_of}
-use Rattle.pool_core.specs.Placing.{IsTakeable, IsWorkOf, IsSomeWork, IsOfGiven, IsLiving, IsCountedStateOf, NotesDeaths, HasRoom, entries_of, removals_of, lines_of_removals, heavy_keys_of}
-use Rattle.pool_core.specs.Record.{PoolRecord}
-use Rattle.pool_core.specs.Replay.{replay}
-use Rattle.pool_core.specs.Returning.{worked}
-use Rattle.pool_core.specs.State.{origin_of, IsProofStateOf, pair_of}
-use Rattle.pool_core.specs.View.{PoolView}
-use Rattle.pool_core.specs.declared.batch.Batch.{Batch}
-use Rattle.pool_core.specs.declared.event.Event.TheVariants.{Return}
+use Rattle.pool_history.specs.Claiming.{ready, pair_of}
+use Rattle.pool_history.specs.Counting.{lines_of_entries}
+use Rattle.pool_core.specs.KeptEvents.{events_of}
+use Rattle.pool_core.specs.Placing.{IsTakeable, IsWorkOf, IsSomeWork, IsOfGiven, IsLiving, IsCountedStateOf, NotesDeaths, HasRoom, entries_of, lines_of_removals, heavy_keys_of}
+use Rattle.pool_history.specs.Record.{PoolRecord}
+use Rattle.pool_history.specs.Replay.{replay}
+use Rattle.pool_history.specs.Returning.{removals_of, worked}
+use Rattle.pool_core.specs.State.{origin_of, IsProofStateOf}
+use Rattle.pool_history.specs.View.{PoolView}
+use Rattle.pool_history.specs.declared.batch.Batch.{Batch}
+use Rattle.pool_history.specs.declared.event.Event.TheVariants.{Return}
 use Rattle.pool_core.specs.declared.register.Registration.{Registration}
-use Rattle.pool_core.proofs.AboutClaims.HistoryLemmas.{event-count}
+use Rattle.pool_history.proofs.AboutClaims.HistoryLemmas.{event-count}
 use Rattle.pool_core.proofs.AboutClaims.StateLemmas.{record_of, kept-pool, given-count}
 use Rattle.pool_core.proofs.AboutReturns.TakenLemmas.{taken-pool, without, worked-follows}
 use Rattle.pool_core.proofs.AboutReturns.TakeableLemmas.{IsToBeTaken, to-be-taken, after-worked, open-record, work-of, noted-since}

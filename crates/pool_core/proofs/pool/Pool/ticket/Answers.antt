@@ -4,14 +4,13 @@ use Rattle.fol_base.specs.Clause.{TreeClause}
 use Rattle.bank_clause.specs.Clause.{clause_at, IsClauseOf}
 use Rattle.bank_clause.specs.declared.clause.BankClause.{BankClause}
 use Rattle.pool_core.specs.CountedList.{keys_in}
-use Rattle.pool_core.specs.Answers.{IsChangeOf}
-use Rattle.pool_core.specs.Claiming.{next_given}
-use Rattle.pool_core.specs.News.{TreeChange, change_of}
-use Rattle.pool_core.specs.Noted.{first_told}
-use Rattle.pool_core.specs.Record.{PoolRecord}
-use Rattle.pool_core.specs.Replay.{replay}
+use Rattle.pool_history.specs.Answers.{IsChangeOf}
+use Rattle.pool_history.specs.Claiming.{next_given}
+use Rattle.pool_history.specs.News.{TreeChange, change_of, first_told}
+use Rattle.pool_history.specs.Record.{PoolRecord}
+use Rattle.pool_history.specs.Replay.{replay}
 use Rattle.pool_core.specs.State.{IsStateOf}
-use Rattle.pool_core.specs.View.{PoolView}
+use Rattle.pool_history.specs.View.{PoolView}
 use Rattle.pool_core.proofs.AboutClaims.ClaimLemmas.{given-registered}
 use Rattle.pool_core.proofs.AboutClaims.StateLemmas.{clause-there, one-of-bank, record_of}
 use Rattle.pool_core.proofs.pool.Pool.ticket.Goals as goal

@@ -3,10 +3,10 @@ use Rattle.std.specs.Prelude.{Option, Some}
 use Rattle.fol_base.specs.Clause.{TreeClause}
 use Rattle.bank_clause.specs.Clause.{clause_at, IsClauseOf}
 use Rattle.bank_clause.specs.declared.clause.BankClause.{BankClause}
-use Rattle.pool_core.specs.Record.{PoolRecord, clauses_of, position_of, given_job}
-use Rattle.pool_core.specs.Replay.{replay}
+use Rattle.pool_history.specs.Record.{PoolRecord, clauses_of, position_of, given_job}
+use Rattle.pool_history.specs.Replay.{replay}
 use Rattle.pool_core.specs.State.{IsStateOf}
-use Rattle.pool_core.specs.View.{PoolView}
+use Rattle.pool_history.specs.View.{PoolView}
 use Rattle.pool_core.proofs.AboutClaims.ClaimLemmas.{told-before}
 use Rattle.pool_core.proofs.AboutReturns.ReturnLemmas.{out-below, out-placed}
 use Rattle.pool_core.proofs.AboutClaims.StateLemmas.{record_of, registered-count, clause-there, one-of-bank}

@@ -4,16 +4,15 @@ use Rattle.std.proofs.lemmas.List.{map-append}
 use Rattle.std.proofs.lemmas.List.Elements.{All-push}
 use Rattle.bank_clause.specs.Clause.{clause_at, IsClauseOf}
 use Rattle.bank_clause.specs.declared.clause.BankClause.{BankClause}
-use Rattle.pool_core.specs.Answers.{IsChangeOf}
-use Rattle.pool_core.specs.Claiming.{next_given}
-use Rattle.pool_core.specs.News.{TreeChange, change_of}
-use Rattle.pool_core.specs.Noted.{first_told}
-use Rattle.pool_core.specs.Record.{PoolRecord, position_of}
-use Rattle.pool_core.specs.Replay.{replay}
-use Rattle.pool_core.specs.View.{PoolView}
-use Rattle.pool_core.specs.declared.ticket.Change.TheVariants.{Activated}
+use Rattle.pool_history.specs.Answers.{IsChangeOf}
+use Rattle.pool_history.specs.Claiming.{next_given}
+use Rattle.pool_history.specs.News.{TreeChange, change_of, first_told}
+use Rattle.pool_history.specs.Record.{PoolRecord, position_of}
+use Rattle.pool_history.specs.Replay.{replay}
+use Rattle.pool_history.specs.View.{PoolView}
+use Rattle.pool_history.specs.declared.ticket.Change.TheVariants.{Activated}
 use Rattle.pool_core.proofs.AboutClaims.ClaimLemmas.{given-registered, told-before, told-now}
-use Rattle.pool_core.proofs.AboutRecords.FitLemmas.{positions-fit}
+use Rattle.pool_core.proofs.AboutClaims.FitLemmas.{positions-fit}
 use Rattle.pool_core.proofs.AboutClaims.StateLemmas.{record_of, one-of-bank}
 use Rattle.pool_core.proofs.pool.Pool.told_position.Goals as goal
 

@@ -1,13 +1,13 @@
 use Rattle.std.proofs.Common.{◌≡◌, ◌++◌, [], ◌∷◌, ℕ, List, length, refl, ap, sym, ◌∙◌, subst, arith}
 use Rattle.std.specs.Prelude.{IsTrue, true}
-use Rattle.pool_core.specs.Answers.{IsTicket, dead_justifier}
-use Rattle.pool_core.specs.Inputs.{IsRightBatch}
-use Rattle.pool_core.specs.Lawful.{IsGivenOut}
-use Rattle.pool_core.specs.Record.{lives}
-use Rattle.pool_core.specs.Replay.{replay}
-use Rattle.pool_core.specs.View.{PoolView}
-use Rattle.pool_core.specs.declared.event.Event.{Event}
-use Rattle.pool_core.specs.declared.event.Event.TheVariants.{Stale}
+use Rattle.pool_history.specs.Answers.{IsTicket, dead_justifier}
+use Rattle.pool_history.specs.Inputs.{IsRightBatch}
+use Rattle.pool_history.specs.Lawful.{IsGivenOut}
+use Rattle.pool_history.specs.Record.{lives}
+use Rattle.pool_history.specs.Replay.{replay}
+use Rattle.pool_history.specs.View.{PoolView}
+use Rattle.pool_history.specs.declared.event.Event.{Event}
+use Rattle.pool_history.specs.declared.event.Event.TheVariants.{Stale}
 use Rattle.pool_core.proofs.AboutReturns.StaleLemmas.{turned-down-pool, turned-down-ticket, stale-allowed}
 use Rattle.pool_core.proofs.pool.Pool.turn_down.Goals as goal
 

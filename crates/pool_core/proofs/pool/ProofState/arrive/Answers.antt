@@ -2,23 +2,24 @@ use Rattle.std.proofs.Common.{◌≡◌, ℕ, ◌-◌, ◌==◌, true, false, Li
 use Rattle.std.specs.Prelude.{None, Some, is_none}
 use Rattle.std.proofs.lemmas.Bool.{and_parts}
 use Rattle.std.proofs.lemmas.Option.{none-some}
+use Rattle.plain_types.specs.Names.{negative_of}
 use Rattle.fol_base.specs.Clause.{TreeClause}
 use Rattle.kernel_steps.specs.declared.step.Line.{Line}
 use Rattle.clause_queue.specs.Pairs.{with_pair}
 use Rattle.term_bank.specs.declared.literal.BankLit.{BankLit}
-use Rattle.bank_clause.specs.Parts.{assertion}
 use Rattle.bank_clause.specs.Clause.{clause_at, equal_by_numbers}
 use Rattle.bank_clause.specs.declared.clause.BankClause.{BankClause}
-use Rattle.pool_core.specs.Lines.{pool_line}
+use Rattle.pool_history.specs.Lines.{pool_line}
 use Rattle.pool_core.specs.Register.{is_living_copy}
-use Rattle.pool_core.specs.Registering.{has_none}
+use Rattle.pool_history.specs.Registering.{has_none}
 use Rattle.pool_core.specs.Started.{IsOfTable}
 use Rattle.pool_core.specs.State.{IsProofStateOf}
-use Rattle.pool_core.specs.declared.outcome.Outcome.TheVariants.{Refuted}
+use Rattle.pool_history.specs.declared.outcome.Outcome.TheVariants.{Refuted}
 use Rattle.pool_core.specs.declared.pool.ProofState.{ProofState}
 use Rattle.pool_core.specs.declared.register.Registration.{Registration}
 use Rattle.pool_core.proofs.AboutReturns.ComingLemmas.{came-state, not-living, living-already, some-literal-already, result-as-clause, result-empty, result-again, steps-placed, next-is-absent}
-use Rattle.pool_core.proofs.AboutBeginnings.StartLemmas.{all-at, living-equal, passes-at, no-outcome, no-literals, steps-of}
+use Rattle.pool_core.proofs.AboutBeginnings.StartLemmas.{living-equal, no-outcome, no-literals, steps-of}
+use Rattle.pool_history.proofs.AboutRecords.ItemLemmas.{all-at, passes-at}
 use Rattle.pool_core.proofs.AboutClaims.StateLemmas.{at-ok}
 use Rattle.pool_core.proofs.pool.ProofState.arrive.Goals as goal
 
@@ -36,7 +37,7 @@ returns-in-Some-clause-arrived c = λ table r interned is.
     let s : ProofState = c.args.self.now in
     let made : BankClause = c.args.interned.clause in
     let z : Registration = c.get.result.now in
-    let no_names : (clause_at made).names ≡ [] = ap (map assertion) interned.no_names in
+    let no_names : (clause_at made).names ≡ [] = ap (map negative_of) interned.no_names in
     let open_yet : r.ended ≡ None = no-outcome s.ended r.ended c.is_some.result c.if-is_some.false c.is_some.ensures is.ended in
     let alive : is_none z.death ≡ true =
     (and_parts (is_none z.death) (equal_by_numbers made z.clause)
@@ -56,7 +57,7 @@ returns-then-is_empty-clause-arrived c = λ table r interned is.
     let s : ProofState = c.args.self.now in
     let made : BankClause = c.args.interned.clause in
     let d : TreeClause = clause_at made in
-    let no_names : d.names ≡ [] = ap (map assertion) interned.no_names in
+    let no_names : d.names ≡ [] = ap (map negative_of) interned.no_names in
     let open_yet : r.ended ≡ None = no-outcome s.ended r.ended c.is_some.result c.if-is_some.false c.is_some.ensures is.ended in
     let steps : c.place_steps.new.steps.items ≡ map (λ (l : Line). l.step) (r.lines ++ map (pool_line r) c.args.lines) =
     c.place_steps.ensures.steps ∙ steps-placed s c.args.bank.now table r c.args.lines is in
@@ -80,7 +81,7 @@ returns-else-is_empty-clause-arrived c = λ table r interned is.
     let s : ProofState = c.args.self.now in
     let made : BankClause = c.args.interned.clause in
     let d : TreeClause = clause_at made in
-    let no_names : d.names ≡ [] = ap (map assertion) interned.no_names in
+    let no_names : d.names ≡ [] = ap (map negative_of) interned.no_names in
     let open_yet : r.ended ≡ None = no-outcome s.ended r.ended c.is_some.result c.if-is_some.false c.is_some.ensures is.ended in
     let steps : c.place_steps.new.steps.items ≡ map (λ (l : Line). l.step) (r.lines ++ map (pool_line r) c.args.lines) =
     c.place_steps.ensures.steps ∙ steps-placed s c.args.bank.now table r c.args.lines is in

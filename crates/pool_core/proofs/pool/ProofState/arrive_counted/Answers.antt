@@ -1,10 +1,10 @@
 use Rattle.std.proofs.Common.{◌≡◌, true, false, not, ◌||◌, ◌==◌, List, map, length, refl, ap, sym, ◌∙◌, subst}
 use Rattle.std.proofs.lemmas.Bool.{and_from, or_right, cond-true}
+use Rattle.plain_types.specs.Names.{negative_of}
 use Rattle.term_bank.specs.declared.literal.BankLit.{BankLit}
-use Rattle.bank_clause.specs.Parts.{assertion}
 use Rattle.bank_clause.specs.Clause.{clause_at}
-use Rattle.pool_core.specs.Counting.{result_comes, refutes}
-use Rattle.pool_core.specs.Registering.{has_none}
+use Rattle.pool_history.specs.Counting.{result_comes, refutes}
+use Rattle.pool_history.specs.Registering.{has_none}
 use Rattle.pool_core.specs.State.{IsProofStateOf}
 use Rattle.pool_core.proofs.AboutReturns.ComingLemmas.{refutes-is}
 use Rattle.pool_core.proofs.AboutBeginnings.StartLemmas.{no-literals}
@@ -24,7 +24,7 @@ returns-then-not-is_spent-clause-arrived c = λ table r interned is.
           ∙ and_from (has_none (clause_at made).literals) (has_none (clause_at made).names)
           (no-literals made (clause_at made) refl
           ∙ ap (λ (ls : List BankLit). length ls == 0) (sym w.literals.ensures.literals) ∙ sym w.is_empty.ensures ∙ w.if-is_empty.true)
-          (ap (λ ns. length (map assertion ns) == 0) interned.no_names))
+          (ap (λ ns. length (map negative_of ns) == 0) interned.no_names))
     ] in
     subst (IsProofStateOf c.args.bank.now table c.arrive.new.self)
     (sym (cond-true (not c.args.is_spent || refutes lines) (result_comes false r lines) r passes))

@@ -3,9 +3,9 @@ use Rattle.std.specs.Prelude.{nat_le}
 use Rattle.std.specs.Vec.Iter.{into_iter_items}
 use Rattle.std.specs.declared.vec.IntoIter.{IntoIter}
 use Rattle.pool_core.specs.CountedList.{keys_in}
-use Rattle.pool_core.specs.Counting.{lines_of_entries}
+use Rattle.pool_history.specs.Counting.{lines_of_entries}
 use Rattle.pool_core.specs.Placing.{HasRoom}
-use Rattle.pool_core.specs.declared.batch.Entry.{Entry}
+use Rattle.pool_history.specs.declared.batch.Entry.{Entry}
 use Rattle.pool_core.specs.declared.interning.Interned.{Interned}
 use Rattle.pool_core.specs.declared.pool.ProofState.{ProofState}
 use Rattle.pool_core.proofs.AboutReturns.ArrivalLemmas.{AreCountedSoFar, so-far-begins, one-left, next-arrival, room-for-next, one-kept, one-other, all-counted, not-kept, nothing-left}

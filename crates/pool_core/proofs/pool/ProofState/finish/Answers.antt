@@ -1,6 +1,6 @@
 use Rattle.std.proofs.Common.{refl}
 use Rattle.pool_core.proofs.AboutReturns.ProofStateLemmas.{finished-state}
-use Rattle.pool_core.proofs.AboutClaims.StateLemmas.{item-at}
+use Rattle.pool_history.proofs.AboutRecords.ItemLemmas.{item-at}
 use Rattle.pool_core.proofs.pool.ProofState.finish.Goals as goal
 
 pub returns-clause-finished : goal.returns-clause-finished

@@ -1,12 +1,12 @@
 use Rattle.std.proofs.Common.{◌≡◌, List, [], ◌∷◌, length, refl, ap, sym, ◌∙◌, subst, arith}
 use Rattle.std.specs.Prelude.{fold}
 use Rattle.pool_core.specs.CountedList.{keys_in}
-use Rattle.pool_core.specs.Returning.{proposed}
+use Rattle.pool_history.specs.Returning.{proposed}
 use Rattle.std.specs.Vec.Iter.{into_iter_items}
-use Rattle.pool_core.specs.Counting.{lines_of_fate}
+use Rattle.pool_history.specs.Counting.{lines_of_fate}
 use Rattle.pool_core.specs.Placing.{HasRoom, NotesDeaths, IsCountedStateOf, lines_of_removals}
-use Rattle.pool_core.specs.Record.{PoolRecord}
-use Rattle.pool_core.specs.declared.batch.Removal.{Removal}
+use Rattle.pool_history.specs.Record.{PoolRecord}
+use Rattle.pool_history.specs.declared.batch.Removal.{Removal}
 use Rattle.pool_core.proofs.AboutReturns.ArrivalLemmas.{nothing-left}
 use Rattle.pool_core.proofs.AboutReturns.ProposedLemmas.{AreProposedSoFar, proposals-begin, taken-result, one-removed, one-left-out, some-proposal, room-less, room-of-one, room-with-more}
 use Rattle.pool_core.proofs.pool.ProofState.propose.Goals as goal

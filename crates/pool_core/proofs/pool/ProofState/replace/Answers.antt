@@ -2,11 +2,11 @@ use Rattle.std.proofs.Common.{◌≡◌, ◌++◌, List, length, refl, sym, ◌�
 use Rattle.std.specs.Prelude.{Option, None, nat_le, option_to_list}
 use Rattle.kernel_steps.specs.declared.step.Line.{Line}
 use Rattle.pool_core.specs.CountedList.{keys_in}
-use Rattle.pool_core.specs.Counting.{lines_of_fate}
+use Rattle.pool_history.specs.Counting.{lines_of_fate}
 use Rattle.pool_core.specs.Placing.{IsInterned, IsResultOf, IsCountedStateOf, HasRoom}
-use Rattle.pool_core.specs.Returning.{replaced}
-use Rattle.pool_core.specs.declared.batch.Fate.{Fate}
-use Rattle.pool_core.specs.declared.batch.Fate.TheVariants.{Kept}
+use Rattle.pool_history.specs.Returning.{replaced}
+use Rattle.pool_history.specs.declared.batch.Fate.{Fate}
+use Rattle.pool_history.specs.declared.batch.Fate.TheVariants.{Kept}
 use Rattle.pool_core.specs.declared.interning.Interned.{Interned}
 use Rattle.pool_core.proofs.AboutReturns.ArrivalLemmas.{not-kept, replaced-other, one-replaced}
 use Rattle.pool_core.proofs.pool.ProofState.replace.Goals as goal

@@ -3,14 +3,14 @@ use Rattle.std.specs.Prelude.{fold}
 use Rattle.std.specs.Vec.Iter.{into_iter_items}
 use Rattle.std.proofs.lemmas.Option.{slice_get_within}
 use Rattle.pool_core.specs.CountedList.{keys_in}
-use Rattle.pool_core.specs.Counting.{counts, keys_of, lines_of_entries, lines_of_fate}
-use Rattle.pool_core.specs.Placing.{AreInterned, IsCountedStateOf, NotesDeaths, HasRoom, IsOfGiven, entries_of, removals_of, lines_of_removals, with_queue}
-use Rattle.pool_core.specs.Record.{PoolRecord}
-use Rattle.pool_core.specs.Returning.{dies, becomes_active, sets_aside, proposed, worked}
-use Rattle.pool_core.specs.declared.batch.Work.{Work}
+use Rattle.pool_history.specs.Counting.{counts, keys_of, lines_of_entries, lines_of_fate}
+use Rattle.pool_core.specs.Placing.{AreInterned, IsCountedStateOf, NotesDeaths, HasRoom, IsOfGiven, entries_of, lines_of_removals, with_queue}
+use Rattle.pool_history.specs.Record.{PoolRecord}
+use Rattle.pool_history.specs.Returning.{removals_of, dies, becomes_active, sets_aside, proposed, worked}
+use Rattle.pool_history.specs.declared.batch.Work.{Work}
 use Rattle.pool_core.specs.declared.interning.Interned.{Interned}
 use Rattle.pool_core.proofs.AboutReturns.ArrivalLemmas.{recounted}
-use Rattle.pool_core.proofs.AboutCounting.DeathLemmas.{counts-keeps}
+use Rattle.pool_history.proofs.AboutCounting.DeathLemmas.{counts-keeps}
 use Rattle.pool_core.proofs.AboutReturns.ProposedLemmas.{gone-queue, lone-result, room-of-one, room-with-more, room-front, notes-one, notes-then, notes-counted}
 use Rattle.pool_core.proofs.pool.ProofState.work.Goals as goal
 

@@ -7,8 +7,8 @@ use Rattle.pool_core.specs.Register.{dead_in}
 use Rattle.pool_core.specs.RegisterLiving.{IsChained, IsOnlyCopy}
 use Rattle.pool_core.specs.RegisterCode.{Registrations}
 use Rattle.pool_core.specs.declared.register.Registration.{Registration}
-use Rattle.pool_core.proofs.AboutRecords.RegisterLemmas.{only-after-burial}
-use Rattle.pool_core.proofs.AboutRecords.ChainLemmas.{hashes-set}
+use Rattle.pool_core.proofs.AboutRegister.RegisterLemmas.{only-after-burial}
+use Rattle.pool_core.proofs.AboutRegister.ChainLemmas.{hashes-set}
 use Rattle.pool_core.proofs.register.Register.bury.Goals as goal
 
 pub invariant_of-self : goal.invariant_of-self

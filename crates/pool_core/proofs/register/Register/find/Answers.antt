@@ -2,7 +2,7 @@ use Rattle.std.proofs.Common.{◌≡◌, suc, ◌-◌, List, ap, sym, ◌∙◌,
 use Rattle.pool_core.specs.RegisterCode.{Registrations}
 use Rattle.pool_core.specs.RegisterLiving.{IsChained, IsOnlyCopy, hashes}
 use Rattle.pool_core.specs.declared.register.Registration.{Registration}
-use Rattle.pool_core.proofs.AboutRecords.ChainLemmas.{Looks, looks-first, looks-on, looks-falls, looks-none, copy-found, there-is}
+use Rattle.pool_core.proofs.AboutRegister.ChainLemmas.{Looks, looks-first, looks-on, looks-falls, looks-none, copy-found, there-is}
 use Rattle.pool_core.proofs.register.Register.find.Goals as goal
 
 pub loop-next-init : goal.loop-next-init

@@ -1,4 +1,4 @@
-use Rattle.pool_core.proofs.AboutRecords.ChainLemmas.{Looks}
+use Rattle.pool_core.proofs.AboutRegister.ChainLemmas.{Looks}
 use Rattle.pool_core.proofs.register.Register.find.Given as goal
 
 abbrev pub invariant-loop-next : goal.invariant-loop-next

@@ -6,8 +6,8 @@ use Rattle.pool_core.specs.RegisterCode.{Registrations}
 use Rattle.pool_core.specs.RegisterLiving.{IsChained, IsOnlyCopy, hashes}
 use Rattle.pool_core.specs.declared.register.Registration.{Registration}
 use Rattle.std.proofs.lemmas.List.{length-append, map-append}
-use Rattle.pool_core.proofs.AboutRecords.RegisterLemmas.{only-with-new}
-use Rattle.pool_core.proofs.AboutRecords.ChainLemmas.{chain-push}
+use Rattle.pool_core.proofs.AboutRegister.RegisterLemmas.{only-with-new}
+use Rattle.pool_core.proofs.AboutRegister.ChainLemmas.{chain-push}
 use Rattle.pool_core.proofs.register.Register.push.Goals as goal
 
 pub invariant_of-self : goal.invariant_of-self

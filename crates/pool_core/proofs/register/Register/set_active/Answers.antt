@@ -7,8 +7,8 @@ use Rattle.pool_core.specs.Register.{made_active}
 use Rattle.pool_core.specs.RegisterCode.{Registrations}
 use Rattle.pool_core.specs.RegisterLiving.{IsChained}
 use Rattle.pool_core.specs.declared.register.Registration.{Registration}
-use Rattle.pool_core.proofs.AboutRecords.RegisterLemmas.{only-as-before}
-use Rattle.pool_core.proofs.AboutRecords.ChainLemmas.{hashes-set}
+use Rattle.pool_core.proofs.AboutRegister.RegisterLemmas.{only-as-before}
+use Rattle.pool_core.proofs.AboutRegister.ChainLemmas.{hashes-set}
 use Rattle.pool_core.proofs.register.Register.set_active.Goals as goal
 
 pub invariant_of-self : goal.invariant_of-self

@@ -1,7 +1,0 @@
-use Rattle.std.proofs.Common.{sym, subst}
-use Rattle.pool_core.specs.Inputs.{AreInputs}
-use Rattle.clause_pool_tests.proofs.InputLemmas.{are_inputs}
-use Rattle.clause_pool_tests.proofs.inputs.three_clause_pool.Goals as goal
-
-pub new-requires-2-clause-inputs : goal.new-requires-2-clause-inputs
-new-requires-2-clause-inputs g c = subst AreInputs (sym c.three_inputs-inputs.ensures) are_inputs

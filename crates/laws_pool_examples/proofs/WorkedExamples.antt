@@ -1,0 +1,13 @@
+-- Worked histories, lawful and unlawful.
+pub mod AnswerExamples
+pub mod CarriedExamples
+pub mod CuttingExample
+pub mod DroppingExample
+pub mod EntryExample
+pub mod GoingExample
+pub mod LawfulExamples
+pub mod MeetingExample
+pub mod RemovingExample
+pub mod ReturnExamples
+pub mod SaturatedExamples
+pub mod SteppingExample

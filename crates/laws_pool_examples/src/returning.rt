@@ -1,0 +1,39 @@
+// Returns that aren't right.
+
+ghost use Rattle.std.specs.Prelude.{◌≡◌, [], ◌∷◌, ◌++◌, take};
+ghost use Rattle.fol_base.specs.Examples.{x, a, p, clause, is_predicate};
+ghost use Rattle.kernel_steps.specs.Examples.{opposites};
+ghost use Rattle.kernel_steps.specs.declared.key.Key.TheVariants as key;
+ghost use Rattle.pool_history.specs.Lawful.{IsLawful};
+ghost use Rattle.laws_pool_examples.specs.Examples.{pool_of, three, rewrites, rewrites_history, rewritten_to_itself, left_uncut, cut_halfway, subsuming, left_subsumed, growing, growing_history, half_step, towering, towering_goes, unequal, partners, entry, at_roots, return, removal};
+ghost use Rattle.pool_history.specs.declared.batch.Fate.TheVariants.{Dropped, Heavy};
+ghost use Rattle.pool_history.specs.declared.batch.Redundancy.TheVariants.{Tautology, Subsumed};
+ghost use Rattle.pool_history.specs.declared.batch.Work.TheVariants as work;
+ghost use Rattle.pool_history.specs.declared.event.Event.TheVariants as event;
+
+/// A clause that stays, though a told unit cuts it; one that leaves a told clause that it subsumes; a result that can be reduced further, of a
+/// clause that goes and of an inference; a small inference as a heavy one; one dropped as a tautology, or as subsumed by a clause that wasn't
+/// told; a victim among its justifiers, or a clause that the removal doesn't rest on; another result than the lines lead to; an inference of
+/// two other clauses; a removal as subsumed by the victim itself; and a removal of the given clause beside its meeting.
+pub fn wrong_return_examples()
+    ensures stays_uncut { IsLawful is_predicate (pool_of opposites) left_uncut → ⊥ }
+    ensures left_there { IsLawful is_predicate subsuming left_subsumed → ⊥ }
+    ensures gone_reducible { IsLawful is_predicate (pool_of opposites) cut_halfway → ⊥ }
+    ensures kept_reducible { IsLawful is_predicate (growing 100) (take 3 growing_history ++ return 2 (work.Met (half_step ∷ []) []) ∷ []) → ⊥ }
+    ensures small_heavy { IsLawful is_predicate unequal
+        (event.Claim 1 ∷ return 1 (work.Met (entry (key.Refl 0 0) Heavy ∷ []) []) ∷ []) → ⊥ }
+    ensures no_tautology { IsLawful is_predicate unequal
+        (event.Claim 1 ∷ return 1 (work.Met (entry (key.Refl 0 0) (Dropped Tautology) ∷ []) []) ∷ []) → ⊥ }
+    ensures subsumed_by_untold { IsLawful is_predicate partners
+        (event.Claim 1 ∷ return 1 (work.Met (entry (at_roots 0 0) (Dropped (Subsumed 1)) ∷ []) []) ∷ []) → ⊥ }
+    ensures justifies_itself { IsLawful is_predicate (pool_of (clause (p (x 0) ∷ []) ∷ clause (p a ∷ []) ∷ []))
+        (event.Claim 1 ∷ event.Claim 2 ∷ return 2 (work.Gone (removal 1 (0 ∷ 1 ∷ []) (Dropped (Subsumed 0)))) ∷ []) → ⊥ }
+    ensures superfluous_justifier { IsLawful is_predicate towering (towering_goes (0 ∷ 1 ∷ [])) → ⊥ }
+    ensures other_result { IsLawful is_predicate rewrites (take 2 rewrites_history ++ return 2 (work.Gone rewritten_to_itself) ∷ []) → ⊥ }
+    ensures others_met { IsLawful is_predicate three
+        (event.Claim 1 ∷ return 1 (work.Met (entry (at_roots 0 1) (Dropped Tautology) ∷ []) []) ∷ []) → ⊥ }
+    ensures subsumed_by_itself { IsLawful is_predicate subsuming
+        (take 3 left_subsumed ++ return 2 (work.Met [] (removal 0 (1 ∷ []) (Dropped (Subsumed 0)) ∷ [])) ∷ []) → ⊥ }
+    ensures removes_itself { IsLawful is_predicate three
+        (event.Claim 1 ∷ return 1 (work.Met [] (removal 2 [] (Dropped Tautology) ∷ [])) ∷ []) → ⊥ }
+{}

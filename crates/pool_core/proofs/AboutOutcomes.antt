@@ -1,3 +1,0 @@
--- Outcomes stay, what is set aside.
-pub mod OutcomeLemmas
-pub mod HeavyLemmas

@@ -1,5 +1,0 @@
-use Rattle.pool_core.proofs.AboutLines.FinestLemmas.{computed-finest}
-use Rattle.pool_core.proofs.laws.components.components_are_finest.Goals as goal
-
-pub returns : goal.returns
-returns c = computed-finest

@@ -1,5 +1,0 @@
-use Rattle.pool_core.proofs.AboutCounting.JustifiedLemmas.{deaths_are_justified}
-use Rattle.pool_core.proofs.laws.histories.deaths_are_justified.Goals as goal
-
-pub returns : goal.returns
-returns c = deaths_are_justified

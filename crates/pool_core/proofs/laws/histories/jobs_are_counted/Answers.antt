@@ -1,5 +1,0 @@
-use Rattle.pool_core.proofs.AboutRecords.JobNumberLemmas.{jobs_are_counted}
-use Rattle.pool_core.proofs.laws.histories.jobs_are_counted.Goals as goal
-
-pub returns : goal.returns
-returns c = jobs_are_counted

@@ -1,5 +1,0 @@
-use Rattle.pool_core.proofs.AboutRecords.JobNumberLemmas.{jobs_were_given}
-use Rattle.pool_core.proofs.laws.histories.jobs_were_given.Goals as goal
-
-pub returns : goal.returns
-returns c = jobs_were_given

@@ -1,5 +1,0 @@
-use Rattle.pool_core.proofs.AboutOutcomes.OutcomeLemmas.{outcomes_stay}
-use Rattle.pool_core.proofs.laws.histories.outcomes_stay.Goals as goal
-
-pub returns : goal.returns
-returns c = outcomes_stay

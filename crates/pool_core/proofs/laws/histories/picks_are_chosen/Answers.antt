@@ -1,5 +1,0 @@
-use Rattle.pool_core.proofs.AboutClaims.PickLemmas.{picks_are_chosen}
-use Rattle.pool_core.proofs.laws.histories.picks_are_chosen.Goals as goal
-
-pub returns : goal.returns
-returns c = picks_are_chosen

@@ -1,5 +1,0 @@
-use Rattle.pool_core.proofs.AboutBeginnings.BeginningLemmas.{registered_are_whole}
-use Rattle.pool_core.proofs.laws.histories.registered_are_whole.Goals as goal
-
-pub returns : goal.returns
-returns c = registered_are_whole

@@ -1,5 +1,0 @@
-use Rattle.pool_core.proofs.AboutOutcomes.HeavyLemmas.{set_aside_are_heavy}
-use Rattle.pool_core.proofs.laws.histories.set_aside_are_heavy.Goals as goal
-
-pub returns : goal.returns
-returns c = set_aside_are_heavy

@@ -1,5 +1,0 @@
-use Rattle.pool_core.proofs.AboutCounting.SpentLemmas.{spent_is_the_count}
-use Rattle.pool_core.proofs.laws.histories.spent_is_the_count.Goals as goal
-
-pub returns : goal.returns
-returns c = spent_is_the_count

@@ -1,5 +1,0 @@
-use Rattle.pool_core.proofs.AboutRecords.PlaceLemmas.{told_have_positions}
-use Rattle.pool_core.proofs.laws.histories.told_have_positions.Goals as goal
-
-pub returns : goal.returns
-returns c = told_have_positions

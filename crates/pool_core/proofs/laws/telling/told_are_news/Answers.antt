@@ -1,5 +1,0 @@
-use Rattle.pool_core.proofs.AboutRecords.NewsLemmas.{told_are_news}
-use Rattle.pool_core.proofs.laws.telling.told_are_news.Goals as goal
-
-pub returns : goal.returns
-returns c = told_are_news

@@ -1,0 +1,7 @@
+-- Claims, what is given next, jobs and batches that stay right.
+pub mod ClaimedRecords
+pub mod HandLemmas
+pub mod HistoryLemmas
+pub mod PickLemmas
+pub mod SolverLemmas
+pub mod StayingLemmas

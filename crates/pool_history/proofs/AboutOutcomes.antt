@@ -1,0 +1,3 @@
+-- Outcomes stay, what is set aside.
+pub mod HeavyLemmas
+pub mod OutcomeLemmas

@@ -1,0 +1,10 @@
+-- What a record of the pool is, and what registering changes.
+pub mod EditLemmas
+pub mod FilterLemmas
+pub mod FrameLemmas
+pub mod GrowthLemmas
+pub mod ItemLemmas
+pub mod JobNumberLemmas
+pub mod NewsLemmas
+pub mod NumberLemmas
+pub mod PlaceLemmas

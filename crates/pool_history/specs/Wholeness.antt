@@ -1,0 +1,49 @@
+-- Laws of what is registered, for every list of events: whole clauses, and positions and jobs that hold their numbers.
+use Rattle.std.specs.Prelude.{◌≡◌, ◌≢◌, ℕ, ◌≤◌, Bool, false, ◌&&◌, nat_lt, List, [], length, All, AllPairs, IsTrue}
+use Rattle.std.specs.List.{list_all}
+use Rattle.fol_base.specs.Clause.{TreeClause, clause_size}
+use Rattle.fol_base.specs.Canonical.{IsCanonical}
+use Rattle.fol_base.specs.WellFormed.{SymbolUse, are_literals_of}
+use Rattle.fol_base.specs.declared.limits.TheConstants.{MOST_SYMBOLS}
+use Rattle.kernel_steps.specs.Split.{has_number}
+use Rattle.pool_history.specs.Record.{Registered, GivenJob}
+use Rattle.pool_history.specs.Replay.{Origin, replay}
+use Rattle.pool_history.specs.Lawful.{IsLawful}
+use Rattle.pool_history.specs.Inputs.{AreInputs, IsUseOf}
+use Rattle.pool_history.specs.declared.event.Event.{Event}
+
+-- ---- clauses
+
+-- canonical, without names, no larger than a clause may be that is kept, and well-formed under a use of the symbols
+pub record IsWhole (usage : SymbolUse) (c : TreeClause) : Type 0 where
+  pub canonical : IsCanonical c
+  pub no_names : c.names ≡ []
+  pub small : clause_size c ≤ MOST_SYMBOLS
+  pub formed : IsTrue (are_literals_of usage c.literals)
+
+-- Where nothing is split, the registered clauses are whole, all under each use of the symbols that is the inputs': so they are well-formed
+-- together.
+abbrev pub RegisteredAreWhole : Type 0
+RegisteredAreWhole =
+    (usage : SymbolUse) (origin : Origin) (history : List Event)
+    → AreInputs origin.inputs → IsUseOf origin.inputs usage → origin.options.split ≡ false
+    → IsLawful usage.is_predicate origin history
+    → All (λ (c : Registered). IsWhole usage c.clause) (replay origin history).registered
+
+-- ---- positions and jobs
+
+-- Positions are of registered clauses, each once: so for every list of events, lawful or not.
+abbrev pub PositionsAreRegistered : Type 0
+PositionsAreRegistered =
+    (origin : Origin) (history : List Event)
+    → let r = replay origin history in
+    IsTrue (list_all (λ n. nat_lt n (length r.registered)) r.positions) × AllPairs (λ n m. n ≢ m) r.positions
+
+-- a job's clause, and those that the job was told, have positions: so they are registered
+abbrev pub has_positions : List ℕ → GivenJob → Bool
+has_positions positions j = has_number j.number positions && list_all (λ n. has_number n positions) j.told
+
+abbrev pub ToldHavePositions : Type 0
+ToldHavePositions =
+    (origin : Origin) (history : List Event)
+    → let r = replay origin history in IsTrue (list_all (has_positions r.positions) r.given)

@@ -1,0 +1,106 @@
+// Laws of lawful histories: each is the contract of a function without arguments and with an empty body.
+
+ghost use Rattle.pool_history.specs.Derived.{LinesAreDerived, RefutedIsRefutation};
+ghost use Rattle.pool_history.specs.Laws.{BatchesStayRight, ClaimedInTime, CountedOnce, DeathsAreJustified, GivenJobsStayOut, HeavyOrNot, JobsAreCounted, JobsWereGiven, NumbersFit, OutcomesStay, PicksAreChosen, PositionsStay, ReplacedWereReduced, SetAsideAreHeavy, SolverJobsStayOut, SpentIsTheCount};
+ghost use Rattle.pool_history.specs.Wholeness.{PositionsAreRegistered, RegisteredAreWhole, ToldHavePositions};
+
+/// A clause that stays awake and alive, with m older ones, is claimed within 6(m + 1) given claims, while no job is given up.
+pub fn claimed_in_time()
+    ensures { ClaimedInTime }
+{}
+
+/// A pool that is spent says how many inferences were counted, at least as many as the limit.
+pub fn spent_is_the_count()
+    ensures { SpentIsTheCount }
+{}
+
+/// Each clause that died was justified by other clauses alone, all registered and alive at that moment.
+pub fn deaths_are_justified()
+    ensures { DeathsAreJustified }
+{}
+
+/// The clause that is given next is the one that the queue's rule picks among those that are ready.
+pub fn picks_are_chosen()
+    ensures { PicksAreChosen }
+{}
+
+/// Once an outcome stands it stays.
+pub fn outcomes_stay()
+    ensures { OutcomesStay }
+{}
+
+/// A key that was set aside was counted, and names a heavy inference of registered clauses.
+pub fn set_aside_are_heavy()
+    ensures { SetAsideAreHeavy }
+{}
+
+/// An inference is heavy or it isn't, whichever most general unifier shows it; so none is both kept and set aside.
+pub fn heavy_or_not()
+    ensures { HeavyOrNot }
+{}
+
+/// Where nothing is split, the registered clauses are canonical, small, without names, and well-formed together.
+pub fn registered_are_whole()
+    ensures { RegisteredAreWhole }
+{}
+
+/// Where nothing is split, the lines are a derivation from the inputs, of small terms over their symbols alone.
+pub fn lines_are_derived()
+    ensures { LinesAreDerived }
+{}
+
+/// Where nothing is split, the lines of a pool that is refuted are a refutation of the inputs.
+pub fn refuted_is_refutation()
+    ensures { RefutedIsRefutation }
+{}
+
+/// Positions are of registered clauses, each once.
+pub fn positions_are_registered()
+    ensures { PositionsAreRegistered }
+{}
+
+/// The clause of a job that is out, and those that it was told, have positions.
+pub fn told_have_positions()
+    ensures { ToldHavePositions }
+{}
+
+/// No inference is counted twice, and what is counted is an inference of registered clauses or a clause that was replaced.
+pub fn counted_once()
+    ensures { CountedOnce }
+{}
+
+/// A clause was counted as replaced only where it died with a reduced result.
+pub fn replaced_were_reduced()
+    ensures { ReplacedWereReduced }
+{}
+
+/// A job stays out until an event ends it, be it on a given clause, with a batch or without, or the solver's.
+pub fn jobs_stay_out()
+    ensures given { GivenJobsStayOut }
+    ensures solver { SolverJobsStayOut }
+{}
+
+/// The jobs that are given out have the numbers 1, 2, 3 and so on, in order.
+pub fn jobs_are_counted()
+    ensures { JobsAreCounted }
+{}
+
+/// A position that was given stays.
+pub fn positions_stay()
+    ensures { PositionsStay }
+{}
+
+/// Where nothing is split, the numbers of clauses and their positions have 32 bits.
+pub fn numbers_fit()
+    ensures { NumbersFit }
+{}
+
+/// Each event is of a job that was given, so the next job is of no event.
+pub fn jobs_were_given()
+    ensures { JobsWereGiven }
+{}
+
+/// A batch that is right for a job stays right through events of other jobs.
+pub fn batches_stay_right()
+    ensures { BatchesStayRight }
+{}

@@ -1,6 +1,0 @@
-use Rattle.calculus.proofs.AboutLifting.ConclusionLemmas.{conclusions_are_variants}
-use Rattle.saturation.proofs.AboutClosing.LawLemmas.{carried_through}
-use Rattle.saturation.proofs.laws.carried.carried_through.Goals as goal
-
-pub returns : goal.returns
-returns c = carried_through conclusions_are_variants

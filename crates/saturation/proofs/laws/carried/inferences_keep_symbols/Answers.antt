@@ -1,5 +1,0 @@
-use Rattle.saturation.proofs.AboutClosing.ConclusionLemmas.{inferences_keep_symbols}
-use Rattle.saturation.proofs.laws.carried.inferences_keep_symbols.Goals as goal
-
-pub returns : goal.returns
-returns c = inferences_keep_symbols

@@ -1,5 +1,0 @@
-use Rattle.std.proofs.Common.{refl}
-use Rattle.saturation.proofs.laws.examples.found_examples.Goals as goal
-
-pub returns : goal.returns
-returns c = record { found = refl; nothing = refl; last = refl; earlier = refl; no_premise = refl }

@@ -1,5 +1,0 @@
-use Rattle.saturation.proofs.AboutClosing.LawLemmas.{members_have_met}
-use Rattle.saturation.proofs.laws.outcomes.members_have_met.Goals as goal
-
-pub returns : goal.returns
-returns c = members_have_met
