@@ -1,4 +1,5 @@
 -- One rewrite step and the lines of all.
+pub mod BoundLemmas
 pub mod CallLemmas
 pub mod LineLemmas
 pub mod NameLemmas

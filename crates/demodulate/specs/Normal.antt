@@ -1,5 +1,6 @@
 -- Rewriting step by step, and normal forms.
 use Rattle.std.specs.Prelude.{◌≡◌, ℕ, ◌<◌, ◌≤◌, Bool, List, [], ◌∷◌, map, Option, None, Some, option_map, IsTrue, if◌then◌else◌}
+use Rattle.plain_types.specs.Names.{negative_of}
 use Rattle.fol_base.specs.Clause.{TreeClause, clause_size}
 use Rattle.fol_base.specs.Canonical.{IsCanonical, canonical_clause}
 use Rattle.fol_base.specs.Literal.{clause_of}
@@ -8,10 +9,9 @@ use Rattle.kernel_steps.specs.Inference.{RewritesBy}
 use Rattle.kernel_steps.specs.declared.step.TheConstants.{CLAUSE_NUMBERS}
 use Rattle.kernel_steps.specs.declared.step.Reduced.{Reduced}
 use Rattle.bank_clause.specs.Clause.{clause_at}
-use Rattle.bank_clause.specs.Parts.{assertion}
 use Rattle.bank_clause.specs.declared.member.Member.{Member}
-use Rattle.reduction.specs.Reduced.{IsReduced}
-use Rattle.reduction.specs.Extending.{GoesOn}
+use Rattle.reduced_clause.specs.Reduced.{IsReduced}
+use Rattle.reduced_clause.specs.Extending.{GoesOn}
 use Rattle.rewriting.specs.Units.{clause_numbered, is_kept}
 use Rattle.rewriting.specs.Redex.{AreNormal}
 use Rattle.rewriting.specs.Searching.{IsFoundOf}
@@ -107,7 +107,7 @@ pub record IsNextLine (clauses : ℕ → Option TreeClause) (c : TreeClause) (pa
   pub line : IsLineOf found.rewrite.unit c redex parent next.line
   pub canonical : IsCanonical found.rewrite.unit
   pub asserted : List ℕ
-  pub names : found.rewrite.unit.names ≡ map assertion asserted
+  pub names : found.rewrite.unit.names ≡ map negative_of asserted
 
 abbrev pub IsNext : (ℕ → Option TreeClause) → TreeClause → ℕ → Option NextLine → Type 0
 IsNext clauses c parent None = AreNormal clauses c.literals

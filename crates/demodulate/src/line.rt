@@ -57,7 +57,7 @@ pub(crate) fn rewriting_line(
     })
 }
 
-/// What the unit makes of the clause.
+/// The clause rewritten by the unit.
 fn rewritten(
     alloc: Global,
     bank: &Bank,

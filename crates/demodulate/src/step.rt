@@ -15,7 +15,7 @@ use crate::line::rewriting_line;
 use fol_base::Clause;
 use kernel_steps::{Line, Reduced};
 use plain_types::Mem;
-use reduction::{extend, last_number};
+use reduced_clause::{extend, last_number};
 use rewriting::Rewriters;
 use std::alloc::Global;
 
@@ -27,7 +27,7 @@ pub(crate) struct NextLine {
 }
 
 /// One rewriting step: the result so far is rewritten by a unit, its line is added, and the unit is noted. False exactly where no unit of
-/// the set, but for the one that is left out, rewrites it; then, and after want of memory, nothing is changed.
+/// the set, but for the one that is left out, rewrites it; then, and after an out-of-memory error, nothing is changed.
 pub fn rewrite_once(alloc: Global, by: &Rewriters<'_>, reduced: &mut Reduced) -> Mem<bool>
     requires units { AreClausesOf by.now.bank.now by.now.units.now }
     requires asserted { by.now.asserted.now ≡ assertions reduced.old.clause.names }

@@ -22,7 +22,7 @@ pub record IsWith {X : Type 0} (x : X) (fewer : List X) (more : List X) : Type 0
   pub without : fewer ≡ front ++ back
   pub with_it : more ≡ front ++ x ∷ back
 
--- what a list has behind another one with which it begins
+-- what a list has after another one with which it begins
 abbrev pub without_front : List ℕ → List ℕ → Option (List ℕ)
 without_front [] ys = Some ys
 without_front (x ∷ xs) [] = None

@@ -22,7 +22,7 @@ abbrev pub all_at : List Label → List (Tree × ℕ) → List Row
 all_at p [] = []
 all_at p (e ∷ es) = (p, e) ∷ all_at p es
 
--- the rows of a child, behind its label
+-- the rows of a child, after its label
 abbrev pub below : Label → List Row → List Row
 below l [] = []
 below l (r ∷ rs) = (l ∷ r.0, r.1) ∷ below l rs

@@ -78,7 +78,7 @@ impl Entry {
     }
 }
 
-/// What numbers have behind a term's variables. None where they don't begin with them.
+/// The numbers that come after a term's variables in a list. None where the list doesn't begin with these variables.
 #[cycle(without_variables)]
 fn without_variables<'a>(term: &Term, numbers: &'a [u32]) -> Option<&'a [u32]>
     ensures { MatchOption result (without_front (tree_variables (tree_of term.now)) numbers.now ≡ None)

@@ -19,7 +19,7 @@ use fol_base::Term;
 use plain_types::Mem;
 use std::sync::ledger::Ledger;
 
-/// What the test makes of the node's entries whose paths can be read along what is left, in the tree's order, up to the first that it accepts. The
+/// The test's answers for the node's entries whose paths can be read along what is left, in the tree's order, up to the first that it accepts. The
 /// stars before the node stand for terms too.
 #[cycle(first)]
 pub(crate) fn first_in<T, F: Fn(Generalisation<'_>) -> Mem<Option<T>>, L: Ledger>(
@@ -49,7 +49,7 @@ pub(crate) fn first_in<T, F: Fn(Generalisation<'_>) -> Mem<Option<T>>, L: Ledger
     }
 }
 
-/// The same for the child with a label, if there is one.
+/// The first accepted entry below the child with a label, if there is one.
 #[cycle(first)]
 fn first_child<T, F: Fn(Generalisation<'_>) -> Mem<Option<T>>, L: Ledger>(
     node: &Node,
@@ -70,7 +70,7 @@ fn first_child<T, F: Fn(Generalisation<'_>) -> Mem<Option<T>>, L: Ledger>(
     }
 }
 
-/// The same for a node or a tail.
+/// The first accepted entry of a node or a tail.
 #[cycle(first)]
 fn first_below<T, F: Fn(Generalisation<'_>) -> Mem<Option<T>>, L: Ledger>(
     below: &Below,
@@ -89,7 +89,7 @@ fn first_below<T, F: Fn(Generalisation<'_>) -> Mem<Option<T>>, L: Ledger>(
     }
 }
 
-/// The same for a tail of which these labels are left to read.
+/// The first accepted entry of a tail of which these labels are left to read.
 fn first_along<T, F: Fn(Generalisation<'_>) -> Mem<Option<T>>, L: Ledger>(
     tail: &Tail,
     labels: Labels<'_>,
@@ -127,7 +127,7 @@ fn first_along<T, F: Fn(Generalisation<'_>) -> Mem<Option<T>>, L: Ledger>(
     }
 }
 
-/// The same for entries at one path.
+/// The first accepted entry among those at one path.
 fn first_of<T, F: Fn(Generalisation<'_>) -> Mem<Option<T>>>(
     entries: &[Entry],
     stars: &Stars<'_>,

@@ -14,7 +14,7 @@ use crate::work::{Rest, Skipped};
 use fol_base::Term;
 use std::sync::ledger::Ledger;
 
-/// Whose variables may stand for terms.
+/// On which side variables may stand for terms.
 #[derive(Clone, Copy)]
 pub(crate) struct Varying {
     pub(crate) entry: bool,
@@ -82,7 +82,7 @@ pub(crate) fn fits<L: Ledger>(
     }
 }
 
-/// The same where a variable of the query stands against the first label.
+/// Whether the path fits where a variable of the query stands against the first label.
 #[cycle(fits)]
 fn fits_variable<L: Ledger>(
     label: Label,

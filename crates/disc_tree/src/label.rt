@@ -1,4 +1,4 @@
-// What stands at one place of a path.
+// Labels: the heads of terms, as a path has them.
 
 ghost use Rattle.std.specs.Prelude.{◌≡◌};
 ghost use Rattle.fol_base.specs.Term.{tree_of};

@@ -27,7 +27,7 @@ pub fn matchers_are_read_off()
     ensures { MatchersAreReadOff }
 {}
 
-/// What is found among the entries 1 at `f(X0,a)`, 2 at `f(b,X0)` and 3 at `g(a)`, and which terms are compatible: a variable
+/// The entries that are found among 1 at `f(X0,a)`, 2 at `f(b,X0)` and 3 at `g(a)`, and which terms are compatible: a variable
 /// that stands twice is none that has to be the same twice, and a symbol with fewer arguments is another one.
 pub fn examples()
     ensures unifiable { numbers_where (λ t. compatible t (f₂ b a)) three ≡ 1 ∷ 2 ∷ [] }

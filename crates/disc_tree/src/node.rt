@@ -22,7 +22,7 @@ use std::marker::Model;
 use std::mem;
 use std::sync::ledger::Ledger;
 
-/// What lies below a beginning of paths: the entries whose path ends here, and the children, in the order of their labels.
+/// The entries and children below a common beginning of paths: the entries whose path ends here, and the children, in the order of their labels.
 #[derive(Drop)]
 #[cycle(nodes)]
 pub(crate) struct Node {
@@ -38,7 +38,7 @@ struct Branch {
     below: Below,
 }
 
-/// What lies below a child's label: a node, or a tail where only one path goes on.
+/// The part of the tree below a child's label: a node, or a tail where only one path goes on.
 #[derive(Drop)]
 #[cycle(nodes)]
 pub(crate) enum Below {
@@ -93,7 +93,7 @@ impl Node {
         self.entries.as_slice()
     }
 
-    /// What lies below the child with a label, at one step.
+    /// The part of the tree below the child with a label, at one step.
     pub(crate) fn child<L: Ledger>(&self, label: Label, steps: &mut Steps<L>) -> Option<&Below>
         ensures child { MatchOption result (rows_at label self.now.1 ≡ [])
             (λ child. rows_below child.now ≡ rows_at label self.now.1) }
@@ -138,7 +138,7 @@ impl Node {
         self.entries.is_empty() && self.branches.is_empty()
     }
 
-    /// Puts an entry at the end of the path of what is left. After want of memory the node is as before.
+    /// Puts an entry at the end of the path of what is left. After an out-of-memory error the node is as before.
     #[cycle(insert)]
     pub(crate) fn insert(&mut self, alloc: Global, rest: &Rest<'_>, entry: Entry) -> Mem<()>
         ensures ok { IfOk result (λ _. IsWith (path_of_all (trees_left rest.now), entry) (rows self.old) (rows self.new)) }
@@ -164,7 +164,7 @@ impl Node {
         }
     }
 
-    /// A node with the rows of a tail, whose labels and entries it takes. After want of memory the tail is as before.
+    /// A node with the rows of a tail, whose labels and entries it takes. After an out-of-memory error the tail is as before.
     fn of_tail(alloc: Global, tail: &mut Tail) -> Mem<Node>
         requires { 1 ≤ length (tail_rows tail.old) }
         ensures ok { IfOk result (λ node. rows node ≡ tail_rows tail.old) }
@@ -223,7 +223,7 @@ impl Below {
         }
     }
 
-    /// Puts an entry at the end of the path of what is left. A tail on which it doesn't end becomes a node. After want of memory the rows are
+    /// Puts an entry at the end of the path of what is left. A tail on which it doesn't end becomes a node. After an out-of-memory error the rows are
     /// as before.
     #[cycle(insert)]
     fn add(&mut self, alloc: Global, rest: &Rest<'_>, entry: Entry) -> Mem<()>

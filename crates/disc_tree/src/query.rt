@@ -1,4 +1,4 @@
-// What a query finds.
+// Queries: the entries whose paths fit a term.
 
 ghost use Rattle.std.specs.Prelude.{◌≡◌, ◌≤◌, ◌++◌, [], suc, true, IfOk, if◌then◌else◌, length};
 ghost use Rattle.disc_tree.specs.Entries.{IsBeginning};
@@ -62,7 +62,7 @@ pub(crate) fn collect<L: Ledger>(
     }
 }
 
-/// The same for the star's child, where the entries' variables may stand for terms.
+/// Adds the numbers below the star's child, where the entries' variables may stand for terms.
 #[cycle(collect)]
 fn collect_star<L: Ledger>(
     node: &Node,
@@ -89,7 +89,7 @@ fn collect_star<L: Ledger>(
     }
 }
 
-/// The same for the child with a label, if there is one.
+/// Adds the numbers below the child with a label, if there is one.
 #[cycle(collect)]
 fn collect_child<L: Ledger>(
     node: &Node,
@@ -115,7 +115,7 @@ fn collect_child<L: Ledger>(
     }
 }
 
-/// The same for all children, where one term of the paths is passed over, and then so many more.
+/// Adds the numbers below all children, where one term of the paths is passed over, and then `skipped` more.
 #[cycle(collect)]
 fn collect_children<L: Ledger>(
     node: &Node,
@@ -138,7 +138,7 @@ fn collect_children<L: Ledger>(
     Ok(())
 }
 
-/// The same for a node or a tail.
+/// Adds the numbers of a node or a tail.
 #[cycle(collect)]
 fn collect_below<L: Ledger>(
     below: &Below,

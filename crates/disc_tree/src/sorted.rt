@@ -68,7 +68,7 @@ impl SortedEntries {
         self.entries.is_empty()
     }
 
-    /// Puts an entry into its place. After want of memory the entries are as before.
+    /// Puts an entry into its place. After an out-of-memory error the entries are as before.
     pub(crate) fn put(&mut self, entry: Entry) -> Mem<()>
         ensures ok { IfOk result (λ _. IsWith entry self.old self.new) }
         ensures err { OnErr result (self.new ≡ self.old) }

@@ -1,4 +1,4 @@
-// What the stars of a path stand for, as a list that lies in the callers' frames: it takes no memory.
+// The subterms for which the stars of a path stand, as a list that lies in the callers' frames: it takes no memory.
 
 use fol_base::Term;
 
@@ -17,6 +17,6 @@ pub struct Generalisation<'a> {
     pub number: u64,
     /// The variables of its term, from left to right.
     pub variables: &'a [u32],
-    /// What they stand for in the query, one by one, the last one first.
+    /// The subterms of the query for which they stand, one by one, the last one first.
     pub stars: &'a Stars<'a>,
 }

@@ -35,7 +35,7 @@ pub(crate) struct Labels<'a> {
 }
 
 impl<'a> Labels<'a> {
-    /// The first label and those behind it, and None at their end, at one step.
+    /// The first label and those after it, and None at their end, at one step.
     pub(crate) fn split_first<L: Ledger>(self, steps: &mut Steps<L>) -> Option<(Label, Labels<'a>)>
         ensures split { MatchOption result (labels_left self.entry ≡ []) (λ split. labels_left self.entry ≡ split.0 ∷ labels_left split.1) }
         ensures step { steps.new ≡ steps.old + 1 }
@@ -101,7 +101,7 @@ impl Tail {
         self.entries.is_empty()
     }
 
-    /// Puts an entry at the tail's end. After want of memory the tail is as before.
+    /// Puts an entry at the tail's end. After an out-of-memory error the tail is as before.
     pub(crate) fn put(&mut self, entry: Entry) -> Mem<()>
         ensures ok { IfOk result (λ _. IsWith (self.old.labels.items, entry) (tail_rows self.old) (tail_rows self.new)) }
         ensures err { OnErr result (self.new ≡ self.old) }

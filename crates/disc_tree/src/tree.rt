@@ -59,11 +59,11 @@ impl DiscTree {
         })
     }
 
-    /// Adds an entry. After want of memory the tree is as before.
+    /// Adds an entry. After an out-of-memory error the tree is as before.
     ///
     /// Its time is in proportion to the term's symbols and variables, with a search by halving among the children of each node on the way.
-    /// It moves the children behind a new one, and the entries with the same path that have higher numbers. Where the term's path leaves a tail, each
-    /// label on which both agree becomes a node, the tail's labels behind it are moved, and those that still agree are compared again: a tail of n labels
+    /// It moves the children after a new one, and the entries with the same path that have higher numbers. Where the term's path leaves a tail, each
+    /// label on which both agree becomes a node, the tail's labels after it are moved, and those that still agree are compared again: a tail of n labels
     /// that agrees in d costs up to d n moves and d d / 2 compares more.
     pub fn insert(&mut self, term: &Term, entry: u64) -> Mem<()>
         ensures ok { IfOk result (λ _. IsWith (tree_of term.now, entry) self.old self.new) }
@@ -94,7 +94,7 @@ impl DiscTree {
         Ok(Numbers::from_vec(found))
     }
 
-    /// The same where only a variable of the entry stands for another term: of those that may be generalisations of the query.
+    /// The numbers of exactly the entries that may be generalisations of the query: only a variable of the entry stands for another term.
     pub fn generalisations(&self, query: &Term) -> Mem<Numbers>
         ensures { IfOk result (λ numbers.
             numbers ≡ numbers_where (λ term. compatible_generalisation term (tree_of query.now)) self.now) }
@@ -104,7 +104,7 @@ impl DiscTree {
         Ok(Numbers::from_vec(found))
     }
 
-    /// The same where only a variable of the query does: of those that may be instances of it.
+    /// The numbers of exactly the entries that may be instances of the query: only a variable of the query stands for another term.
     pub fn instances(&self, query: &Term) -> Mem<Numbers>
         ensures { IfOk result (λ numbers.
             numbers ≡ numbers_where (λ term. compatible_instance term (tree_of query.now)) self.now) }
@@ -114,7 +114,7 @@ impl DiscTree {
         Ok(Numbers::from_vec(found))
     }
 
-    /// Adds what `unifiable` answers to a list of the caller's. After want of memory only some of it may be there, behind what the list had.
+    /// Adds what `unifiable` answers to a list of the caller's. After an out-of-memory error only some of it may be there, after the numbers that the list had.
     pub fn push_unifiable(&self, query: &Term, found: &mut Vec<u64>) -> Mem<()>
         ensures found { IfOk result (λ _. found.new.items
             ≡ found.old.items ++ numbers_where (λ term. compatible term (tree_of query.now)) self.now) }
@@ -123,7 +123,7 @@ impl DiscTree {
         self.push_uncounted(query, Varying::BOTH, found)
     }
 
-    /// Adds what `generalisations` answers to a list of the caller's. After want of memory only some of it may be there, behind what the list had.
+    /// Adds what `generalisations` answers to a list of the caller's. After an out-of-memory error only some of it may be there, after the numbers that the list had.
     pub fn push_generalisations(&self, query: &Term, found: &mut Vec<u64>) -> Mem<()>
         ensures found { IfOk result (λ _. found.new.items
             ≡ found.old.items ++ numbers_where (λ term. compatible_generalisation term (tree_of query.now)) self.now) }
@@ -132,9 +132,9 @@ impl DiscTree {
         self.push_uncounted(query, Varying::ENTRIES, found)
     }
 
-    /// What a test makes of the entries that `generalisations` answers, one after another, up to the first that it accepts by an answer other than
+    /// The answer of a test for the entries that `generalisations` finds, one after another, up to the first that it accepts by an answer other than
     /// None: that answer, and None where it accepts none. The test is handed what each variable of an entry's term stands for, so that it has the
-    /// matchers without a walk over either term (`laws::matchers_are_read_off`). No list is made, and what stands behind the accepted entry isn't
+    /// matchers without a walk over either term (`laws::matchers_are_read_off`). No list is made, and what comes after the accepted entry isn't
     /// read.
     pub fn first_generalisation<T, F: Fn(Generalisation<'_>) -> Mem<Option<T>>>(
         &self,
@@ -147,7 +147,7 @@ impl DiscTree {
         self.first_from::<T, F, Brand>(query, &test, Blank::new(1))
     }
 
-    /// The same on a new ledger, which nobody reads.
+    /// The counted call on a new ledger, which nobody reads.
     fn first_from<T, F: Fn(Generalisation<'_>) -> Mem<Option<T>>, L: Ledger>(
         &self,
         query: &Term,
@@ -165,7 +165,7 @@ impl DiscTree {
         first_in(&self.root, &rest, &Stars::Nothing, test, &mut steps)
     }
 
-    /// Adds what `instances` answers to a list of the caller's. After want of memory only some of it may be there, behind what the list had.
+    /// Adds what `instances` answers to a list of the caller's. After an out-of-memory error only some of it may be there, after the numbers that the list had.
     pub fn push_instances(&self, query: &Term, found: &mut Vec<u64>) -> Mem<()>
         ensures found { IfOk result (λ _. found.new.items
             ≡ found.old.items ++ numbers_where (λ term. compatible_instance term (tree_of query.now)) self.now) }
@@ -174,7 +174,7 @@ impl DiscTree {
         self.push_uncounted(query, Varying::QUERIES, found)
     }
 
-    /// What `unifiable` answers. Each read of a node is a step: a child by its label or by its place, how many children there are, or the
+    /// The answer of `unifiable`. Each read of a node is a step: a child by its label or by its place, how many children there are, or the
     /// entries.
     pub fn unifiable_counted<L: Ledger>(&self, query: &Term, steps: &mut Steps<L>) -> Mem<Numbers>
         ensures found { IfOk result (λ numbers.
@@ -188,7 +188,7 @@ impl DiscTree {
         self.find(query, Varying::BOTH, steps)
     }
 
-    /// What `generalisations` answers, with a step for each read of a node.
+    /// The answer of `generalisations`, with a step for each read of a node.
     pub fn generalisations_counted<L: Ledger>(
         &self,
         query: &Term,
@@ -241,7 +241,7 @@ impl DiscTree {
         collect(&self.root, &Skipped::Closed, &rest, varying, found, steps)
     }
 
-    /// The same for a caller that counts nothing.
+    /// Adds these numbers for a caller that counts nothing.
     fn push_uncounted(&self, query: &Term, varying: Varying, found: &mut Vec<u64>) -> Mem<()>
         ensures found { IfOk result (λ _. found.new.items ≡ found.old.items
             ++ numbers_where (λ term. compatible_by varying.entry varying.query term (tree_of query.now)) self.now) }
@@ -250,7 +250,7 @@ impl DiscTree {
         self.push_from::<Brand>(query, varying, found, Blank::new(1))
     }
 
-    /// The same on a new ledger, which nobody reads.
+    /// The counted call on a new ledger, which nobody reads.
     fn push_from<L: Ledger>(
         &self,
         query: &Term,

@@ -1,4 +1,4 @@
-// What is left to read of a query, as lists that lie in the callers' frames: they take no memory.
+// The terms of a query that are left to read, as lists that lie in the callers' frames: they take no memory.
 
 ghost use Rattle.std.specs.Prelude.{◌≡◌, ◌+◌, ◌++◌, map};
 ghost use Rattle.fol_base.specs.Term.{tree_of};
@@ -14,7 +14,7 @@ pub(crate) enum Rest<'a> {
     Then(&'a Term, &'a [Term], &'a Rest<'a>),
 }
 
-/// How many terms of a path are still to be passed over: one and so many more, and those of the frames below. No sum is made, so none
+/// How many terms of a path are still to be passed over: one and a number more, and those of the frames below. No sum is made, so none
 /// can overflow.
 #[derive(Clone, Copy)]
 pub(crate) enum Skipped<'a> {
@@ -35,7 +35,7 @@ impl<'a> Rest<'a> {
 }
 
 impl<'a> Skipped<'a> {
-    /// So many terms, and then what is left below.
+    /// A number of terms, and then those that are left below.
     pub(crate) fn of(count: usize, below: &'a Skipped<'a>) -> Skipped<'a>
         ensures { terms_left result ≡ count + terms_left below.now }
     {

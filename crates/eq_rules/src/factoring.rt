@@ -28,7 +28,7 @@ use term_bank::Bank;
 use unifier::{Bindings, unify};
 
 /// Every equality factoring of a clause, each once: `Heavy` exactly where the clause under the unifier, or the conclusion, has over
-/// `MOST_SYMBOLS` symbols. Memory is also wanting where that instance, which has to be looked at, has `SIZE_LIMIT` symbols or more.
+/// `MOST_SYMBOLS` symbols. Out of memory is also answered where that instance, which has to be looked at, has `SIZE_LIMIT` symbols or more.
 pub fn factorings(alloc: Global, bank: &Bank, given: &Member, mode: Selection) -> Mem<Inferences>
     requires { IsMemberOf bank.now given.now }
     ensures { IfOk result (AreInferencesOf (mode_of mode) given.now is_factoring) }
@@ -142,7 +142,7 @@ pub fn is_not_below<S: LendsTerms>(literal: LiteralRef<'_>, side: Side, bind: &S
     !greater_under(other, bind, chosen, bind) && !same_instance(other, bind, chosen, bind)
 }
 
-/// What becomes of the factoring by two sides of a clause where nothing is chosen. None where there is none.
+/// The result of the factoring by two sides of a clause where nothing is selected. None where there is none.
 fn factoring(alloc: Global, bank: &Bank, given: &Member, place: FactorPlace) -> Mem<Option<Made>>
     requires member { IsMemberOf bank.now given.now }
     requires becomes_inside { place.becomes.literal < length (clause_at given.now.clause).literals }
@@ -183,7 +183,7 @@ fn are_alike(
         && first.other_side(first_side).is_truth() == second.other_side(second_side).is_truth()
 }
 
-/// What becomes of the factoring by two sides and a unifier of them.
+/// The result of the factoring by two sides and a unifier of them.
 fn factoring_by(
     alloc: Global,
     bank: &Bank,

@@ -4,7 +4,7 @@ use fol_base::Clause;
 use kernel_steps::{Key, Step};
 use plain_types::Sequence;
 
-/// What becomes of an inference.
+/// The result of an inference.
 #[derive(Drop)]
 pub enum Made {
     /// The step, whose parents are the numbers of the premises, and its conclusion.

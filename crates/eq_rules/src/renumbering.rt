@@ -40,7 +40,7 @@ impl Renumbering {
         }
     }
 
-    /// The number of a variable, the next one where the variable is new. After want of memory the list is as before.
+    /// The number of a variable, the next one where the variable is new. After an out-of-memory error the list is as before.
     pub fn number(&mut self, variable: u32) -> Mem<u32>
         ensures met { IfOk result (λ _. self.new ≡ with_variable self.old variable) }
         ensures unchanged { OnErr result (self.new ≡ self.old) }

@@ -23,7 +23,7 @@ use term_bank::Bank;
 use unifier::{Bindings, unify};
 
 /// Every equality resolution of a clause, each once: `Heavy` exactly where the clause under the unifier has over `MOST_SYMBOLS`
-/// symbols. Memory is also wanting where that instance, which has to be looked at, has `SIZE_LIMIT` symbols or more.
+/// symbols. Out of memory is also answered where that instance, which has to be looked at, has `SIZE_LIMIT` symbols or more.
 pub fn resolutions(alloc: Global, bank: &Bank, given: &Member, mode: Selection) -> Mem<Inferences>
     requires { IsMemberOf bank.now given.now }
     ensures { IfOk result (AreInferencesOf (mode_of mode) given.now is_resolution) }
@@ -53,7 +53,7 @@ pub fn choice_of(bank: &Bank, given: &Member, mode: Selection) -> Option<usize>
     selected(&given.clause.lend(bank), mode)
 }
 
-/// What becomes of the resolution of a literal. None where there is none.
+/// The result of the resolution of a literal. None where there is none.
 fn resolution(
     alloc: Global,
     bank: &Bank,
@@ -90,7 +90,7 @@ fn is_other_chosen(choice: Option<usize>, index: usize) -> bool
     }
 }
 
-/// What becomes of the resolution of a literal by a unifier of its sides. Where the literal is chosen, nothing is compared, so an
+/// The result of the resolution of a literal by a unifier of its sides. Where the literal is chosen, nothing is compared, so an
 /// instance that is too large isn't built.
 fn resolution_by(
     alloc: Global,

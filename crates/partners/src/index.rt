@@ -30,7 +30,7 @@ pub(crate) fn site_of(entry: u64) -> (u32, usize)
     ((entry / MOST_SITES) as u32, (entry % MOST_SITES) as usize)
 }
 
-/// Adds the sites of a member. After want of memory some may have been added.
+/// Adds the sites of a member. After an out-of-memory error some may have been added.
 pub(crate) fn put_sites<S: Site>(
     tree: &mut DiscTree,
     literals: &BankLiterals<'_>,
@@ -96,7 +96,7 @@ fn take_site<S: Site>(
     }
 }
 
-/// The same numbers in order, each once. So what is tried doesn't depend on the form of the tree.
+/// These numbers in order, each once. So what is tried doesn't depend on the form of the tree.
 pub fn in_order(found: Numbers) -> Numbers
     ensures rise { IsStrictlyIncreasing result }
     ensures same { (n : ℕ) → Contains result n ↔ Contains found n }

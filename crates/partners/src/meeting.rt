@@ -31,7 +31,7 @@ use term_bank::Bank;
 
 impl Partners {
     /// Adds every superposition between a clause and each member whose position is below the bound, both ways, each once. The condition is
-    /// that the clause has the number of none of these. After want of memory the list is as before. Memory is also wanting where a clause
+    /// that the clause has the number of none of these. After an out-of-memory error the list is as before. Out of memory is also answered where a clause
     /// under a unifier has `SIZE_LIMIT` symbols or more.
     pub fn superpositions(
         &self,
@@ -58,7 +58,7 @@ impl Partners {
         }
     }
 
-    /// The same, but after want of memory some may have been added.
+    /// Adds them; after an out-of-memory error some may have been added.
     fn push_superpositions(
         &self,
         alloc: Global,

@@ -75,7 +75,7 @@ impl Partner {
         }
     }
 
-    /// The same, if its position is below the bound.
+    /// That member with its sites, if its position is below the bound.
     fn premise_before(&self, bound: usize) -> Option<Premise<'_>>
         ensures member { option_map (λ p. p.member.now) result ≡ (if nat_lt self.now.position bound then Some self.now.member else None) }
         ensures sites { IfSome result (λ p. p.sites.now ≡ self.now.sites) }
@@ -105,7 +105,7 @@ impl Partners {
         })
     }
 
-    /// Adds an equal member, and finds its sites. The condition is that none with its number is there. After want of memory the set is as
+    /// Adds an equal member, and finds its sites. The condition is that none with its number is there. After an out-of-memory error the set is as
     /// before. Its time is in proportion to the terms at the sites, with a search among the children of the trees' nodes.
     pub fn insert(&mut self, bank: &Bank, member: &Member, position: usize) -> Mem<()>
         requires member { IsMemberOf bank.now member.now }
@@ -184,7 +184,7 @@ impl Partners {
         }
     }
 
-    /// The same, if its position is below the bound.
+    /// That member with its sites, if its position is below the bound.
     pub fn partner(&self, number: u32, bound: usize) -> Option<Premise<'_>>
         ensures member { option_map (λ p. p.member.now) result ≡ partner_before bound self.now number }
         ensures sites { IfSome result (λ p. AreSitesFor self.now.mode p.member.now p.sites.now) }
@@ -212,7 +212,7 @@ impl Partners {
     }
 }
 
-/// Adds the sites of a member to both trees. After want of memory none of them is there.
+/// Adds the sites of a member to both trees. After an out-of-memory error none of them is there.
 fn put_all(
     starts: &mut DiscTree,
     places: &mut DiscTree,
@@ -234,7 +234,7 @@ fn put_all(
     }
 }
 
-/// The same, but after want of memory some may have been added.
+/// Adds them; after an out-of-memory error some may have been added.
 fn put_both(
     starts: &mut DiscTree,
     places: &mut DiscTree,

@@ -52,7 +52,7 @@ abbrev pub IsFoundAt : (ℕ → Option TreeClause) → Spot → Tree → Option 
 IsFoundAt clauses spot old None = HasRedex clauses spot old → ⊥
 IsFoundAt clauses spot old (Some r) = IsRewrite clauses spot old r
 
--- a rewrite at a place of a term, which a path has behind what it had before
+-- a rewrite at a place of a term, which a path has after what it had before
 pub record IsPlaced (clauses : ℕ → Option TreeClause) (spot : Spot) (t : Tree) (before path : List ℕ) (r : Rewrite) : Type 0 where
   pub place : List ℕ
   pub path_is : path ≡ before ++ place

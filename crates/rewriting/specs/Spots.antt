@@ -1,4 +1,4 @@
--- Spots as the program has them.
+-- Where a term stands that may be rewritten: at the root of an atom's side, of an equation's side, or below (as `src/spot.rt` has it).
 use Rattle.std.specs.Prelude.{◌<◌, option_map, IfSome}
 use Rattle.fol_base.specs.Tree.{tree_size}
 use Rattle.fol_base.specs.Term.{tree_of}

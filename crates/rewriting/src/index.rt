@@ -74,7 +74,7 @@ pub(crate) fn orient(alloc: Global, equation: LiteralRef<'_>) -> Mem<Orientation
     })
 }
 
-/// Adds the sides by which an equation may rewrite. After want of memory the sides of other equations are as before.
+/// Adds the sides by which an equation may rewrite. After an out-of-memory error the sides of other equations are as before.
 pub(crate) fn put_sides(
     sides: &mut DiscTree,
     number: u32,

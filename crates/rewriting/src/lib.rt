@@ -1,16 +1,39 @@
-// Units, and where they rewrite a clause: the search for redexes (Knuth and Bendix 1970), over a tree of the units' sides.
-//
-// Units are kept in a map by their numbers, and the sides by which they may rewrite in a discrimination tree. A side may where each
-// variable of the other side occurs in it and the other side isn't greater, which is found once, when the unit comes. `units.rt` has the
-// set, `index.rt` the entries of the tree, `spot.rt` where a term stands as far as a step asks, `trying.rt` which unit rewrites one term,
-// `searching.rt` the walk over a clause, `usable.rt` which clauses may be used for another one, and `members.rt` the members of a list
-// that a unit rewrites.
-//
-// The walk goes over the literals, left side before right, and in each side from the inside out. At each application it asks the tree for
-// the generalisations of the term; each is matched, and the term is compared with the instance of the other side, which isn't built. It
-// stops at the first unit that rewrites. What it shows is stated on the terms alone, as a *redex*; that a redex is a rewriting step of
-// the definition, and the other way round, under each use of the symbols under which the clauses are well-formed, is a law beside it
-// (`redexes_are_rewritten`). The one thing of kinds that the code has to ask is that a variable doesn't stand for an atom.
+//! The search for a redex: which unit equation rewrites which term of a clause.
+//!
+//! A unit `s = t` rewrites an instance of `s` to the same instance of `t` where the result is smaller in the term order (Knuth and Bendix
+//! 1970). A prover simplifies every clause by its known unit equations, so most terms that are looked at are not redexes, and the search has
+//! to say no quickly. This crate finds a redex or shows that there is none; `demodulate` makes the step and repeats it.
+//!
+//! **The set of units.** `units.rt` keeps unit equations in a map by their numbers. Their sides stand in a discrimination tree (`disc_tree`;
+//! McCune 1992), each under a number that tells the unit and the side (`index.rt`). A side is put in only if it can rewrite at all: every
+//! variable of the other side occurs in it, and the other side isn't greater. Both are found once, when the unit comes. An equation whose
+//! sides are incomparable is put in twice, and the order is asked again at each instance.
+//!
+//! **The search.** `searching.rt` walks over the literals of a clause, left side before right, and through each side from the inside out, so
+//! the arguments of a redex are in normal form when it is found. At each application `trying.rt` asks the tree for the generalisations of the
+//! term. For each of them it asks, cheapest first:
+//!
+//! 1. Is the unit left out (`left_out`), so that no clause rewrites itself? Are the unit's assertions among those of the clause? A unit that
+//!    holds only under a component of a split may rewrite only clauses that hold under it too (`usable.rt`).
+//! 2. Has the unit more than twice as many symbols as the term? Then the instance of its other side can't be smaller.
+//! 3. Does the side match the term, and is the instance of the other side smaller? The instance is never built: it is compared through the
+//!    match (`kbo_order`).
+//!
+//! The first unit that passes is the answer. `spot.rt` tells what the place of the term adds: a variable may not stand for an atom, and at
+//! a side of a positive literal the new term must be smaller than the other side too. Otherwise the unit's instance would not be smaller than
+//! the literal that it rewrites, and the clause would not be redundant.
+//!
+//! `members.rt` asks the other way round: which clauses of a list does one new unit rewrite? It serves backward simplification.
+//!
+//! **What is proved.** `Rewriters::find` answers a redex of the definition, and none exactly where there is none, whatever the tree holds
+//! besides. The tree may hand out too many candidates, each is checked; that it hands out every side that matches is the set's invariant. A
+//! redex is stated on terms alone. The law `redexes_are_rewritten` says that redexes are the rewriting steps of the calculus, and the other
+//! way round, for every assignment of symbols to functions and predicates under which the clauses are well-formed.
+//!
+//! **Hints.** In which order the tree lists its candidates decides only which redex is found first. No answer rests on it.
+//!
+//! **Cost.** One query of the tree for each application in the clause. The size test of step 2 and the stored orientation keep most
+//! candidates from being matched. A search takes memory for the path to the term and for the answers of the tree; nothing is kept.
 #![tactic(auto)]
 
 mod index;

@@ -139,7 +139,7 @@ impl<'a> Rewriters<'a> {
         }
     }
 
-    /// The same for the arguments of a term: the number of the argument comes first.
+    /// Searches the arguments of a term: the number of the argument comes first.
     #[cycle(find_in_term)]
     fn find_in_terms<'t>(
         &self,

@@ -20,7 +20,7 @@ use unifier::Matched;
 pub(crate) struct Spot<'s> {
     /// At the root of a side of an atom.
     pub(crate) is_atom: bool,
-    /// What is put there has to be below this term, as at a root of an equation.
+    /// The new term has to be below this one, as at a root of an equation.
     pub(crate) limit: Option<&'s Term>,
 }
 

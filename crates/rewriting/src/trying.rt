@@ -122,7 +122,7 @@ fn is_too_large(unit: &BankClause, size: u64) -> bool
     u64::from(unit.size()) > 2 * size
 }
 
-/// What the variables of an equation become where a side of it rewrites a term, which has a size, at a spot; the other side has no other
+/// The matcher by which a side of an equation rewrites a term, which has a size, at a spot; the other side has no other
 /// variables. None exactly where it doesn't.
 fn match_side<'t>(
     alloc: Global,

@@ -72,7 +72,7 @@ impl Units {
         })
     }
 
-    /// Adds a unit, of which a copy is kept. After want of memory the set is as before.
+    /// Adds a unit, of which a copy is kept. After an out-of-memory error the set is as before.
     pub fn insert(&mut self, bank: &Bank, member: &Member) -> Mem<()>
         requires member { IsMemberOf bank.now member.now }
         requires unit { IsUnit (clause_at member.now.clause) }

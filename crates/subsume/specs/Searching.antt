@@ -39,7 +39,7 @@ AreNumbersWhere Does (m ∷ ms) ns =
     ((rest : List ℕ) × Does m × (ns ≡ m.number ∷ rest) × AreNumbersWhere Does ms rest)
     ⊎ ((Does m → ⊥) × AreNumbersWhere Does ms ns)
 
--- a list of numbers with those of exactly the other members that a member subsumes behind it
+-- a list of numbers with those of exactly the other members that a member subsumes after it
 pub record AddsSubsumed (by : Member) (ms : List Member) (before after : List ℕ) : Type 0 where
   pub numbers : List ℕ
   pub added : after ≡ before ++ numbers

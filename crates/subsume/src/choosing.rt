@@ -14,7 +14,7 @@ use plain_types::Mem;
 use std::alloc::Global;
 use unifier::Matched;
 
-/// So many partners are counted at a step, shared out evenly among the patterns: the more patterns, the sooner counts stop being compared.
+/// How many partners are counted at a step, shared out evenly among the patterns: the more patterns, the sooner counts stop being compared.
 const COUNTED: usize = 1024;
 
 /// Counts go as far as this at least, so that a pattern with one partner or none is told among any number of patterns.
@@ -81,7 +81,7 @@ pub(crate) fn choose(
             return Ok(None);
         }
         if partners == 1 && patterns[index].right.is_truth() {
-            // An atom turns one way alone, so a search never comes back to place it anew: nothing is lost if those behind aren't looked at.
+            // An atom turns one way alone, so a search never comes back to place it anew: nothing is lost if the patterns after it aren't looked at.
             return Ok(Some(index));
         }
         if partners < fewest {
@@ -93,7 +93,7 @@ pub(crate) fn choose(
     if crowded { Ok(None) } else { Ok(Some(chosen)) }
 }
 
-/// How many partners of each pattern are counted, where there are so many patterns.
+/// How many partners of each pattern are counted, by the number of patterns.
 fn most_counted(patterns: usize) -> usize
     requires { 0 < patterns }
 {

@@ -48,7 +48,7 @@ impl FeatureTree {
     }
 }
 
-/// The same for entries.
+/// Adds the numbers of the entries that a member subsumes.
 fn collect_entries(
     alloc: Global,
     bank: &Bank,

@@ -45,7 +45,7 @@ pub(crate) fn are_crowded(
     )
 }
 
-/// The same, where the marks are at hand to be added to.
+/// Whether the pattern's partners are too few, where the marks may be changed.
 fn is_room_short(
     alloc: Global,
     pattern: LiteralRef<'_>,

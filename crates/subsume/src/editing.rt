@@ -25,7 +25,7 @@ struct Cut {
 }
 
 impl FeatureTree {
-    /// Puts an entry in. After want of memory the members are as before.
+    /// Puts an entry in. After an out-of-memory error the members are as before.
     #[cycle(insert)]
     pub(crate) fn insert(&mut self, alloc: Global, entry: Entry) -> Mem<()>
         requires { IsEntry entry }
@@ -46,7 +46,7 @@ impl FeatureTree {
     }
 }
 
-/// Puts an entry into a node. After want of memory the members are as before.
+/// Puts an entry into a node. After an out-of-memory error the members are as before.
 #[cycle(insert)]
 fn insert_into(alloc: Global, node: &mut Node, entry: Entry) -> Mem<()>
     requires entry { IsEntry entry }
@@ -69,7 +69,7 @@ fn insert_into(alloc: Global, node: &mut Node, entry: Entry) -> Mem<()>
     }
 }
 
-/// Puts an entry on the side of a division on which it belongs. After want of memory the members are as before.
+/// Puts an entry on the side of a division on which it belongs. After an out-of-memory error the members are as before.
 #[cycle(insert)]
 fn insert_beside(alloc: Global, division: &mut Division, entry: Entry) -> Mem<()>
     requires entry { IsEntry entry }
@@ -100,7 +100,7 @@ fn remove_from(node: &mut Node, features: &Features, number: u32) -> bool
     }
 }
 
-/// The same of the side of a division on which the features belong.
+/// Takes the entry out of the side of a division on which the features belong.
 #[cycle(remove)]
 fn remove_beside(division: &mut Division, features: &Features, number: u32) -> bool
     requires { IsDivision division.old }
@@ -133,7 +133,7 @@ fn remove_entry(entries: &mut Vec<Entry>, number: u32) -> bool
     }
 }
 
-/// Whether a leaf of so many entries is worth the look for a division. Where none is found, the next look is at twice as many, so that
+/// Whether a leaf of that many entries is worth the look for a division. Where none is found, the next look is at twice as many, so that
 /// many entries of the same features cost little.
 fn may_divide(entries: usize) -> bool {
     entries > LEAF_ENTRIES && entries.is_power_of_two()

@@ -1,4 +1,4 @@
-// What an index keeps of a member.
+// The entries of an index: members with their features.
 
 use crate::vector::Features;
 use bank_clause::Member;

@@ -49,7 +49,7 @@ impl FeatureTree {
     }
 }
 
-/// The same for entries.
+/// The lowest subsumer among entries, below a bound.
 fn lowest_entry(
     alloc: Global,
     bank: &Bank,

@@ -46,7 +46,7 @@ fn may_become(alloc: Global, pattern: &Term, target: &Term, so_far: &Matched<'_>
     }
 }
 
-/// The same for the terms at each place of two lists.
+/// Whether the terms at each place of two lists may match.
 #[cycle(may_become)]
 fn all_may_become(
     alloc: Global,
@@ -69,7 +69,7 @@ fn all_may_become(
     Ok(true)
 }
 
-/// The same for a variable. One that is lent as itself has a pair or none: that is found out by a match.
+/// Whether a variable may match. One that is lent as itself has a pair or none: that is found out by a match.
 fn variable_may_become(
     alloc: Global,
     number: u32,

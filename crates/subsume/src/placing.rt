@@ -76,7 +76,7 @@ fn all_but<'a>(alloc: Global, literals: &[LiteralRef<'a>], index: usize) -> Mem<
     Ok(rest)
 }
 
-/// The same for the rest, where a pattern is mapped to a target, by either order of its sides. Of an atom's sides only one order comes
+/// Places the rest after a pattern was mapped to a target, by either order of its sides. Of an atom's sides only one order comes
 /// into question.
 #[cycle(place)]
 fn place_onto<'a>(
@@ -117,7 +117,7 @@ fn place_onto<'a>(
     )
 }
 
-/// The same where each side of a pattern becomes the same side of the target.
+/// Places the rest where each side of a pattern becomes the same side of the target.
 #[cycle(place)]
 fn place_sides<'a>(
     alloc: Global,

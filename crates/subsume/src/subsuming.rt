@@ -88,7 +88,7 @@ fn find_matcher<'a, L: LendsLiterals>(
     find_places(alloc, patterns.as_slice(), targets)
 }
 
-/// The same for literals that are lent, whatever is asserted.
+/// The pairs for literals that are lent, whatever is asserted.
 fn find_places<'a>(
     alloc: Global,
     patterns: &[LiteralRef<'_>],

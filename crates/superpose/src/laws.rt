@@ -48,7 +48,7 @@ pub fn site_examples()
     ensures not_chosen { IsFalse (can_enter select_negative (not_p (x 0) ∷ q (x 0) ∷ []) (side_at 1 Left)) }
 {}
 
-/// What is asked of two sites: at the root of a positive literal the other sides mustn't become one term.
+/// The condition on two sites: at the root of a positive literal the other sides mustn't become one term.
 pub fn superposition_examples()
     ensures named { para_key 3 (side_at 0 Right) 5 (place_at 1 Left (2 ∷ [])) ≡ Para 3 0 Right 5 1 Left (2 ∷ []) }
     ensures coincide { IsTrue (others_coincide (side_at 0 Left) (place_at 0 Left []) variable variable (equation (f a) b) (equation (f a) b)) }

@@ -28,7 +28,7 @@ use plain_types::Mem;
 use std::alloc::Global;
 use term_bank::Bank;
 
-/// Every superposition between two clauses, both ways, each once. The condition is that the numbers differ. Memory is also wanting where a
+/// Every superposition between two clauses, both ways, each once. The condition is that the numbers differ. Out of memory is also answered where a
 /// clause under a unifier has `SIZE_LIMIT` symbols or more.
 pub fn between(
     alloc: Global,
@@ -58,7 +58,7 @@ pub fn between(
     Ok(Inferences::from_vec(found))
 }
 
-/// Every superposition of a clause into a renamed copy of itself, each once. Memory is also wanting where a clause under a unifier has
+/// Every superposition of a clause into a renamed copy of itself, each once. Out of memory is also answered where a clause under a unifier has
 /// `SIZE_LIMIT` symbols or more.
 pub fn within(alloc: Global, bank: &Bank, given: &Member, mode: Selection) -> Mem<Inferences>
     requires { IsMemberOf bank.now given.now }
@@ -74,7 +74,7 @@ pub fn within(alloc: Global, bank: &Bank, given: &Member, mode: Selection) -> Me
     Ok(Inferences::from_vec(found))
 }
 
-/// Adds every superposition of the first clause into the second, each once. After want of memory the list is as before.
+/// Adds every superposition of the first clause into the second, each once. After an out-of-memory error the list is as before.
 pub fn superpositions(
     alloc: Global,
     bank: &Bank,
@@ -103,7 +103,7 @@ pub fn superpositions(
     }
 }
 
-/// Adds every superposition of the first clause into the second. After want of memory some may have been added.
+/// Adds every superposition of the first clause into the second. After an out-of-memory error some may have been added.
 fn push_superpositions(
     alloc: Global,
     bank: &Bank,
@@ -126,7 +126,7 @@ fn push_superpositions(
     Ok(())
 }
 
-/// Adds every superposition from one site of the first clause into the second. After want of memory some may have been added.
+/// Adds every superposition from one site of the first clause into the second. After an out-of-memory error some may have been added.
 fn superpositions_from(
     alloc: Global,
     bank: &Bank,
@@ -163,7 +163,7 @@ fn superpositions_from(
     Ok(())
 }
 
-/// Adds the inference of a name, if there is one. After want of memory the list is as before.
+/// Adds the inference of a name, if there is one. After an out-of-memory error the list is as before.
 pub fn push_made(
     alloc: Global,
     first: &Member,

@@ -47,7 +47,7 @@ use unifier::{Bindings, unify};
 
 /// The superposition from a site of the first clause into one of the second, by the sites' indices: what becomes of the inference of that
 /// name. None exactly where there is none. `Heavy` exactly where the conclusion, or a clause under the unifier, has over `MOST_SYMBOLS`
-/// symbols. Memory is also wanting where such a clause, which has to be looked at, has `SIZE_LIMIT` symbols or more.
+/// symbols. Out of memory is also answered where such a clause, which has to be looked at, has `SIZE_LIMIT` symbols or more.
 pub fn superposition(
     alloc: Global,
     bank: &Bank,
@@ -72,7 +72,7 @@ pub fn superposition(
     superposition_at(alloc, bank, first, start, second, target)
 }
 
-/// The same for a side and a place that may be sites.
+/// The superposition from a side into a place that may be sites.
 pub fn superposition_at(
     alloc: Global,
     bank: &Bank,
@@ -139,7 +139,7 @@ fn are_alike(
     !old.is_truth() && is_atom == is_atom_here
 }
 
-/// What becomes of the superposition by a unifier of the side and the term at the place. The sizes under the unifier are told only where
+/// The result of the superposition by a unifier of the side and the term at the place. The sizes under the unifier are told only where
 /// the clauses' own sizes don't show that they are small. Where the clauses alone tell that the order allows it, a clause that is too large
 /// isn't built.
 fn superposition_by(
@@ -190,7 +190,7 @@ fn are_surely_small(left: &BankClause, right: &BankClause, unified_size: u64) ->
     unified_size.saturating_mul(size) <= MOST_SYMBOLS
 }
 
-/// Whether one of two clauses of so many symbols, or what is inferred from them by a side of `unified_size` symbols, has over
+/// Whether one of two clauses of these sizes, or their conclusion by a side of `unified_size` symbols, has over
 /// `MOST_SYMBOLS` symbols.
 fn is_heavy(left_size: u64, right_size: u64, unified_size: u64) -> bool
     requires left { left_size < SIZE_LIMIT }
@@ -202,7 +202,7 @@ fn is_heavy(left_size: u64, right_size: u64, unified_size: u64) -> bool
     left_size.max(right_size).max(made_size) > MOST_SYMBOLS
 }
 
-/// What becomes of the superposition by a unifier under which the clauses are small enough for the order to be asked, where it is known
+/// The result of the superposition by a unifier under which the clauses are small enough for the order to be asked, where it is known
 /// whether they, or the conclusion, have over `MOST_SYMBOLS` symbols.
 fn ordered_superposition(
     alloc: Global,

@@ -1,6 +1,4 @@
 -- A map of the proofs, by topic; what is proved of one function stands in the folder of its module.
--- AboutReadings: what a line's text says: clauses, formulas, bindings, names.
-pub mod AboutReadings
 -- AboutVerdicts: the verdict on a line, by its kind.
 pub mod AboutVerdicts
 -- AboutDerivations: the whole text.

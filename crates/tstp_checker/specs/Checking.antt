@@ -13,12 +13,12 @@ use Rattle.tstp_checker.specs.Causes.{cause_meant}
 use Rattle.tstp_checker.specs.declared.derivation.CheckFault.{CheckFault}
 use Rattle.tstp_checker.specs.declared.derivation.CheckFault.TheVariants.{NoMemory, Refused}
 
--- what is told of a refusal; want of memory may be answered anywhere
+-- what is told of a refusal; out of memory may be answered anywhere
 abbrev pub IsRefusalWhere : (ℕ → LineCause → Type 0) → CheckFault → Type 0
 IsRefusalWhere is NoMemory = ⊤
 IsRefusalWhere is (Refused line cause) = is line (cause_meant cause)
 
--- The line at the token `first` is taken behind those before it. The token `next` is the first behind it.
+-- The line at the token `first` is taken after those before it. The token `next` is the first after it.
 pub record IsTakenAt (bytes : List ℕ) (s : Setting) (first : ℕ) (before : Taken) (next : ℕ) (after : Taken) : Type 0 where
   pub tree : LineTree
   pub spelled : SpellsLines (drop first (text_tokens bytes)) (tree ∷ []) (drop next (text_tokens bytes))
@@ -33,7 +33,7 @@ IsRefusedAt bytes s first before number cause =
     ⊎ (tree : LineTree) × (more : List Lexeme) × SpellsLines (drop first (text_tokens bytes)) (tree ∷ []) more
     × (then_line s (all_taken before) tree ≡ refused_at number cause)
 
--- the answer behind the last token, by the fault of the tokens and the lines that are taken
+-- the answer after the last token, by the fault of the tokens and the lines that are taken
 abbrev pub ending_answer : Option LexFault → List NamedLine → Answer
 ending_answer (Some fault) lines = refused_line (length lines + 1) text
 ending_answer None lines =

@@ -1,8 +1,9 @@
 -- What lines of clauses come from.
 use Rattle.std.specs.Prelude.{ℕ, Bool, true, false, ◌&&◌, List, [], ◌∷◌, Option, None, Some, option_map, option_and_then, unwrap_or, slice_get, if◌then◌else◌}
+use Rattle.plain_types.specs.Names.{positive_of}
 use Rattle.fol_base.specs.Clause.{TreeLiteral, TreeClause, clause_eq}
 use Rattle.fol_base.specs.Ground.{is_ground_literal}
-use Rattle.kernel_steps.specs.Derivation.{positive_of, complement, component_clause}
+use Rattle.kernel_steps.specs.Derivation.{complement, component_clause}
 use Rattle.clausal_form.specs.DerivationItems.{only_one}
 use Rattle.clausal_form.specs.DerivationSteps.{LineKind, component_kind}
 use Rattle.clausal_form.specs.DerivationLine.{Taken, kernel_lines}

@@ -13,11 +13,11 @@ use Rattle.clausal_form.specs.DerivationLine.{LineTree, NamedLine, Taken, names_
 use Rattle.clausal_form.specs.DerivationParts.{Setting, line_kind, items_of, parent_places, parents_of, line_clause, line_bindings}
 use Rattle.clausal_form.specs.DerivationCauses.{order, unknown_parent, fault, concluded, has_new_symbol, is_old_name, LineVerdict, refused, taken}
 use Rattle.tstp_checker.specs.Causes.{cause_meant}
-use Rattle.tstp_checker.specs.declared.parts.LineParts.{LineParts}
+use Rattle.tstp_lines.specs.declared.parts.LineParts.{LineParts}
 use Rattle.tstp_checker.specs.declared.refusal.Refusal.{Refusal}
 use Rattle.tstp_checker.specs.declared.refusal.Refusal.TheVariants.{Cause, NoMemory}
 
--- the line, or the cause for which it is refused; want of memory is free
+-- the line, or the cause for which it is refused; out of memory is free
 abbrev pub IsVerdict : LineVerdict → Result Line Refusal → Type 0
 IsVerdict v (Ok line) = v ≡ taken line
 IsVerdict v (Err (Cause cause)) = v ≡ refused (cause_meant cause)

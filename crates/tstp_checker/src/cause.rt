@@ -13,7 +13,7 @@ pub enum Cause {
     Leaf,
     /// The form has no such clause, or not from this parent, or the items aren't those of the row.
     Clausify,
-    /// What is bound isn't right for the parents.
+    /// The bindings don't fit the parents.
     Binding,
     /// There is no such rule, or the items or the parents aren't those of its row, or its condition fails.
     Rule,
@@ -21,6 +21,6 @@ pub enum Cause {
     Conclusion,
     /// The clause or a binding has a symbol that the form doesn't have, or a name isn't new.
     NewSymbol,
-    /// Behind the last line: it isn't the empty clause.
+    /// After the last line: it isn't the empty clause.
     NoEmptyClause,
 }

@@ -1,6 +1,7 @@
 // Lines of clauses that come from the form or introduce a name.
 
 ghost use Rattle.std.specs.Prelude.{◌≡◌, ◌+◌, ℕ, List, ◌∷◌, [], ◌&&◌, ◌||◌, ◌==◌, not, map, false, length, option_map, IfOk, OnErr, if◌then◌else◌};
+ghost use Rattle.plain_types.specs.Names.{negative_of};
 ghost use Rattle.fol_base.specs.Clause.{clause_eq, names_eq};
 ghost use Rattle.fol_base.specs.Ground.{is_ground_literal};
 ghost use Rattle.fol_base.specs.Literal.{literal_of, clause_of};
@@ -11,7 +12,7 @@ ghost use Rattle.tptp_source.specs.Shape.{tree_of as general_of};
 ghost use Rattle.tptp_source.specs.SourceShape.{source_of};
 ghost use Rattle.tptp_source.specs.declared.source.Source.{Source};
 ghost use Rattle.signature.specs.Symbol.{predicate_symbol, has_symbol};
-ghost use Rattle.kernel_steps.specs.Derivation.{negative_of, is_component};
+ghost use Rattle.kernel_steps.specs.Derivation.{is_component};
 ghost use Rattle.kernel_steps.specs.declared.step.Step.TheVariants.{Component};
 ghost use Rattle.clausal_form.specs.DerivationClause.{is_written_clause};
 ghost use Rattle.clausal_form.specs.DerivationSteps.{component_kind, kind_of};
@@ -19,7 +20,7 @@ ghost use Rattle.clausal_form.specs.DerivationLine.{LineTree, Taken, names_with}
 ghost use Rattle.kernel_steps.specs.FromTrees.{line_of};
 ghost use Rattle.clausal_form.specs.DerivationParts.{line_kind};
 ghost use Rattle.clausal_form.specs.DerivationCauses.{new_symbol, fits, is_line_of, is_conjecture_at, given_by_clausify, given_by_opposite, given_by, is_formula_kind, refused, taken, compared, line_verdict};
-ghost use Rattle.tstp_checker.specs.Steps.{kind_meant};
+ghost use Rattle.tstp_lines.specs.Steps.{kind_meant};
 ghost use Rattle.tstp_checker.specs.Taken.{IsKept};
 ghost use Rattle.tstp_checker.specs.Classes.{AreClasses};
 ghost use Rattle.tstp_checker.specs.ClauseLines.{is_component_kind, comes_from, is_form_clause, atom_named, opposite_clause};
@@ -28,11 +29,7 @@ ghost use Rattle.tstp_checker.specs.Lines.{line_meant, setting_in, taken_in, IsR
 
 use crate::cause::Cause;
 use crate::lines::Lines;
-use crate::parts::LineParts;
 use crate::refusal::Refusal;
-use crate::sources::{bound_items, clause_number, items_of};
-use crate::steps::Kind;
-use crate::written::is_written_clause;
 use fol_base::{Clause, Literal, same_clause};
 use kernel_steps::{Line, Step, is_complement};
 use plain_types::NameLit;
@@ -40,6 +37,7 @@ use signature::{SymbolKind, SymbolRef};
 use std::alloc::Global;
 use tptp_source::{GeneralTerm, Source};
 use tptp_tree::Annotated;
+use tstp_lines::{Kind, LineParts, bound_items, clause_number, is_written_clause, items_of};
 
 impl<'a> Lines<'a> {
     /// The verdict on a line of a clause that introduces no name.

@@ -6,7 +6,7 @@ ghost use Rattle.signature.specs.Form.{clausal_form};
 ghost use Rattle.clausal_form.specs.Form.{form_of};
 ghost use Rattle.clausal_form.specs.FormFunctions.{IsHerbrandRefuted};
 ghost use Rattle.clausal_form.specs.DerivationTexts.{IsAcceptedDerivation};
-ghost use Rattle.form_truth.specs.Meaning.{are_closed, ConjectureFollows};
+ghost use Rattle.laws_meaning.specs.Meaning.{are_closed, ConjectureFollows};
 ghost use Rattle.clausal_form.specs.DerivationLine.{nothing_taken};
 ghost use Rattle.clausal_form.specs.DerivationLines.{accepted, refused_line};
 ghost use Rattle.tstp_checker.specs.Lines.{line_meant, setting_in, taken_in, IsReady, IsJudged};
@@ -27,7 +27,7 @@ pub struct Accepted {
     pub lines: u32,
 }
 
-/// Why a derivation isn't accepted: want of memory, or its first bad line, by its number from 1, and the first cause there.
+/// Why a derivation isn't accepted: out of memory, or its first bad line, by its number from 1, and the first cause there.
 #[derive(Clone, Copy, Debug, PartialEq, Eq)]
 pub enum CheckFault {
     NoMemory,
@@ -46,11 +46,11 @@ impl From<NoMemory> for CheckFault {
 }
 
 /// Checks the text of a derivation in the language TSTP, over the clausal form of a problem. It is accepted where each line
-/// can be read and is taken behind those before it, and the last one is the empty clause; the problem's clausal form is then
+/// can be read and is taken after those before it, and the last one is the empty clause; the problem's clausal form is then
 /// refuted by finitely many of its ground instances. So where no formula has a free variable, every finite interpretation that
 /// makes the axioms true makes the conjecture true; without a conjecture none makes them true.
 ///
-/// Else the first bad line is told, with the first cause there. A fault of the text's tokens is `Text` on the line behind
+/// Else the first bad line is told, with the first cause there. A fault of the text's tokens is `Text` on the line after
 /// those that were taken. Where all lines are taken and the last isn't the empty clause, it is `NoEmptyClause` on the last
 /// line, or on line 0 where there is none. A line is let go once it is judged.
 pub fn check(
@@ -93,7 +93,7 @@ fn check_lines(
     ending(lexed, lines)
 }
 
-/// Reads the line at a token, takes it behind those before it, and tells the token behind it. Each line before it has a token
+/// Reads the line at a token, takes it after those before it, and tells the token after it. Each line before it has a token
 /// at least.
 fn take_line(
     alloc: Global,
@@ -142,7 +142,7 @@ fn judge_line(alloc: Global, lines: &mut Lines<'_>, line: ReadLine) -> Mem<Optio
     lines.judge(alloc, &line.annotated, &line.source)
 }
 
-/// The answer behind the last token, where all lines are taken.
+/// The answer after the last token, where all lines are taken.
 fn ending(lexed: &Lexed, lines: &Lines<'_>) -> Result<Accepted, CheckFault>
     requires few { length (taken_in lines.now).lines ≤ MOST_TEXT_BYTES }
     ensures accepted { IfOk result (λ a. ending_answer lexed.now.fault (taken_in lines.now).lines ≡ accepted a.lines) }

@@ -1,4 +1,4 @@
-// What an annotated formula says, lent, as a key of maps.
+// The content of an annotated formula, borrowed, as a key of maps.
 
 ghost use Rattle.std.specs.Prelude.{◌≡◌};
 ghost use Rattle.std.specs.Cmp.{on_equiv, partial_equiv_from_equiv};
@@ -11,7 +11,7 @@ use crate::hashing::hash_formula;
 use std::hash::{Hash, Hasher};
 use tptp_tree::{Annotated, Formula, Role, same_formula};
 
-/// What an annotated formula says, lent.
+/// The content of an annotated formula, borrowed.
 #[derive(Clone, Copy)]
 pub(crate) struct Entry<'a> {
     pub name: &'a [u8],
@@ -20,7 +20,7 @@ pub(crate) struct Entry<'a> {
     pub formula: &'a Formula,
 }
 
-/// What an annotated formula says.
+/// The content of an annotated formula.
 pub(crate) fn entry_of(formula: &Annotated) -> Entry<'_>
     ensures { entry_meant result ≡ entry_of formula.now }
 {

@@ -13,24 +13,22 @@ ghost use Rattle.clausal_form.specs.DerivationLine.{same_formula};
 ghost use Rattle.kernel_steps.specs.FromTrees.{line_of};
 ghost use Rattle.clausal_form.specs.DerivationParts.{parents_of};
 ghost use Rattle.clausal_form.specs.DerivationCauses.{is_formula_kind, given_by_file, given_by_negate, compared, line_verdict};
-ghost use Rattle.tstp_checker.specs.Steps.{kind_meant};
+ghost use Rattle.tstp_lines.specs.Steps.{kind_meant};
 ghost use Rattle.tstp_checker.specs.Verdicts.{IsVerdict};
 ghost use Rattle.tstp_checker.specs.FormulaLines.{cited_at, conjecture_of, lent_conjecture};
 ghost use Rattle.tstp_checker.specs.Lines.{line_meant, setting_in, taken_in, IsReady};
 
 use crate::cause::Cause;
 use crate::entries::Entry;
-use crate::items::row_arguments;
 use crate::lines::Lines;
 use crate::refusal::Refusal;
-use crate::sources::{is_plain_word, items_of};
-use crate::steps::Kind;
 use fol_base::{Clause, Literals};
 use kernel_steps::{Line, Step};
 use plain_types::{Mem, Names};
 use std::alloc::Global;
 use tptp_source::{GeneralTerm, Source};
 use tptp_tree::{Annotated, Formula, same_formula};
+use tstp_lines::{Kind, is_plain_word, items_of, row_arguments};
 
 impl<'a> Lines<'a> {
     /// The verdict on a line of a formula.

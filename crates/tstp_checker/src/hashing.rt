@@ -1,4 +1,4 @@
-// What a formula feeds to a hasher. Each function passes on a number for what it meets, so that different formulas differ.
+// The numbers that a formula feeds to a hasher. Each function passes on a number for what it meets, so that different formulas differ.
 
 ghost use Rattle.std.specs.Prelude.{◌≡◌, ◌++◌, ◌∷◌, map, fold};
 ghost use Rattle.std.specs.Hash as fed;
@@ -37,7 +37,7 @@ pub(crate) fn hash_formula<H: Hasher>(formula: &Formula, state: &mut H)
     }
 }
 
-/// Feeds the formula behind `~`.
+/// Feeds the formula after `~`.
 #[cycle(hash_formula)]
 fn hash_negated<H: Hasher>(kind: u8, operand: &FormulaBox, state: &mut H)
     ensures { state.new ≡ fold H.write state.old (fed.u8 kind ++ formula_writes operand.now) }

@@ -24,7 +24,7 @@ pub(crate) struct Inputs<'a> {
 }
 
 impl<'a> Inputs<'a> {
-    /// The formulas with their table. More formulas than there are numbers are want of memory.
+    /// The formulas with their table. More formulas than there are numbers are answered by out of memory.
     pub(crate) fn new(alloc: Global, formulas: &'a [Annotated]) -> Mem<Inputs<'a>>
         ensures formulas { IfOk result (λ inputs. inputs.formulas.now ≡ formulas.now) }
         ensures known { IfOk result KnowsAll }

@@ -17,10 +17,7 @@ ghost use Rattle.tstp_checker.specs.Lines.{line_meant, setting_in, taken_in, IsR
 use crate::cause::Cause;
 use crate::classes::Classes;
 use crate::inputs::Inputs;
-use crate::numbers::LineNumbers;
 use crate::refusal::Refusal;
-use crate::sources::parent_names;
-use crate::steps::{Kind, kind_of};
 use crate::taken::TakenLines;
 use clausal_form::Clausal;
 use fol_base::Clause;
@@ -29,6 +26,7 @@ use plain_types::{Mem, NoMemory, Numbers};
 use std::alloc::Global;
 use tptp_source::Source;
 use tptp_tree::Annotated;
+use tstp_lines::{Kind, LineNumbers, kind_of, parent_names};
 
 /// The lines that were taken, with what further lines are judged by: the problem, its clausal form, and the names that lines introduced.
 #[derive(Drop)]
@@ -60,7 +58,7 @@ impl<'a> Lines<'a> {
     }
 
     /// Judges a line: none where it is taken, and else the first cause for which it is refused; the lines then stand as they were. After
-    /// want of memory nothing more is said.
+    /// out of memory nothing more is said.
     pub(crate) fn judge(
         &mut self,
         alloc: Global,

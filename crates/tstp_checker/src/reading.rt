@@ -12,7 +12,7 @@ use tptp_source::{Source, read_source};
 use tptp_token::{Lexed, MOST_TEXT_BYTES, Token};
 use tptp_tree::{Annotated, MOST_DERIVATION_NESTING};
 
-/// A line as it was read, and the token behind it by its index.
+/// A line as it was read, and the token after it by its index.
 #[derive(Drop)]
 pub(crate) struct ReadLine {
     pub(crate) annotated: Annotated,

@@ -13,24 +13,22 @@ ghost use Rattle.clausal_form.specs.DerivationLine.{LineTree};
 ghost use Rattle.kernel_steps.specs.FromTrees.{line_of};
 ghost use Rattle.clausal_form.specs.DerivationParts.{line_kind, parent_lines};
 ghost use Rattle.clausal_form.specs.DerivationCauses.{conclusion, new_symbol, refused, taken, is_bound, compared, given_by_rule};
-ghost use Rattle.tstp_checker.specs.Steps.{kind_meant};
+ghost use Rattle.tstp_lines.specs.Steps.{kind_meant};
 ghost use Rattle.tstp_checker.specs.Verdicts.{IsVerdict, IsClauseLine, IsConcluded};
 ghost use Rattle.tstp_checker.specs.Lines.{setting_in, taken_in};
 
 use crate::cause::Cause;
 use crate::clause_lines::line_by;
 use crate::lines::Lines;
-use crate::parts::LineParts;
 use crate::refusal::Refusal;
-use crate::sources::bindings_count;
-use crate::steps::{Kind, rule_step};
 use fol_base::{Clause, Terms, same_clause};
 use kernel_steps::{LendsParents, Line, ParentRef, Step, StepFault, binds, conclusion};
 use std::alloc::Global;
 use tptp_source::GeneralTerm;
+use tstp_lines::{Kind, LineParts, bindings_count, rule_step};
 
 impl<'a> Lines<'a> {
-    /// What a rule concludes from its parents.
+    /// The conclusion of a rule from its parents.
     pub(crate) fn rule_line(
         &self,
         alloc: Global,

@@ -10,11 +10,11 @@ ghost use Rattle.clausal_form.specs.DerivationLine.{NamedLine, nothing_taken, ke
 ghost use Rattle.clausal_form.specs.DerivationParts.{line_place};
 ghost use Rattle.tstp_checker.specs.Taken.{taken_of, IsKept, IsNext, introduced_by, components_with};
 
-use crate::names::NameTable;
 use fol_base::Clause;
 use kernel_steps::{Derivation, Line, Step};
 use plain_types::{Mem, Numbers, Text};
 use std::alloc::Global;
+use tstp_lines::NameTable;
 
 /// The lines that were taken, and the names that they introduced.
 #[derive(Drop)]
@@ -110,7 +110,7 @@ impl TakenLines {
         self.lines.as_slice().get(place as usize)
     }
 
-    /// Takes a line with a new name. A component line is of the name that was introduced last. After want of memory nothing is said of
+    /// Takes a line with a new name. A component line is of the name that was introduced last. After an out-of-memory error nothing is said of
     /// the lines.
     pub(crate) fn add(&mut self, alloc: Global, name: &[u8], line: Line) -> Mem<()>
         requires kept { IsKept self.old }

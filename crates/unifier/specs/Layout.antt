@@ -55,7 +55,7 @@ pub record IsWithVariable (old : Layout) (new : Layout) (w : ℕ) : Type 0 where
   pub layout : IsLayout new
   pub also : (test : ℕ → Bool) → all_pass test new.places.items ≡ (all_pass test old.places.items && test w)
 
--- cells are added behind those that are there
+-- cells are added after those that are there
 abbrev pub Grows : Layout → Layout → Type 0
 Grows old new = (more : List Cell) × (new.cells.items ≡ old.cells.items ++ more)
 

@@ -31,7 +31,7 @@ NoVariableTwice (p ∷ ps) = (term_for p.0 ps ≡ None) × NoVariableTwice ps
 abbrev pub HasPairs : List (ℕ × Tree) → Substitution → Type 0
 HasPairs pairs σ = AllByRecursion (λ (p : ℕ × Tree). σ p.0 ≡ p.1) pairs
 
--- the numbers of the first list, and behind them each further one of the second, in the order of first places
+-- the numbers of the first list, and after them each further one of the second, in the order of first places
 abbrev pub with_further : List ℕ → List ℕ → List ℕ
 with_further vs [] = vs
 with_further vs (w ∷ ws) = with_further (if list_any (λ v. w == v) vs then vs else vs ++ w ∷ []) ws

@@ -35,7 +35,7 @@ pub record IsResolving (apart : Bool) (es : Equations) (l : Layout) : Type 0 whe
   pub general :
       (θ : Substitution) (val : ℕ → Value) → Solves apart θ es → IsValuation θ l.cells.items val → PlacesAgree θ val l.places.items
 
--- cells and places are added behind those that are there
+-- cells and places are added after those that are there
 abbrev pub GrowsBoth : Layout → Layout → Type 0
 GrowsBoth old new =
     (cells : List Cell) × (places : List Place) × (new.cells.items ≡ old.cells.items ++ cells) × (new.places.items ≡ old.places.items ++ places)

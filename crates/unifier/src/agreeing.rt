@@ -10,14 +10,14 @@ use crate::equation::{Equations, SideTerm, SideTerms};
 use crate::layout::code;
 use fol_base::Term;
 
-/// So many levels of terms and of bindings the walk goes down at most.
+/// How many levels of terms and of bindings the walk goes down at most.
 const MOST_LEVELS: u32 = 64;
 
-/// So many pairs of terms the walk visits at most. A walk that follows bindings again and again would else
+/// How many pairs of terms the walk visits at most. A walk that follows bindings again and again would else
 /// take twice as long for each further level of some terms.
 const MOST_STEPS: u32 = 256;
 
-/// What a walk has shown.
+/// The result of a walk.
 #[derive(Clone, Copy)]
 pub enum Walked {
     /// The terms are equal exactly where the equations hold.
@@ -53,7 +53,7 @@ impl<'a> Walk<'a> {
         self.agree(apart, MOST_LEVELS, one, other)
     }
 
-    /// The same, down a number of levels.
+    /// Adds these equations, down a number of levels.
     #[cycle(agree)]
     fn agree(&mut self, apart: bool, levels: u32, one: SideTerm<'a>, other: SideTerm<'a>) -> Walked
         ensures { Agrees apart self.old.equations self.new.equations (item_of one.entry) (item_of other.entry) result }
@@ -88,7 +88,7 @@ impl<'a> Walk<'a> {
         }
     }
 
-    /// The same for two lists of terms, place by place.
+    /// Adds the equations of two lists of terms, place by place.
     #[cycle(agree)]
     fn agree_in_all(
         &mut self,
@@ -121,7 +121,7 @@ impl<'a> Walk<'a> {
         Walked::Agreed
     }
 
-    /// The same for a variable and a term.
+    /// Adds the equations of a variable and a term.
     #[cycle(agree)]
     fn agree_with(&mut self, apart: bool, levels: u32, code: u64, other: SideTerm<'a>) -> Walked
         ensures { AgreesWithVariable apart self.old.equations self.new.equations code (item_of other.entry) result }
@@ -132,7 +132,7 @@ impl<'a> Walk<'a> {
         }
     }
 
-    /// The same for a variable that isn't bound.
+    /// Adds the equation of a variable that isn't bound.
     fn bind(&mut self, apart: bool, levels: u32, variable: u64, other: SideTerm<'a>) -> Walked
         requires { bound_in self.old.equations variable ≡ None }
         ensures { AgreesWithVariable apart self.old.equations self.new.equations variable (item_of other.entry) result }

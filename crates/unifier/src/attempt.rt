@@ -16,7 +16,7 @@ use fol_base::{Side, Term};
 use plain_types::Mem;
 use std::alloc::Global;
 
-/// What an attempt has shown.
+/// The result of an attempt.
 #[derive(Drop)]
 pub enum Attempt {
     /// A most general unifier.

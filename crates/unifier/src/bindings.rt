@@ -1,4 +1,4 @@
-// What a unification finds.
+// Bindings: the most general unifier that a unification finds.
 
 ghost use Rattle.std.specs.Prelude.{◌≡◌, ◌≤◌, true, sum_by, IfOk};
 ghost use Rattle.fol_base.specs.Canonical.{terms_from};
@@ -41,7 +41,7 @@ impl Model for Bindings {
 impl Bindings {
     ghost use Rattle.unifier.specs.Solution.{solved_form};
 
-    /// What was solved.
+    /// The solved form.
     pub(crate) fn of_solution(solution: Solution) -> Bindings
         ensures { result ≡ solved_form solution }
     {

@@ -16,7 +16,7 @@ pub enum Cell {
     TreeThen(usize, usize),
 }
 
-/// What it takes for two cells to have one value.
+/// The condition under which two cells have one value.
 #[derive(Clone, Copy)]
 pub enum Relation {
     /// Nothing more.
@@ -58,7 +58,7 @@ impl Cell {
         }
     }
 
-    /// What it takes for this cell and another to have one value.
+    /// The condition under which this cell and another have one value.
     pub fn relation(self, other: Cell) -> Relation
         ensures { result ≡ relate self other }
     {

@@ -13,7 +13,7 @@ pub struct Classes {
     pub schemas: Vec<usize>,
 }
 
-/// What a step has done.
+/// The result of a step.
 #[derive(Clone, Copy)]
 pub enum Step {
     /// Two classes were joined.

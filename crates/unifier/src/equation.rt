@@ -2,10 +2,10 @@
 
 use fol_base::{Side, Term};
 
-/// So many variables are bound at most; with more of them the way by classes takes over.
+/// How many variables are bound at most; with more of them the way by classes takes over.
 pub const MOST_EQUATIONS: usize = 8;
 
-/// So many variables that met themselves are noted at most.
+/// How many variables that met themselves are noted at most.
 pub const MOST_NOTED: usize = 16;
 
 /// A term of one of the two sides.

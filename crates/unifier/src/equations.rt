@@ -23,7 +23,7 @@ impl<'a> Equations<'a> {
         }
     }
 
-    /// What a variable is equal to.
+    /// The term to which a variable is equal.
     pub fn find(&self, code: u64) -> Option<SideTerm<'a>>
         ensures { option_map item_of result ≡ bound_in self.now code }
     {

@@ -42,7 +42,7 @@ pub fn unifiers_add_no_symbols()
     ensures apart { UnifiersApartAddNoSymbols }
 {}
 
-/// What `unify` finds puts in, for the variables of the two terms, no variables but theirs.
+/// The unifier that `unify` finds puts in, for the variables of the two terms, no variables but theirs.
 pub fn unifiers_add_no_variables()
     ensures { UnifiersAddNoVariables }
 {}
@@ -83,7 +83,7 @@ pub fn shared_substitutions_put_function_terms()
     ensures { SharedPutFunctionTerms }
 {}
 
-/// What `Bindings::fits` tells: each variable that isn't below its side's count stands for itself; where the
+/// The meaning of `Bindings::fits`: each variable that isn't below its side's count stands for itself; where the
 /// sides aren't taken apart, each that is below neither count. Larger counts fit too.
 pub fn counts_that_fit()
     ensures together { FitLeavesOthers }

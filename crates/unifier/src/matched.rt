@@ -65,7 +65,7 @@ impl<'a> Matched<'a> {
         None
     }
 
-    /// Adds a pair of a variable that has none. After want of memory the list is as before.
+    /// Adds a pair of a variable that has none. After an out-of-memory error the list is as before.
     pub(crate) fn push(&mut self, variable: u32, term: &'a Term) -> Mem<()>
         requires { term_for variable self.old ≡ None }
         ensures ok { OnOk result (self.new ≡ self.old ++ (variable, tree_of term.now) ∷ []) }
@@ -82,7 +82,7 @@ impl<'a> Matched<'a> {
         self.pairs.len()
     }
 
-    /// Keeps so many pairs.
+    /// Keeps the first `count` pairs.
     pub(crate) fn cut(&mut self, count: usize)
         ensures { self.new ≡ take count self.old }
     {

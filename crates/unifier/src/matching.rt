@@ -41,7 +41,7 @@ pub fn match_onto<'a>(
 
 impl<'a> Matched<'a> {
     /// Adds a pair for each further variable of the pattern, where that makes a matcher, and says whether it does: false exactly where
-    /// no matcher has the pairs that are there. Where the answer is false, and after want of memory, the pairs are as before. Memory is
+    /// no matcher has the pairs that are there. Where the answer is false, and after an out-of-memory error, the pairs are as before. Memory is
     /// taken only for new pairs.
     pub fn extend(&mut self, pattern: &Term, target: &'a Term) -> Mem<bool>
         ensures found { IfOk result (λ fits. IsExtended self.old (tree_of pattern.now) (tree_of target.now) self.new fits) }

@@ -1,4 +1,4 @@
-// What names the variables of both sides when their terms are built.
+// How the variables of both sides are numbered when their terms are built.
 
 ghost use Rattle.std.specs.Prelude.{◌≡◌, ◌<◌, ◌^◌, ℕ, length, slice_index};
 

@@ -16,7 +16,7 @@ pub struct Placing {
     pub places: Vec<Option<usize>>,
 }
 
-/// What a sweep over the classes has shown.
+/// The result of a sweep over the classes.
 #[derive(Clone, Copy)]
 pub enum Sweep {
     /// Each class has a place.
@@ -27,7 +27,7 @@ pub enum Sweep {
     Stuck,
 }
 
-/// What a visit to a cell has done.
+/// The result of a visit to a cell.
 #[derive(Clone, Copy)]
 pub enum Visit {
     /// Its class got its place.
@@ -126,7 +126,7 @@ impl Placing {
         for cell in 0..cells.len() {
             due.push(cell)?;
         }
-        // A class is entered once: then it is due again, behind its parts, of which there are at most two.
+        // A class is entered once: then it is due again, after its parts, of which there are at most two.
         for _ in 0..cells.len().saturating_mul(4) {
             let Some(cell) = due.pop() else {
                 return Ok(());

@@ -32,7 +32,7 @@ const USUAL_PLACES: usize = 8;
 /// No equation's tree is being laid out.
 const NONE_OPEN: u8 = 0;
 
-/// So many levels of terms and of bindings are laid out at most.
+/// How many levels of terms and of bindings are laid out at most.
 const MOST_LEVELS: u32 = 64;
 
 impl Layout {
@@ -57,7 +57,7 @@ impl Layout {
         Ok(true)
     }
 
-    /// The same for the variables that are noted.
+    /// Gives a place to the variables that are noted.
     pub fn resolve_noted<'a>(&mut self, equations: &Equations<'a>, apart: bool) -> Mem<bool>
         requires { IsResolving apart equations.now self.old }
         ensures { IfOk result (λ complete. complete ≡ true → AreResolved apart equations.now self.old self.new (noted_of equations.now)) }

@@ -20,7 +20,7 @@ use fol_base::{Side, Term};
 use plain_types::Mem;
 use term_bank::{Bank, BankLit};
 
-/// So many cells have their sizes in an array, and no memory is taken for them.
+/// How many cells have their sizes in an array, for which no memory is taken.
 const FEW_CELLS: usize = 64;
 
 impl Solution {

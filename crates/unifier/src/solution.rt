@@ -8,7 +8,7 @@ use crate::cells::Cell;
 use crate::layout::{Place, find_place};
 use crate::resolving::place_among;
 
-/// So many places are looked through; more of them are in the order of the variables' numbers, and halved.
+/// How many places are looked through one by one; more of them are in the order of the variables' numbers, and searched by halving.
 pub const FEW_PLACES: usize = 16;
 
 /// The variables of both sides with the cells of their trees. It shares the common parts of the trees, so it has

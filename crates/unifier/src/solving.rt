@@ -38,7 +38,7 @@ pub fn unify_by_classes(
     solve(alloc, &layout, apart, first, second)
 }
 
-/// What gives two cells one value. None where nothing does.
+/// The assignment that gives two cells one value. None where there is none.
 fn solve(
     alloc: Global,
     layout: &Layout,

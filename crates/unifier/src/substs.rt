@@ -166,7 +166,7 @@ impl Solution {
         Ok(Terms::from_vec(items))
     }
 
-    /// What stands for a variable, with the shared variables renamed.
+    /// The term that stands for a variable, with the shared variables renamed.
     fn named<N: Naming>(&self, alloc: Global, names: &N, code: u64) -> Mem<Term>
         requires names { HasNames self.now (N.count names.now) }
         requires inside { code < N.count names.now }
@@ -214,7 +214,7 @@ impl Solution {
     }
 }
 
-/// What stands where no term can stand.
+/// The term that fills places where no term can stand.
 fn no_term(alloc: Global) -> Term
     ensures { tree_of result ≡ application 0 no_trees }
 {

@@ -23,12 +23,13 @@ use Rattle.fol_base.proofs.WorkedExamples.TestLemmas.{list_all-item}
 use Rattle.kbo_order.proofs.AboutLaws.StableLemmas.{trees_stable}
 use Rattle.kbo_order.proofs.AboutLaws.SubtermLemmas.{greater-size, smaller_subterms_make_smaller}
 use Rattle.kbo_order.proofs.AboutMultisets.ClauseLoops.{item-size}
+use Rattle.kbo_order.proofs.AboutMultisets.MemberLemmas.{In}
 use Rattle.kernel_steps.specs.Symbols.{symbols_pass, all_symbols_pass, literal_symbols_pass, clause_symbols_pass}
 use Rattle.kernel_steps.proofs.AboutCalls.SymbolLemmas.{side-passes}
 use Rattle.demodulate.specs.Rank.{grounded, ground_trees, tree_rank, literal_rank, clause_rank, RanksFall, RanksKept}
 use Rattle.demodulate.proofs.AboutSteps.StepParts.{Rewrites, of_step}
 use Rattle.demodulate.proofs.AboutSteps.SymbolLemmas.{made-passes}
-use Rattle.demodulate.proofs.AboutRanks.RankLists.{In, tree-listed}
+use Rattle.demodulate.proofs.AboutRanks.RankLists.{tree-listed}
 
 -- ---- counting
 

@@ -1,5 +1,5 @@
 -- The list of ground trees has each of them.
-use Rattle.std.proofs.Common.{◌≡◌, ℕ, zero, suc, ◌<◌, ◌≤◌, Bool, true, List, [], ◌∷◌, ◌++◌, map, refl, ap, sym, subst, inl, inr, ◌⊎◌, ⊎_elim, arith}
+use Rattle.std.proofs.Common.{◌≡◌, ℕ, zero, suc, ◌<◌, ◌≤◌, Bool, true, List, [], ◌∷◌, map, refl, ap, sym, subst, inl, inr, ◌⊎◌, ⊎_elim, arith}
 use Rattle.std.specs.Prelude.{flat_map, nat_lt}
 use Rattle.std.proofs.lemmas.Bool.{and_parts, true≢false}
 use Rattle.std.proofs.lemmas.Bool.Decides.{nat_tests}
@@ -7,40 +7,25 @@ use Rattle.fol_base.specs.Tree.{Tree, variable, application, Trees, no_trees, tr
 use Rattle.fol_base.specs.Ground.{is_ground, are_ground}
 use Rattle.kernel_steps.specs.Symbols.{symbols_pass, all_symbols_pass}
 use Rattle.fol_base.proofs.AboutTerms.TreeLemmas.{tree_size-positive}
+use Rattle.kbo_order.proofs.AboutMultisets.MemberLemmas.{In, In-left, In-right, In-map}
 use Rattle.demodulate.specs.Rank.{lists_of, applied, ground_trees}
-
-abbrev pub In : {X : Type 0} → X → List X → Type 0
-In x [] = ⊥
-In x (y ∷ ys) = (x ≡ y) ⊎ In x ys
-
-in-left : {X : Type 0} (x : X) (xs ys : List X) → In x xs → In x (xs ++ ys)
-in-left x [] ys h = absurd h
-in-left x (z ∷ xs) ys h = ⊎_elim (λ e. inl e) (λ later. inr (in-left x xs ys later)) h
-
-in-right : {X : Type 0} (x : X) (xs ys : List X) → In x ys → In x (xs ++ ys)
-in-right x [] ys h = h
-in-right x (z ∷ xs) ys h = inr (in-right x xs ys h)
-
-in-map : {X Y : Type 0} (f : X → Y) (x : X) (xs : List X) → In x xs → In (f x) (map f xs)
-in-map f x [] h = h
-in-map f x (y ∷ ys) h = ⊎_elim (λ e. inl (ap f e)) (λ later. inr (in-map f x ys later)) h
 
 in-flat : {X Y : Type 0} (f : X → List Y) (x : X) (y : Y) (xs : List X) → In x xs → In y (f x) → In y (flat_map f xs)
 in-flat f x y [] h k = h
 in-flat f x y (z ∷ zs) h k =
     ⊎_elim
-    (λ e. in-left y (f z) (flat_map f zs) (subst (λ w. In y (f w)) e k))
-    (λ later. in-right y (f z) (flat_map f zs) (in-flat f x y zs later k))
+    (λ e. In-left y (f z) (flat_map f zs) (subst (λ w. In y (f w)) e k))
+    (λ later. In-right y (f z) (flat_map f zs) (in-flat f x y zs later k))
     h
 
 in-applied : (bound f : ℕ) (ts : Trees) (tss : List Trees) → f < bound → In ts tss → In (application f ts) (applied bound tss)
 in-applied zero f ts tss less there = absurd (omega arith)
 in-applied (suc bound) f ts tss less there =
     ⊎_elim
-    (λ (low : f < bound). in-right (application f ts) (map (application bound) tss) (applied bound tss) (in-applied bound f ts tss low there))
+    (λ (low : f < bound). In-right (application f ts) (map (application bound) tss) (applied bound tss) (in-applied bound f ts tss low there))
     (λ (same : f ≡ bound).
-    in-left (application f ts) (map (application bound) tss) (applied bound tss)
-    (subst (λ g. In (application g ts) (map (application bound) tss)) (sym same) (in-map (application bound) ts tss there)))
+    In-left (application f ts) (map (application bound) tss) (applied bound tss)
+    (subst (λ g. In (application g ts) (map (application bound) tss)) (sym same) (In-map (application bound) ts tss there)))
     (last-or f bound less)
   where
     last-or : (i n : ℕ) → i < suc n → (i < n) ⊎ (i ≡ n)
@@ -78,7 +63,7 @@ mutual
       inr
       (in-flat (λ u. map (tree_then u) (lists_of k (ground_trees bound n))) t (tree_then t ts) (ground_trees bound n)
       (tree-listed bound n t both.0 all.0 (omega arith))
-      (in-map (tree_then t) ts (lists_of k (ground_trees bound n))
+      (In-map (tree_then t) ts (lists_of k (ground_trees bound n))
       (trees-listed bound n k ts both.1 all.1 (omega arith) (omega arith))))
 
   count-small : (ts : Trees) → trees_count ts ≤ trees_size ts

@@ -7,6 +7,7 @@ use Rattle.std.proofs.lemmas.Bool.{and_from, cond-true, cases_lt}
 use Rattle.std.proofs.lemmas.List.{map-append, length-map}
 use Rattle.std.proofs.lemmas.List.Sums.{sum_by-cons}
 use Rattle.plain_types.specs.declared.sequence.NameLit.{NameLit}
+use Rattle.plain_types.specs.Names.{negative_of}
 use Rattle.fol_base.specs.Tree.{Tree, variable, application, Trees, no_trees, tree_then, trees_count, tree_size, tree_variables, trees_of, trees_variables}
 use Rattle.fol_base.specs.Instance.{Substitution, instance, substitution}
 use Rattle.fol_base.specs.Clause.{TreeLiteral, TreeClause, LiteralVariablesBelow, literal_size, literal_instance, literal_variables, clause_variables, clause_size, clause_instance}
@@ -43,7 +44,6 @@ use Rattle.kernel_steps.specs.declared.step.Step.{Step}
 use Rattle.kernel_steps.specs.declared.step.Line.{Line}
 use Rattle.kernel_steps.proofs.AboutCalls.SymbolLemmas.{side-passes, subterm-passes}
 use Rattle.unifier.specs.Matching.{by_pairs}
-use Rattle.bank_clause.specs.Parts.{assertion}
 use Rattle.eq_rules.specs.Renumbered.{AreNumberedInOrder}
 use Rattle.eq_rules.proofs.AboutConclusions.BindingLemmas.{bound_functions, bound_small, bound_symbols}
 use Rattle.eq_rules.proofs.AboutConclusions.ConclusionLemmas.{bindings_numbered, binds_renamed}
@@ -244,7 +244,7 @@ module _
 
   module _
       (usage : SymbolUse) (may : MayRewrite clauses (assertions c.names)) (formed : AreWellFormed usage clauses c)
-      (canonical : IsCanonical unit) (asserted : List ℕ) (unit_names : unit.names ≡ map assertion asserted)
+      (canonical : IsCanonical unit) (asserted : List ℕ) (unit_names : unit.names ≡ map negative_of asserted)
       (sorted : are_sorted c.names ≡ true) (small : clause_size c ≤ MOST_SYMBOLS) where
     abbrev p : ℕ → Bool
     p = usage.is_predicate

@@ -26,7 +26,7 @@ use Rattle.kernel_steps.specs.declared.step.Reduced.{Reduced}
 use Rattle.bank_clause.specs.Clause.{clause_at}
 use Rattle.bank_clause.specs.declared.clause.BankClause.{BankClause}
 use Rattle.bank_clause.specs.declared.member.Member.{Member}
-use Rattle.reduction.specs.Extending.{AreLinesOfMove, GoesOn, IsExtended, last_number, parents_with}
+use Rattle.reduced_clause.specs.Extending.{AreLinesOfMove, GoesOn, IsExtended, last_number, parents_with}
 use Rattle.rewriting.specs.Units.{clause_numbered, is_kept, usable}
 use Rattle.rewriting.specs.Redex.{AreNormal}
 use Rattle.rewriting.specs.Laws.{AreWellFormed, MayRewrite, NoneRewrites}

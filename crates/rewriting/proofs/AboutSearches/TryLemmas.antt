@@ -3,11 +3,11 @@ use Rattle.std.proofs.Common.{◌≡◌, ℕ, ◌<◌, ◌≤◌, ◌+◌, ◌*�
 use Rattle.std.specs.Prelude.{sum_by, Option, None, Some, IsTrue, IfSome, MatchOption, slice_get, option_map, option_and_then, if◌then◌else◌}
 use Rattle.fol_base.specs.Subsumption.{assertions, is_among}
 use Rattle.bank_clause.specs.Clause.{clause_at, side_number}
-use Rattle.bank_clause.specs.Parts.{assertion}
 use Rattle.bank_clause.specs.declared.member.Member.{Member}
 use Rattle.rewriting.specs.declared.units.Unit.{Unit}
 use Rattle.std.proofs.lemmas.Bool.{true≢false, false_from_ne_true, and_parts, and_from}
 use Rattle.std.proofs.lemmas.Option.{none-some, same_Some}
+use Rattle.plain_types.specs.Names.{negative_of}
 use Rattle.fol_base.specs.Tree.{Tree, variable, application, Trees, no_trees, tree_then, tree_size, trees_size, is_variable, VariablesBelow}
 use Rattle.fol_base.specs.Instance.{Substitution, instance, instances}
 use Rattle.fol_base.specs.Clause.{TreeLiteral, TreeClause, literal_size, clause_size}
@@ -251,15 +251,15 @@ usable-is ms out names n o u may is some may_is =
     ap (option_and_then (usable_clause out names n)) (sym is ∙ ap (option_map (λ (b : Bor Unit). b.now.clause)) some)
     ∙ ap (λ (b : Bool). if b then Some (clause_at u.now.clause) else None) (sym may_is)
 
-pub numbers-asserted : (ns : List ℕ) → assertions (map assertion ns) ≡ ns
+pub numbers-asserted : (ns : List ℕ) → assertions (map negative_of ns) ≡ ns
 numbers-asserted [] = refl
 numbers-asserted (n ∷ ns) = ap (λ ms. n ∷ ms) (numbers-asserted ns)
 
 pub may-use :
     (asserted lent ns : List ℕ) (kept kept_is among : Bool)
     → lent ≡ ns → kept ≡ true → kept ≡ kept_is → among ≡ is_among lent asserted
-    → among ≡ (kept_is && is_among (assertions (map assertion ns)) asserted)
+    → among ≡ (kept_is && is_among (assertions (map negative_of ns)) asserted)
 may-use asserted lent ns kept kept_is among same held is listed =
     listed
     ∙ ap (λ (ms : List ℕ). is_among ms asserted) (same ∙ sym (numbers-asserted ns))
-    ∙ ap (λ (b : Bool). b && is_among (assertions (map assertion ns)) asserted) (sym held ∙ is)
+    ∙ ap (λ (b : Bool). b && is_among (assertions (map negative_of ns)) asserted) (sym held ∙ is)

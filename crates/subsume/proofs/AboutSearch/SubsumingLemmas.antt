@@ -3,6 +3,7 @@ use Rattle.std.proofs.Common.{◌≡◌, ◌↔◌, ℕ, Bool, true, false, Opti
 use Rattle.std.specs.Prelude.{IsTrue, IfSome, is_some}
 use Rattle.std.specs.List.{list_all}
 use Rattle.std.proofs.lemmas.Bool.{and_parts, and_from, true≢false}
+use Rattle.plain_types.specs.Names.{negative_of}
 use Rattle.fol_base.specs.Tree.{Tree}
 use Rattle.fol_base.specs.Instance.{Substitution, substitution}
 use Rattle.fol_base.specs.Canonical.{bound_of, terms_from}
@@ -11,7 +12,6 @@ use Rattle.fol_base.proofs.AboutCanonical.CanonicalLemmas.{length-terms_from}
 use Rattle.fol_base.specs.Kind.{is_literal, PutsFunctionTerms}
 use Rattle.fol_base.specs.WellFormed.{SymbolUse, is_literal_of, are_literals_of}
 use Rattle.fol_base.specs.Subsumption.{assertions, all_different, Subsumes}
-use Rattle.bank_clause.specs.Parts.{assertion}
 use Rattle.unifier.specs.Matching.{HasPairs, by_pairs, variables_of}
 use Rattle.unifier.specs.Laws.{AreFunctionPairs}
 use Rattle.unifier.proofs.AboutMatching.MatchLemmas.{Pairs}
@@ -30,7 +30,7 @@ of_use usage (l ∷ ls) h =
     (and_parts (is_literal usage.is_predicate l) _ parts.0).0 (of_use usage ls parts.1)
 
 -- asserted numbers are the assertions of their names
-pub asserted : (ns : List ℕ) → assertions (map assertion ns) ≡ ns
+pub asserted : (ns : List ℕ) → assertions (map negative_of ns) ≡ ns
 asserted [] = refl
 asserted (n ∷ ns) = ap (λ ms. n ∷ ms) (asserted ns)
 

@@ -5,37 +5,15 @@ use Rattle.std.specs.Option.{option_to_list, IsSome}
 use Rattle.std.proofs.lemmas.Bool.{true≢false, cases_Bool, cond-true, cond-false}
 use Rattle.std.proofs.lemmas.Option.{same_Some}
 use Rattle.std.proofs.lemmas.List.Elements.{Contains-append_left, Contains-append_right, Contains-get_or}
+pub use Rattle.kbo_order.proofs.AboutMultisets.MemberLemmas.{In, In-left, In-right}
+use Rattle.kbo_order.proofs.AboutMultisets.MemberLemmas.{map-In}
 
 -- ---- members
-
-abbrev pub In : {X : Type 0} → X → List X → Type 0
-In x [] = ⊥
-In x (y ∷ ys) = (x ≡ y) ⊎ In x ys
-
-pub In-left : {X : Type 0} (x : X) (xs ys : List X) → In x xs → In x (xs ++ ys)
-In-left x [] ys h = absurd h
-In-left x (z ∷ xs) ys h = ⊎_elim (λ e. inl e) (λ e. inr (In-left x xs ys e)) h
-
-pub In-right : {X : Type 0} (x : X) (xs ys : List X) → In x ys → In x (xs ++ ys)
-In-right x [] ys h = h
-In-right x (z ∷ xs) ys h = inr (In-right x xs ys h)
 
 pub In-either : {X : Type 0} (x : X) (xs ys : List X) → In x (xs ++ ys) → In x xs ⊎ In x ys
 In-either x [] ys h = inr h
 In-either x (z ∷ xs) ys h =
     ⊎_elim (λ e. inl (inl e)) (λ e. ⊎_elim (λ f. inl (inr f)) (λ f. inr f) (In-either x xs ys e)) h
-
-pub In-map : {X Y : Type 0} (f : X → Y) (x : X) (xs : List X) → In x xs → In (f x) (map f xs)
-In-map f x [] h = absurd h
-In-map f x (z ∷ xs) h = ⊎_elim (λ e. inl (ap f e)) (λ e. inr (In-map f x xs e)) h
-
-pub In-mapped : {X Y : Type 0} (f : X → Y) (y : Y) (xs : List X) → In y (map f xs) → (x : X) × In x xs × (y ≡ f x)
-In-mapped f y [] h = absurd h
-In-mapped f y (z ∷ xs) h =
-    ⊎_elim
-    (λ e. (z, inl refl, e))
-    (λ e. let found = In-mapped f y xs e in (found.0, inr found.1, found.2))
-    h
 
 pub In-flat_map : {X Y : Type 0} (f : X → List Y) (x : X) (y : Y) (xs : List X) → In x xs → In y (f x) → In y (flat_map f xs)
 In-flat_map {X = X} {Y = Y} f x y [] h k = absurd h
@@ -106,7 +84,7 @@ pub Once-map : {X Y : Type 0} (f : X → Y) (xs : List X) → ((x y : X) → f x
 Once-map {X = X} f [] apart h = tt
 Once-map {X = X} f (x ∷ xs) apart h = (
   (λ e.
-      let found = In-mapped f (f x) xs e in
+      let found = map-In f (f x) xs e in
       h.0 (subst (λ (z : X). In z xs) (sym (apart x found.0 found.2)) found.1)),
   Once-map f xs apart h.1,
 )

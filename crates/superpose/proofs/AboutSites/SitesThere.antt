@@ -13,6 +13,7 @@ use Rattle.fol_base.specs.Selection.{SelectionMode, chosen, eligible}
 use Rattle.fol_base.specs.Sides.{side_of, other_side_of}
 use Rattle.fol_base.specs.declared.clause.Side.{Side}
 use Rattle.fol_base.specs.declared.clause.Side.TheVariants.{Left, Right}
+use Rattle.kbo_order.proofs.AboutMultisets.MemberLemmas.{In, In-left, In-right, In-map, map-In}
 use Rattle.literal_selection.proofs.EligibleLemmas.{eligible_lifts}
 use Rattle.kernel_steps.specs.Inference.{NamedSuperposition, other_side_not_above}
 use Rattle.eq_rules.proofs.AboutConclusions.SideLemmas.{not_above_by}
@@ -24,7 +25,7 @@ use Rattle.superpose.specs.Superposing.{StartsAt, EntersAt}
 use Rattle.eq_rules.specs.declared.concluding.LiteralSide.{LiteralSide}
 use Rattle.superpose.specs.declared.sites.LiteralPlace.{LiteralPlace}
 use Rattle.superpose.proofs.AboutSites.AllowLemmas.{named-allowed, into_unchosen, from_positive, from_no_truth, into_no_truth}
-use Rattle.superpose.proofs.AboutLists.ListLemmas.{In, In-left, In-right, In-either, In-map, In-mapped, In-flat_map, In-flat_mapped, In-filter, In-filtered, In-contained, Once, Once-append, Once-map, Once-filter, Once-flat_map, Once-place}
+use Rattle.superpose.proofs.AboutLists.ListLemmas.{In-either, In-flat_map, In-flat_mapped, In-filter, In-filtered, In-contained, Once, Once-append, Once-map, Once-filter, Once-flat_map, Once-place}
 
 -- ---- sides
 
@@ -136,7 +137,7 @@ mutual
   arguments_there first (tree_then t ts) place h =
       ⊎_elim
       (λ here.
-      let found = In-mapped (λ p. first ∷ p) place (places t) here in
+      let found = map-In (λ p. first ∷ p) place (places t) here in
       (0, found.0, t, found.2 ∙ ap (λ n. n ∷ found.0) (let e : first ≡ first + 0 = omega arith in e), refl, places_there t found.0 found.1))
       (λ later.
       let found = arguments_there (suc first) ts place later in
@@ -164,7 +165,7 @@ mutual
       (Once-map (λ p. first ∷ p) (places t) (λ p q e. tail_same first first p q e) (places_once t))
       (arguments_once (suc first) ts)
       (λ place here later.
-      let one = In-mapped (λ p. first ∷ p) place (places t) here in
+      let one = map-In (λ p. first ∷ p) place (places t) here in
       let other = arguments_there (suc first) ts place later in
       let same : first ≡ suc first + other.0 = head_same first (suc first + other.0) one.0 other.1 (sym one.2 ∙ other.3) in
       absurd (omega (arith, same)))
@@ -182,7 +183,7 @@ entered mode ls s t h =
     ⊎_elim
     (λ passes.
     let found =
-    In-mapped (below_path s []) t (side_places s.side (slice_get ls s.literal))
+    map-In (below_path s []) t (side_places s.side (slice_get ls s.literal))
     (subst (λ (ts : List LiteralPlace). In t ts) (cond-true (can_enter mode ls s) all [] passes) h) in (
       passes,
       ap (λ (u : LiteralPlace). u.at) found.2,

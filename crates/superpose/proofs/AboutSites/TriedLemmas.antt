@@ -13,6 +13,7 @@ use Rattle.fol_base.specs.WellFormed.{SymbolUse, are_literals_of}
 use Rattle.fol_base.specs.declared.clause.Side.{Side}
 use Rattle.fol_base.specs.declared.clause.Side.TheVariants.{Left}
 use Rattle.fol_base.proofs.ListLemmas.{take_more_item, map-take_more_item}
+use Rattle.kbo_order.proofs.AboutMultisets.MemberLemmas.{In, In-left, In-right, In-map, map-In}
 use Rattle.kernel_steps.specs.Named.{IsInference}
 use Rattle.kernel_steps.specs.declared.key.Key.{Key}
 use Rattle.kernel_steps.specs.declared.key.Key.TheVariants.{Para, Refl, Factor, Replaced}
@@ -30,7 +31,7 @@ use Rattle.superpose.specs.Superposing.{para_key, IsSuperposition}
 use Rattle.superpose.specs.Pairing.{entry_of, AreTried, keys_from, keys_between, AddsSuperpositions, AddsTried, Begins, pair_keys, two, is_between, is_from_into, is_superposition}
 use Rattle.eq_rules.specs.declared.concluding.LiteralSide.{LiteralSide}
 use Rattle.superpose.specs.declared.sites.LiteralPlace.{LiteralPlace}
-use Rattle.superpose.proofs.AboutLists.ListLemmas.{In, In-left, In-right, In-either, In-map, In-mapped, In-flat_map, In-flat_mapped, Once, Once-append, Once-map, Once-flat_map}
+use Rattle.superpose.proofs.AboutLists.ListLemmas.{In-either, In-flat_map, In-flat_mapped, Once, Once-append, Once-map, Once-flat_map}
 use Rattle.superpose.proofs.AboutSites.SitesThere.{starts_once, enters_once, start_in, enter_in}
 
 -- ---- one after another
@@ -264,8 +265,8 @@ keys_once a b from into from_once into_once =
     Once-flat_map (λ s. keys_from a s b into) from
     (λ s. Once-map (para_key a s b) into (λ t u e. (from_same a b s s t u e).1) into_once)
     (λ s z key here there.
-    let one = In-mapped (para_key a s b) key into here in
-    let other = In-mapped (para_key a z b) key into there in
+    let one = map-In (para_key a s b) key into here in
+    let other = map-In (para_key a z b) key into there in
     (from_same a b s z one.0 other.0 (sym one.2 ∙ other.2)).0)
     from_once
 
@@ -280,7 +281,7 @@ key_of_pair :
     → In key (keys_between a from b into) → (s : LiteralSide) × (t : LiteralPlace) × (key ≡ para_key a s b t)
 key_of_pair a b from into key h =
     let outer = In-flat_mapped (λ z. keys_from a z b into) key from h in
-    let inner = In-mapped (para_key a outer.0 b) key into outer.2 in
+    let inner = map-In (para_key a outer.0 b) key into outer.2 in
     (outer.0, inner.0, inner.2)
 
 -- an inference of two clauses has its name among theirs

@@ -12,8 +12,8 @@ use Rattle.tptp_token.specs.declared.piece.Piece.TheVariants.{Token, Space, Bad,
 use Rattle.tptp_tree.specs.declared.problem.Annotated.{Annotated}
 use Rattle.signature.specs.Form.{ClausalForm, clausal_form}
 use Rattle.clausal_form.specs.FormFunctions.{IsHerbrandRefuted}
-use Rattle.form_truth.specs.Meaning.{are_closed, ConjectureFollows}
-use Rattle.form_truth.proofs.AboutForms.ConsequenceLemmas.{accepted_derivations_prove}
+use Rattle.laws_meaning.specs.Meaning.{are_closed, ConjectureFollows}
+use Rattle.laws_meaning.proofs.AboutForms.ConsequenceLemmas.{accepted_derivations_prove}
 use Rattle.clausal_form.specs.DerivationLine.{LineTree, NamedLine, Taken, nothing_taken}
 use Rattle.clausal_form.specs.DerivationParts.{Setting, setting_of}
 use Rattle.clausal_form.specs.DerivationCauses.{Cause, LineVerdict, refused, taken, line_verdict}
@@ -27,7 +27,7 @@ use Rattle.tstp_checker.specs.Checking.{IsRefusalWhere, IsTakenAt, IsRefusedAt, 
 use Rattle.tstp_checker.specs.declared.derivation.Accepted.{Accepted}
 use Rattle.tstp_checker.specs.declared.derivation.CheckFault.{CheckFault}
 use Rattle.tstp_checker.specs.declared.derivation.CheckFault.TheVariants.{NoMemory, Refused}
-use Rattle.tstp_checker.proofs.AboutReadings.ReadingLemmas.{line-phrase}
+use Rattle.tstp_checker.proofs.AboutDerivations.ReadingLemmas.{line-phrase}
 
 -- ---- a text has at most one token for each byte
 

@@ -16,8 +16,8 @@ use Rattle.clausal_form.specs.DerivationLine.{NamedLine, kernel_lines}
 use Rattle.clausal_form.specs.DerivationParts.{line_place}
 use Rattle.tstp_checker.specs.declared.taken.TakenLines.{TakenLines}
 use Rattle.tstp_checker.specs.Taken.{named_lines, taken_of, clause_at, IsKept, IsNext, introduced_by, components_with}
-use Rattle.tstp_checker.proofs.AboutVerdicts.ItemLemmas.{joined}
-use Rattle.tstp_checker.proofs.AboutReadings.NumberLemmas.{append-more}
+use Rattle.tstp_lines.proofs.AboutItems.ItemLemmas.{joined}
+use Rattle.tstp_lines.proofs.AboutReadings.NumberLemmas.{append-more}
 
 -- ---- lines with their names
 

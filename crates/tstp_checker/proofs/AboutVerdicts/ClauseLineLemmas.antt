@@ -21,7 +21,7 @@ use Rattle.kernel_steps.specs.FromTrees.{line_of}
 use Rattle.clausal_form.specs.DerivationParts.{Setting, line_kind, line_names, line_clause}
 use Rattle.clausal_form.specs.DerivationCauses.{text, clausification, rule, conclusion, new_symbol, Given, fault, gives_clause, is_clausified, given_by_clausify, opposite_from, given_by_opposite, given_by, is_formula_kind, has_new_symbol, is_old_name, LineVerdict, refused, taken, compared, line_verdict}
 use Rattle.clausal_form.proofs.AboutNaming.GivenLemmas.{clause_eq-says}
-use Rattle.tstp_checker.specs.declared.parts.LineParts.{LineParts}
+use Rattle.tstp_lines.specs.declared.parts.LineParts.{LineParts}
 use Rattle.tstp_checker.specs.declared.refusal.Refusal.{Refusal}
 use Rattle.tstp_checker.specs.ClauseLines.{comes_from, is_form_clause, ground_atom, atom_named, opposite_clause}
 use Rattle.tstp_checker.specs.Verdicts.{IsVerdict, with_names_asked, IsClauseLine}

@@ -2,12 +2,12 @@
 use Rattle.std.proofs.Common.{◌≡◌, ℕ, Bool, true, false, not, ◌&&◌, ◌||◌, ◌==◌, List, [], ◌∷◌, length, refl, ap, sym, ◌∙◌}
 use Rattle.std.specs.Prelude.{bytes_eq, if◌then◌else◌}
 use Rattle.std.specs.List.{list_any, list_all, position_or_len}
+use Rattle.plain_types.specs.Names.{negative_of}
 use Rattle.fol_base.specs.Clause.{TreeClause, clause_eq, names_eq}
 use Rattle.tptp_tree.specs.Formula.{FormulaTree}
 use Rattle.tptp_tree.specs.Entries.{AnnotatedTree}
 use Rattle.tptp_source.specs.Sources.{SourceTree, component_source}
 use Rattle.signature.specs.Symbol.{has_symbol}
-use Rattle.kernel_steps.specs.Derivation.{negative_of}
 use Rattle.kernel_steps.specs.declared.step.Step.{Step}
 use Rattle.kernel_steps.specs.declared.step.Step.TheVariants.{Component}
 use Rattle.clausal_form.specs.DerivationClause.{is_written_clause, ordinary_literals, symbols_in, numbering, clause_by}

@@ -11,7 +11,7 @@ use Rattle.clausal_form.specs.DerivationSteps.{LineKind, bindings_count, rule_st
 use Rattle.clausal_form.specs.DerivationLine.{LineTree, Taken}
 use Rattle.clausal_form.specs.DerivationParts.{Setting, line_kind, parents_of, parent_lines, items_of}
 use Rattle.clausal_form.specs.DerivationCauses.{binding, rule, Given, fault, is_bound, concluded, given_by_rule, refused, compared}
-use Rattle.tstp_checker.specs.declared.parts.LineParts.{LineParts}
+use Rattle.tstp_lines.specs.declared.parts.LineParts.{LineParts}
 use Rattle.tstp_checker.specs.declared.refusal.Refusal.{Refusal}
 use Rattle.tstp_checker.specs.declared.refusal.Refusal.TheVariants.{Cause, NoMemory}
 use Rattle.tstp_checker.specs.Causes.{cause_meant}

@@ -22,21 +22,21 @@ use Rattle.clausal_form.specs.DerivationSteps.{LineKind, rule_kind, kind_of, bin
 use Rattle.clausal_form.specs.DerivationLine.{LineTree, Taken, names_with}
 use Rattle.clausal_form.specs.DerivationParts.{Setting, line_kind, items_of, bound_terms, line_names}
 use Rattle.clausal_form.specs.DerivationCauses.{text, given_by, given_by_rule, is_formula_kind, is_old_name, LineVerdict, refused, compared, line_verdict}
-use Rattle.tstp_checker.specs.declared.parts.LineParts.{LineParts}
-use Rattle.tstp_checker.specs.declared.numbers.LineNumbers.{LineNumbers}
-use Rattle.tstp_checker.specs.declared.steps.Kind.{Kind}
-use Rattle.tstp_checker.specs.declared.steps.Kind.TheVariants as told
+use Rattle.tstp_lines.specs.declared.parts.LineParts.{LineParts}
+use Rattle.tstp_lines.specs.declared.numbers.LineNumbers.{LineNumbers}
+use Rattle.tstp_lines.specs.declared.steps.Kind.{Kind}
+use Rattle.tstp_lines.specs.declared.steps.Kind.TheVariants as told
 use Rattle.tstp_checker.specs.declared.refusal.Refusal.{Refusal}
 use Rattle.tstp_checker.specs.declared.refusal.Refusal.TheVariants.{Cause, NoMemory}
-use Rattle.tstp_checker.specs.Bindings.{all_bound}
+use Rattle.tstp_lines.specs.Bindings.{all_bound}
 use Rattle.tstp_checker.specs.ClauseLines.{is_component_kind}
-use Rattle.tstp_checker.specs.Parts.{parts_numbering}
-use Rattle.tstp_checker.specs.Sources.{bound_items}
-use Rattle.tstp_checker.specs.Steps.{kind_meant}
-use Rattle.tstp_checker.specs.Tables.{with_name, place_of_name}
+use Rattle.tstp_lines.specs.Parts.{parts_numbering}
+use Rattle.tstp_lines.specs.Sources.{bound_items}
+use Rattle.tstp_lines.specs.Steps.{kind_meant}
+use Rattle.tstp_lines.specs.Tables.{with_name, place_of_name}
 use Rattle.tstp_checker.specs.Taken.{IsNext, introduced_by}
 use Rattle.tstp_checker.specs.Verdicts.{IsVerdict, IfAnswered, with_names_asked, AreParents, ArePartsOf, IsComponentLine}
-use Rattle.tstp_checker.proofs.AboutReadings.TableLemmas.{absent-place, last-place}
+use Rattle.tstp_lines.proofs.AboutReadings.TableLemmas.{absent-place, last-place}
 use Rattle.tstp_checker.proofs.AboutVerdicts.ClauseLineLemmas.{clause-asked, verdict-as}
 
 -- ---- answers

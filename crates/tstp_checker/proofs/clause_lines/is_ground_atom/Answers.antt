@@ -1,7 +1,7 @@
 use Rattle.std.proofs.Common.{◌&&◌, ◌==◌, ap, sym, ◌∙◌}
 use Rattle.fol_base.specs.Ground.{is_ground_literal}
 use Rattle.fol_base.specs.Literal.{literal_of}
-use Rattle.tstp_checker.proofs.AboutReadings.AtomLemmas.{literal-ground}
+use Rattle.tstp_checker.proofs.AboutVerdicts.AtomLemmas.{literal-ground}
 use Rattle.tstp_checker.proofs.clause_lines.is_ground_atom.Goals as goal
 
 pub returns-then-literal : goal.returns-then-literal

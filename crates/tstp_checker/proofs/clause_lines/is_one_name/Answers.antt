@@ -1,4 +1,4 @@
-use Rattle.tstp_checker.proofs.AboutReadings.AtomLemmas.{names-many}
+use Rattle.tstp_checker.proofs.AboutVerdicts.AtomLemmas.{names-many}
 use Rattle.tstp_checker.proofs.clause_lines.is_one_name.Goals as goal
 
 pub returns-in_default-2 : goal.returns-in_default-2

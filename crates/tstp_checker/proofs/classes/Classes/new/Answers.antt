@@ -4,7 +4,7 @@ use Rattle.tptp_tree.specs.declared.problem.Annotated.{Annotated}
 use Rattle.clausal_form.specs.DerivationLine.{same_entry}
 use Rattle.tptp_tree.specs.Shape.{entry_of}
 use Rattle.tstp_checker.specs.Classes.{class_of}
-use Rattle.tstp_checker.proofs.AboutReadings.ClassLemmas.{map-starts, map-more, map-ends}
+use Rattle.tstp_checker.proofs.AboutVerdicts.ClassLemmas.{map-starts, map-more, map-ends}
 use Rattle.tstp_checker.proofs.classes.Classes.new.Goals as goal
 
 pub loop-formula-init : goal.loop-formula-init

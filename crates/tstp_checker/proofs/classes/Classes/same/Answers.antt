@@ -1,6 +1,6 @@
 use Rattle.std.proofs.Common.{ap, ◌∙◌}
 use Rattle.std.specs.Prelude.{option_and_then, slice_get}
-use Rattle.tstp_checker.proofs.AboutReadings.ClassLemmas.{classes-tell}
+use Rattle.tstp_checker.proofs.AboutVerdicts.ClassLemmas.{classes-tell}
 use Rattle.tstp_checker.proofs.classes.Classes.same.Goals as goal
 
 pub returns : goal.returns

@@ -1,7 +1,7 @@
 use Rattle.std.proofs.Common.{ap}
 use Rattle.clausal_form.specs.DerivationCauses.{given_by, compared}
 use Rattle.tstp_checker.specs.Lines.{setting_in, taken_in}
-use Rattle.tstp_checker.specs.Steps.{kind_meant}
+use Rattle.tstp_lines.specs.Steps.{kind_meant}
 use Rattle.tstp_checker.proofs.AboutVerdicts.ClauseLineLemmas.{verdict-as}
 use Rattle.tstp_checker.proofs.AboutVerdicts.VerdictLemmas.{given-rest}
 use Rattle.tstp_checker.proofs.lines.Lines.clause_line.Goals as goal

@@ -3,7 +3,7 @@ use Rattle.tptp_source.specs.Shape.{tree_of}
 use Rattle.clausal_form.specs.DerivationLine.{names_with}
 use Rattle.tstp_checker.specs.Lines.{line_meant, setting_in, taken_in}
 use Rattle.tstp_checker.specs.ClauseLines.{is_component_kind}
-use Rattle.tstp_checker.specs.Steps.{kind_meant}
+use Rattle.tstp_lines.specs.Steps.{kind_meant}
 use Rattle.tstp_checker.proofs.AboutVerdicts.VerdictLemmas.{passed, if-answered, same-numbers, names-same, no-old-name, bound-read, parts-read, clause-unwritten, clause-parents-refused, clause-judged}
 use Rattle.tstp_checker.proofs.lines.Lines.clause_verdict.Goals as goal
 

@@ -3,7 +3,7 @@ use Rattle.fol_base.specs.Literal.{clause_of}
 use Rattle.tptp_source.specs.Shape.{tree_of}
 use Rattle.clausal_form.specs.DerivationCauses.{concluded, gives_clause}
 use Rattle.tstp_checker.specs.Lines.{setting_in, taken_in}
-use Rattle.tstp_checker.specs.Steps.{kind_meant, bound_terms}
+use Rattle.tstp_lines.specs.Steps.{kind_meant, bound_terms}
 use Rattle.tstp_checker.proofs.AboutVerdicts.ClauseLineLemmas.{clause-compared, verdict-as}
 use Rattle.tstp_checker.proofs.AboutVerdicts.RuleStepLemmas.{step-is}
 use Rattle.tstp_checker.proofs.AboutVerdicts.RuleLineLemmas.{right_bindings, rule-unbound, rule-none, rule-gives, rule-refused}

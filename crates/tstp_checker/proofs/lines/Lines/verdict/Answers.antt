@@ -2,7 +2,7 @@ use Rattle.std.proofs.Common.{length, refl, ap, sym, ◌∙◌}
 use Rattle.tptp_source.specs.SourceShape.{source_of}
 use Rattle.tstp_checker.specs.declared.taken.TakenLines.{TakenLines}
 use Rattle.tstp_checker.specs.ClauseLines.{is_component_kind}
-use Rattle.tstp_checker.specs.Steps.{kind_meant}
+use Rattle.tstp_lines.specs.Steps.{kind_meant}
 use Rattle.tstp_checker.proofs.AboutVerdicts.VerdictLemmas.{named-by, formula-kind, formula-unnamed, clause-kind, clause-unnamed, names-same, all-next, all-counted, ok-so, err-so, component-next, component-counted, component-source}
 use Rattle.tstp_checker.proofs.lines.Lines.verdict.Goals as goal
 

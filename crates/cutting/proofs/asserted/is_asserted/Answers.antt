@@ -1,6 +1,0 @@
-use Rattle.std.proofs.Common.{◌∙◌}
-use Rattle.cutting.proofs.AboutCuts.CutAnswers.{asserted-any}
-use Rattle.cutting.proofs.asserted.is_asserted.Goals as goal
-
-pub returns : goal.returns
-returns c = c.has_negative.ensures ∙ asserted-any c.args.number c.args.names.now

@@ -1,5 +1,0 @@
-pub mod Fit
-pub mod Removing
-pub mod Superposing
-pub mod Cutting
-pub mod CutSteps

@@ -1,5 +1,0 @@
-use Rattle.reduction.proofs.Examples.{one_move}
-use Rattle.reduction.proofs.laws.extending_examples.Goals as goal
-
-pub returns-clause-lines : goal.returns-clause-lines
-returns-clause-lines c = one_move

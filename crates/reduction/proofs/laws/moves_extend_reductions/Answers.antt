@@ -1,8 +1,0 @@
-use Rattle.reduction.proofs.ExtendingLemmas.{moves_extend, steps_go_on}
-use Rattle.reduction.proofs.laws.moves_extend_reductions.Goals as goal
-
-pub returns-clause-moves : goal.returns-clause-moves
-returns-clause-moves c = moves_extend
-
-pub returns-clause-goes_on : goal.returns-clause-goes_on
-returns-clause-goes_on c = steps_go_on

@@ -1,8 +1,0 @@
-use Rattle.std.proofs.Common.{subst}
-use Rattle.fol_base.specs.Clause.{TreeClause}
-use Rattle.reduction.specs.Reduced.{IsReduced}
-use Rattle.reduction.proofs.reduced.unreduced_copy.Goals as goal
-
-pub returns-clause-reduced : goal.returns-clause-reduced
-returns-clause-reduced c = λ q clauses.
-    subst (λ (d : TreeClause). IsReduced q clauses d c.unreduced.result) c.in_ok-copied.ensures (c.unreduced.ensures.reduced q clauses)

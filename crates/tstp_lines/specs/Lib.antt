@@ -1,0 +1,9 @@
+pub mod Tables
+pub mod Numbers
+pub mod Written
+pub mod LineClause
+pub mod Bindings
+pub mod Items
+pub mod Steps
+pub mod Parts
+pub mod Sources

@@ -1,3 +1,0 @@
-pub mod Indexed
-pub mod Cuts
-pub mod Cuttable
