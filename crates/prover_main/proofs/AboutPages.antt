@@ -6,5 +6,6 @@ pub mod OneAnswer
 pub mod PageLemmas
 pub mod PieceExamples
 pub mod PlacedLemmas
+pub mod ReadLemmas
 pub mod TextLemmas
 pub mod WordLemmas

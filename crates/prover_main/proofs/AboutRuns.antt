@@ -1,4 +1,4 @@
--- The whole run and its laws.
-pub mod RunLaws
+-- The whole run, and what each of its statuses says.
+pub mod EndLemmas
+pub mod RowLemmas
 pub mod RunLemmas
-pub mod TruthLaws

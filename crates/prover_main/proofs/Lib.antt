@@ -3,5 +3,5 @@
 pub mod AboutPages
 -- AboutOutcomes: what each outcome says of the problem.
 pub mod AboutOutcomes
--- AboutRuns: the whole run and its laws.
+-- AboutRuns: the whole run, and what each of its statuses says.
 pub mod AboutRuns

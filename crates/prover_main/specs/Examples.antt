@@ -1,7 +1,7 @@
 -- The values of the worked examples.
-use Rattle.std.specs.Prelude.{ℕ, List, [], false, Some, None, codes, Result}
+use Rattle.std.specs.Prelude.{ℕ, List, [], ◌∷◌, false, Some, None, codes, Result}
 use Rattle.literal_selection.specs.declared.choice.Selection.TheVariants.{Negative}
-use Rattle.pool_core.specs.declared.options.Options.{Options}
+use Rattle.pool_history.specs.declared.options.Options.{Options}
 use Rattle.outside.specs.Examples.{script_gives}
 use Rattle.outside.specs.declared.fault.SinkFault.{SinkFault}
 use Rattle.tptp_tree.specs.declared.formula.Formula.TheVariants.{Pred}
@@ -9,9 +9,9 @@ use Rattle.tptp_tree.specs.declared.problem.Annotated.{Annotated}
 use Rattle.tptp_tree.specs.declared.role.Role.{Role}
 use Rattle.fol_base.specs.Clause.{TreeClause}
 use Rattle.signature.specs.Form.{ClausalForm, clausal_form}
-use Rattle.form_truth.specs.Examples.{hiding_alone}
+use Rattle.laws_meaning.specs.Examples.{hiding_alone}
 use Rattle.prover_main.specs.Outside.{Outside}
-use Rattle.prover_main.specs.Run.{AreWrites, DeliversInPieces}
+use Rattle.prover_main.specs.Run.{Taken, AreWrites, DeliversInPieces}
 
 -- a pool counts so many inferences, and chooses negative literals
 abbrev pub counting : ℕ → Options
@@ -40,3 +40,11 @@ AreWritesBy answers due text result handed left =
 abbrev pub DeliversInPiecesBy : List (Result ℕ SinkFault) → List ℕ → Result (Unit {0}) SinkFault → List (List ℕ) → List (Result ℕ SinkFault) → Type 0
 DeliversInPiecesBy answers text result handed left =
     DeliversInPieces script_gives (record { answers = answers; handed = [] }) text result (record { answers = left; handed = handed })
+
+-- a sink that took this text, and didn't fail
+abbrev pub taking : List ℕ → Taken
+taking text = record { bytes_before = Some []; bytes_after = Some text; faults_before = 3; faults_after = 3 }
+
+-- the words of `prove r1.p`
+abbrev pub proving_row : List (List ℕ)
+proving_row = codes "prove" ∷ codes "r1.p" ∷ []

@@ -7,5 +7,6 @@ pub mod Answer
 pub mod AnswerShape
 pub mod Reports
 pub mod Run
+pub mod Rows
 pub mod Laws
 pub mod Examples

@@ -6,7 +6,7 @@ use Rattle.fol_base.specs.Interpretation.{Interpretation, IsInterpretation, Hold
 use Rattle.signature.specs.Form.{ClausalForm}
 use Rattle.signature.specs.Truth.{is_model_of_problem}
 use Rattle.clausal_form.specs.FormFunctions.{is_predicate_in}
-use Rattle.form_truth.specs.Meaning.{InterpretsProblem, Extends, has_conjecture, ConjectureFollows, AxiomsUnsatisfiable}
+use Rattle.laws_meaning.specs.Meaning.{InterpretsProblem, Extends, has_conjecture, ConjectureFollows, AxiomsUnsatisfiable}
 
 -- ---- the clausal form
 

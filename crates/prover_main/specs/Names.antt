@@ -9,7 +9,7 @@ shown_byte b = if nat_le 32 b && nat_le b 126 then b else 63
 abbrev pub shown : List ℕ → List ℕ
 shown bytes = map shown_byte bytes
 
--- what stands behind the last slash
+-- what stands after the last slash
 abbrev pub has_slash : List ℕ → Bool
 has_slash [] = false
 has_slash (b ∷ bs) = b == 47 || has_slash bs

@@ -1,5 +1,6 @@
 -- What the library tells of a run.
-use Rattle.std.specs.Prelude.{ℕ, List, Option}
+use Rattle.std.specs.Prelude.{◌≡◌, ℕ, List, Option, Some}
+use Rattle.outside.specs.Faults.{Rose}
 use Rattle.outside.specs.Library.{Holdings}
 
 -- what the library tells, its count of faults before and after the run, how many bytes it found, and the name of its last failure
@@ -20,3 +21,9 @@ outside_by told faults found failed before after =
       found_after = found after;
       failed_after = failed after;
     }
+
+-- The library tells what it holds, and its count of faults didn't rise.
+pub record IsTold (outside : Outside) : Type 0 where
+  pub holds : Holdings
+  pub told : outside.told ≡ Some holds
+  pub stays : Rose outside.faults_before outside.faults_after → ⊥

@@ -102,7 +102,7 @@ abbrev pub saturation_word : Bool → List ℕ
 saturation_word true = codes "CounterSatisfiable"
 saturation_word false = codes "Satisfiable"
 
--- a text between its two lines, behind a status
+-- a text between its two lines, after a status
 abbrev pub printed_report : List ℕ → List ℕ → List ℕ → List ℕ → List ℕ
 printed_report file word form text =
     status_line word file ++ output_line (codes "start") form file ++ text ++ output_line (codes "end") form file
@@ -130,6 +130,23 @@ abbrev pub fault_line : ReadCause → List ℕ → ℕ → List ℕ
 fault_line Load name place = load_line name
 fault_line cause name place = place_line (read_word cause) name place
 
+-- a text that isn't read, a problem without a clausal form, and a file that couldn't be loaded
+abbrev pub unread_report : List ℕ → ReadCause → List ℕ → ℕ → List ℕ
+unread_report file cause name place = status_line (read_status_word cause) file ++ fault_line cause name place
+
+abbrev pub unformed_report : List ℕ → FormCause → List ℕ → List ℕ
+unformed_report file cause name = status_line (codes "InputError") file ++ formula_line (limit_word cause) name
+
+abbrev pub lost_report : List ℕ → List ℕ → List ℕ
+lost_report file name = status_line (codes "OSError") file ++ load_line name
+
+-- a pool that gave up
+abbrev pub spent_report : List ℕ → ℕ → ℕ → List ℕ
+spent_report file count allowed = status_line (codes "GaveUp") file ++ spent_line count allowed
+
+abbrev pub heavy_report : List ℕ → List ℕ → List ℕ
+heavy_report file key = status_line (codes "GaveUp") file ++ heavy_line key
+
 abbrev pub status_of : Answer → ℕ
 status_of (Refuted conjecture derivation) = 0
 status_of (Accepted lines) = 0
@@ -146,14 +163,14 @@ abbrev pub report_of : List ℕ → Answer → List ℕ
 report_of file (Refuted conjecture derivation) = refuted_report file conjecture derivation
 report_of file (Accepted lines) = accepted_line lines
 report_of file (Saturated conjecture members) = saturated_report file conjecture members
-report_of file (Spent count allowed) = status_line (codes "GaveUp") file ++ spent_line count allowed
-report_of file (Heavy key) = status_line (codes "GaveUp") file ++ heavy_line key
-report_of file (Unformed cause name) = status_line (codes "InputError") file ++ formula_line (limit_word cause) name
-report_of file (Unloaded name) = status_line (codes "OSError") file ++ load_line name
-report_of file (Unread cause name place) = status_line (read_status_word cause) file ++ fault_line cause name place
+report_of file (Spent count allowed) = spent_report file count allowed
+report_of file (Heavy key) = heavy_report file key
+report_of file (Unformed cause name) = unformed_report file cause name
+report_of file (Unloaded name) = lost_report file name
+report_of file (Unread cause name place) = unread_report file cause name place
 report_of file (Refused line cause) = refused_line line cause
 
--- memory was wanted
+-- the program is out of memory
 abbrev pub memory_out_report : List ℕ → List ℕ
 memory_out_report file = status_line (codes "MemoryOut") file
 

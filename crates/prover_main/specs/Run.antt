@@ -69,7 +69,7 @@ pub record Delivered (taken : Taken) (due : ℕ) (text : List ℕ) (status : ℕ
   pub status_is : status ≡ status_after due outcome
 
 -- The writes of a text that is delivered in pieces; `gives` says how a sink answers a write and what it becomes. No piece is begun
--- behind one that failed.
+-- after one that failed.
 pub data DeliversInPieces {S : Type 0} (gives : S → List ℕ → Result ℕ SinkFault → S → Type 0) : S → List ℕ → Result (Unit {0}) SinkFault → S → Type 0 where
   at_once :
       {sink after : S} {text : List ℕ} {result : Result (Unit {0}) SinkFault}
@@ -82,8 +82,8 @@ pub data DeliversInPieces {S : Type 0} (gives : S → List ℕ → Result ℕ Si
       {sink after : S} {fault : SinkFault} (front back : List ℕ)
       → DeliversInPieces gives sink front (Err fault) after → DeliversInPieces gives sink (front ++ back) (Err fault) after
 
--- A report is built whole before the first write, and each write is handed all bytes not yet taken; that memory was wanted is
--- written in pieces. None is made behind one that failed.
+-- A report is built whole before the first write, and each write is handed all bytes not yet taken; that the program is out of memory is
+-- written in pieces. None is made after one that failed.
 abbrev pub AreWrites : {S : Type 0} → (S → List ℕ → Result ℕ SinkFault → S → Type 0) → S → S → ℕ → List ℕ → Result (Unit {0}) SinkFault → Type 0
 AreWrites gives before after due text outcome =
     Delivers gives before text outcome after ⊎ ((due ≡ MEMORY_OUT) × DeliversInPieces gives before text outcome after)

@@ -1,8 +1,8 @@
--- The words behind a command as the program counts them: none, one, two, or more; and its values.
+-- The words after a command as the program counts them: none, one, two, or more; and its values.
 use Rattle.std.specs.Prelude.{◌≡◌, ⊤, ℕ, IsTrue, false, List, [], ◌∷◌, fold, Option}
 use Rattle.std.specs.Borrow.{Bor}
 use Rattle.std.specs.Option.{option_map}
-use Rattle.pool_core.specs.Inputs.{IsLimit}
+use Rattle.pool_history.specs.Inputs.{IsLimit}
 use Rattle.prover_main.specs.Words.{Given as GivenOptions, Command as Commanded, prove, check, is_filled, prove_with, check_with}
 use Rattle.prover_main.specs.declared.words.Command.{Command}
 use Rattle.prover_main.specs.declared.words.Command.TheVariants.{Prove, Check}

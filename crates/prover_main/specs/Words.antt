@@ -4,7 +4,7 @@ use Rattle.std.specs.List.{filter}
 use Rattle.plain_types.specs.declared.limits.TheConstants.{DEFAULT_INFERENCES, MOST_INFERENCES}
 use Rattle.literal_selection.specs.declared.choice.Selection.{Selection}
 use Rattle.literal_selection.specs.declared.choice.Selection.TheVariants.{Nothing, Negative}
-use Rattle.pool_core.specs.declared.options.Options.{Options}
+use Rattle.pool_history.specs.declared.options.Options.{Options}
 use Rattle.tptp_source.specs.Items.{decimal_in}
 
 -- what options give: how many inferences are counted, which literal of a clause is chosen, and the folder from which includes are loaded
@@ -20,7 +20,7 @@ pub data Command : Type 0 where
   -- a problem's file, a derivation's, and the folder of includes where it is given
   check : List ℕ → List ℕ → Option (List ℕ) → Command
 
--- ---- behind the command: file words, and options in any place
+-- ---- after the command: file words, and options in any place
 
 -- an option begins with `-`
 abbrev pub is_option : List ℕ → Bool
@@ -37,7 +37,7 @@ file_words words = filter (λ w. not (is_option w)) words
 
 -- ---- options: `--inferences=N`, `--tptp=DIR` and `--select=none|negative`, each at most once, with a value that isn't empty
 
--- the value behind an option's name and `=`
+-- the value after an option's name and `=`
 abbrev pub value_behind : List ℕ → List ℕ → Option (List ℕ)
 value_behind name word =
     if bytes_eq (take (length name) word) name && is_filled (drop (length name) word) then Some (drop (length name) word) else None
@@ -65,7 +65,7 @@ with_inferences given n = if is_some given.inferences then None else Some (recor
 abbrev pub with_selection : Given → Selection → Option Given
 with_selection given select = if is_some given.select then None else Some (record given { select = Some select })
 
--- and an option more, by its value behind each name; None where it is no option, or stands twice
+-- and an option more, by its value after each name; None where it is no option, or stands twice
 abbrev pub with_selection_by : Given → Option (List ℕ) → Option Given
 with_selection_by given None = None
 with_selection_by given (Some value) = option_and_then (with_selection given) (selection_in value)

@@ -1,12 +1,12 @@
 // What `check` answers.
 
-ghost use Rattle.std.specs.Prelude.{◌≡◌, ◌≤◌, IfOk, length};
+ghost use Rattle.std.specs.Prelude.{◌≡◌, ◌≤◌, IfOk, IsTrue, length};
 ghost use Rattle.std.specs.Option.{option_copied};
 ghost use Rattle.signature.specs.Form.{clausal_form};
 ghost use Rattle.clausal_form.specs.Form.{form_of};
+ghost use Rattle.laws_meaning.specs.Meaning.{are_closed};
 ghost use Rattle.prover_main.specs.Outside.{outside_by};
-ghost use Rattle.prover_main.specs.Answer.{IsCheckAnswer, IsJudgement};
-ghost use Rattle.prover_main.specs.AnswerShape.{WasRead};
+ghost use Rattle.prover_main.specs.Answer.{IsReadCheckAnswer, IsJudgement};
 
 use crate::answer::Answer;
 use crate::problem::{FormedProblem, formed_problem};
@@ -24,7 +24,7 @@ pub fn check_answer<L: Library>(
     derivation: &str,
     root: Option<&str>,
 ) -> Mem<Answer>
-    ensures { IfOk result (λ answer. IsCheckAnswer
+    ensures { IfOk result (λ answer. IsReadCheckAnswer
         (outside_by L.told L.faults L.found L.failed library.old library.new)
         (record { file = file.now; root = option_copied root.entry })
         derivation.now answer) }
@@ -49,7 +49,7 @@ pub fn check_answer<L: Library>(
 
 /// The answer on the text of a derivation.
 fn judged(alloc: Global, formed: &FormedProblem, text: &[u8]) -> Mem<Answer>
-    requires read { WasRead formed.now.problem }
+    requires closed { IsTrue (are_closed formed.now.problem.formulas) }
     requires form { form_of formed.now.form ≡ clausal_form formed.now.problem.formulas }
     requires small { length text.now ≤ MOST_TEXT_BYTES }
     ensures { IfOk result (λ answer. IsJudgement formed.now.problem.formulas text.now answer) }

@@ -1,4 +1,4 @@
-// The laws of runs, and worked examples: each is the contract of a function without arguments, whose body is empty or
+// The laws of answers, and worked examples: each is the contract of a function without arguments, whose body is empty or
 // names the laws on which it stands.
 
 ghost use Rattle.std.specs.Prelude.{◌≡◌, ◌^◌, ◌-◌, ◌++◌, ℕ, true, false, [], ◌∷◌, List, None, Some, Ok, Err, Result, codes, map, replicate};
@@ -16,12 +16,14 @@ ghost use Rattle.prover_main.specs.Words.{command_of, prove, check};
 ghost use Rattle.prover_main.specs.Names.{shown, problem_name};
 ghost use Rattle.signature.specs.Examples.{clause, fof_axiom};
 ghost use Rattle.signature.specs.Form.{clausal_form};
-ghost use Rattle.form_truth.specs.Meaning.{has_conjecture};
-ghost use Rattle.form_truth.specs.Examples.{hiding_alone, every_p, some_p, contradiction, proving};
+ghost use Rattle.laws_meaning.specs.Meaning.{has_conjecture};
+ghost use Rattle.laws_meaning.specs.Examples.{hiding_alone, every_p, some_p, contradiction, proving};
 ghost use Rattle.prover_main.specs.Meaning.{FormMeans, IsTheorem};
 ghost use Rattle.prover_main.specs.Reports.{status_of, read_status, read_status_word, report_of, memory_out_report, usage_report, read_word, form_word, limit_word, cause_word};
-ghost use Rattle.prover_main.specs.Laws.{is_exact, IsTold, ChecksHaveOneAnswer, FaultsAreTheOnlyAnswer, UsageIsTold, CommandsAreAnswered, FaultsAreCounted, FaultsComeForCauses, StatusesAreTrue, FormedIsValid, ValidProblemsAreAnswered, LoadedDerivationsAreAnswered};
-ghost use Rattle.prover_main.specs.Examples.{counting, formula_in, hiding_with, holding_nothing, AreWritesBy, DeliversInPiecesBy};
+ghost use Rattle.prover_main.specs.Outside.{IsTold};
+ghost use Rattle.prover_main.specs.Laws.{is_exact, ChecksHaveOneAnswer, FaultsAreTheOnlyAnswer, FormedIsValid};
+ghost use Rattle.prover_main.specs.Examples.{counting, formula_in, hiding_with, holding_nothing, taking, proving_row, AreWritesBy, DeliversInPiecesBy};
+ghost use Rattle.prover_main.specs.Rows.{UsageRow, TheoremRow, MemoryOutRow, LoadFaultRow};
 ghost use Rattle.prover_main.specs.Run.{IsDue};
 ghost use Rattle.prover_main.specs.declared.status.TheConstants.{SINK_FAILED, USAGE_SHOWN, MEMORY_OUT};
 
@@ -36,37 +38,12 @@ pub fn one_answer()
     texts_have_one_answer();
 }
 
-/// Usage is told exactly where the words are usage, but for a write that fails. Every other run whose writes didn't fail tells an answer
-/// whose cause is there, or that memory was wanted. 5 and 4 come only where a count of faults rose, or stands at its end. Where the
-/// library tells and no load failed, 3, 8 and 9 come exactly for their causes, up to want of memory and a write that fails.
-pub fn statuses_come_for_causes()
-    ensures usage { UsageIsTold }
-    ensures answered { CommandsAreAnswered }
-    ensures counted { FaultsAreCounted }
-    ensures exactly { FaultsComeForCauses }
-{
-    texts_have_one_answer();
-}
-
-/// Soundness: 0 comes only where some finite list of ground instances of the clausal form is true in no interpretation; so every
-/// finite interpretation that makes the axioms true makes the conjecture true, and without a conjecture none makes them true. And 1 and 2 only where some lawful history of that form and the options ends so; with 1 the living awake clauses are
-/// saturated for the form.
-pub fn statuses_are_true()
-    ensures { StatusesAreTrue }
+/// The formulas of a problem within the limits show that nothing is wrong with it: completeness speaks of such problems.
+pub fn formed_problems_are_valid()
+    ensures { FormedIsValid }
 {}
 
-/// Completeness: where the library tells, nothing failed and nothing is wrong with the problem, `prove` ends with 0, 1 or
-/// 2 and what each means, or wants memory; and `check` ends with 0 where the derivation is accepted and with 9 where it isn't, or
-/// wants memory.
-pub fn valid_inputs_are_answered()
-    ensures formed { FormedIsValid }
-    ensures prove { ValidProblemsAreAnswered }
-    ensures check { LoadedDerivationsAreAnswered }
-{
-    texts_have_one_answer();
-}
-
-/// Words that are a command: options stand in any place behind it.
+/// Words that are a command: options stand in any place after it.
 pub fn command_examples()
     ensures plain { command_of (codes "prove" ∷ codes "a" ∷ []) ≡ Some (prove (codes "a") None (counting 100000)) }
     ensures root { command_of (codes "prove" ∷ codes "--tptp=D" ∷ codes "a" ∷ []) ≡ Some (prove (codes "a") (Some (codes "D")) (counting 100000)) }
@@ -111,7 +88,7 @@ pub fn usage_examples()
     ensures letter { command_of (codes "prove" ∷ codes "a" ∷ codes "--inferences=1x" ∷ []) ≡ None }
 {}
 
-/// The names that reports show: what stands behind the file's last slash, without a final `.p`; bytes outside 32 to 126 as
+/// The names that reports show: what stands after the file's last slash, without a final `.p`; bytes outside 32 to 126 as
 /// question marks.
 pub fn name_examples()
     ensures in_folders { problem_name (codes "dir/sub/r1.p") ≡ codes "r1" }
@@ -231,8 +208,18 @@ pub fn fault_examples()
     ensures usage_after_a_fault { ¬ IsDue None (holding_nothing 3 4) 6 usage_report }
 {}
 
-/// Deliveries of a text in pieces: of two, as only want of memory is told, and of two of
-/// which the first fails. None goes on behind a write that failed.
+/// Usage is told with its status and its text. No word is no theorem, and no sink that took nothing was told that memory was wanted.
+pub fn row_examples()
+    ensures usage { UsageRow [] (taking usage_report) 6 }
+    ensures other_status { ¬ UsageRow [] (taking usage_report) 0 }
+    ensures no_theorem { ¬ TheoremRow [] (holding_nothing 3 3) 0 }
+    ensures memory_out { MemoryOutRow proving_row (taking (memory_out_report (codes "r1.p"))) 7 }
+    ensures nothing_told { ¬ MemoryOutRow proving_row (taking []) 7 }
+    ensures no_fault { ¬ LoadFaultRow proving_row (holding_nothing 3 3) (taking []) 4 }
+{}
+
+/// Deliveries of a text in pieces: of two, as only out of memory is told, and of two of
+/// which the first fails. None goes on after a write that failed.
 pub fn piece_examples()
     ensures two { DeliversInPiecesBy (Ok 3 ∷ Ok 1 ∷ []) (codes "abcd") (Ok tt) (codes "abc" ∷ codes "d" ∷ []) [] }
     ensures one_status { ¬ AreWritesBy (Ok 3 ∷ Ok 1 ∷ []) 0 (codes "abcd") (Ok tt) (codes "abc" ∷ codes "d" ∷ []) [] }

@@ -1,4 +1,14 @@
-// The prover and its checker: a problem in, or a problem and a derivation; a report out.
+//! The program: `prove` and `check` as one call, `run`, over any library of files and any sink for the report.
+//!
+//! There are five stages, and the first that fails answers: the words of the command line (`words.rt`); reading and clausal form
+//! (`problem.rt`); the proof (`prove.rt` on `proved.rt`) or the check (`check.rt`); the report (`report.rt`, `names.rt`); its writes (`run.rt`;
+//! when out of memory in pieces that take none, `memory_out.rt`).
+//!
+//! **What is proved.** The clauses of `run`: one for each row of the table of answers (`specs/Rows.antt`), that every valid input is answered,
+//! and which writes deliver the report.
+//!
+//! **What isn't.** That the words which `main` hands over are those of the command line, and that the process ends with the status. A stored
+//! run shows it.
 #![tactic(auto)]
 
 mod answer;

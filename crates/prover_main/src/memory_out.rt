@@ -1,4 +1,4 @@
-// The report of want of memory. It is written in pieces, since a text that is built whole would take memory.
+// The report of out of memory. It is written in pieces, since a text that is built whole would take memory.
 
 ghost use Rattle.std.specs.Prelude.{◌≡◌};
 ghost use Rattle.prover_main.specs.Names.{shown, problem_name};

@@ -1,4 +1,4 @@
-// The first stages of each command: a problem is read, and for `check` it is brought to clausal form.
+// The first stages of each command: a problem is read and brought to clausal form.
 
 ghost use Rattle.std.specs.Prelude.{◌≡◌, ◌≤◌, IfOk, IfErr};
 ghost use Rattle.std.specs.Option.{option_copied};
@@ -34,7 +34,7 @@ pub enum Stop {
 }
 
 impl Stop {
-    /// The answer; want of memory is none.
+    /// The answer; out of memory is none.
     pub fn answer(self) -> Mem<Answer>
         ensures { IfOk result (λ answer. IsStopAnswer self answer) }
     {
@@ -46,8 +46,8 @@ impl Stop {
     }
 }
 
-/// Reads the problem of a file.
-pub fn problem_in<L: Library>(
+/// Reads the problem of a file, which is one that the later stages take.
+fn problem_in<L: Library>(
     alloc: Global,
     library: &mut L,
     file: &str,

@@ -2,26 +2,29 @@
 
 ghost use Rattle.std.specs.Prelude.{◌≡◌, false, IfOk, IsTrue};
 ghost use Rattle.std.specs.Option.{option_copied};
-ghost use Rattle.form_truth.specs.Meaning.{has_conjecture};
-ghost use Rattle.pool_core.specs.Inputs.{IsLimit};
+ghost use Rattle.signature.specs.Form.{clausal_form};
+ghost use Rattle.clausal_form.specs.Form.{form_of};
+ghost use Rattle.laws_meaning.specs.Meaning.{has_conjecture};
+ghost use Rattle.pool_history.specs.Inputs.{IsLimit};
 ghost use Rattle.prover_main.specs.Words.{is_filled};
 ghost use Rattle.prover_main.specs.Outside.{outside_by};
 ghost use Rattle.prover_main.specs.Names.{shown};
-ghost use Rattle.prover_main.specs.Answer.{IsProveAnswer, IsProofAnswer};
-ghost use Rattle.prover_main.specs.AnswerShape.{IsProvedProblem, WasRead};
+ghost use Rattle.prover_main.specs.Answer.{IsReadProveAnswer, IsProofAnswer};
+ghost use Rattle.prover_main.specs.AnswerShape.{IsAdmissible, IsProvedForm, PoolSays};
 
 use crate::answer::Answer;
 use crate::names::push_shown;
-use crate::problem::problem_in;
-use crate::proved::{ProveFault, Proved, prove_problem};
+use crate::problem::{FormedProblem, formed_problem};
+use crate::proved::prove_form;
+use laws_saturation::laws::members_have_met;
 use outside::Library;
-use plain_types::{Mem, NoMemory, Text};
+use plain_types::{Mem, Text};
 use pool_core::{Options, Outcome};
 use pool_writer::{write_key, write_refutation, write_saturation};
-use saturation::laws::{members_have_met, saturated_is_saturated};
+use proving::Proved;
 use std::alloc::Global;
 use std::sync::Wait;
-use tptp_tree::{Annotated, Problem};
+use tptp_tree::Annotated;
 use tstp_writer::Page;
 
 /// Reads the problem of a file, and proves or gives up. The first stage that fails answers.
@@ -36,44 +39,43 @@ pub fn prove_answer<R: Wait, L: Library>(
     requires limit { IsLimit options }
     requires unsplit { options.split ≡ false }
     requires filled { IsTrue (is_filled file.now) }
-    ensures { IfOk result (λ answer. IsProveAnswer
+    ensures { IfOk result (λ answer. IsReadProveAnswer
         (outside_by L.told L.faults L.found L.failed library.old library.new)
         (record { file = file.now; root = option_copied root.entry })
         options answer) }
 {
-    let problem = match problem_in(alloc, library, file, root) {
-        Ok(problem) => problem,
+    let formed = match formed_problem(alloc, library, file, root) {
+        Ok(formed) => formed,
         Err(stop) => return stop.answer(),
     };
-    match prove_problem(rt, alloc, &problem, options) {
-        Ok(proved) => proof_answer(alloc, file, &problem, &proved, options),
-        Err(ProveFault::Form(cause, name)) => Ok(Answer::Unformed(cause, name)),
-        Err(ProveFault::NoMemory) => Err(NoMemory),
-    }
+    let proved = prove_form(rt, alloc, &formed.problem, &formed.form, options)?;
+    proof_answer(alloc, file, &formed, &proved, options)
 }
 
-/// The answer that a problem's pool ends with. By the laws of saturation the members of a saturated pool are a saturated set.
+/// The answer that the pool of a problem's form ends with, however the problem came. What the outcome says of it is handed in.
 fn proof_answer(
     alloc: Global,
     file: &str,
-    problem: &Problem,
+    formed: &FormedProblem,
     proved: &Proved,
     options: Options,
 ) -> Mem<Answer>
-    requires read { WasRead problem.now }
     requires filled { IsTrue (is_filled file.now) }
     requires unsplit { options.split ≡ false }
-    requires proved { IsProvedProblem problem.now.formulas options proved.now }
-    ensures { IfOk result (λ answer. IsProofAnswer file.now problem.now.formulas options answer) }
+    requires admissible { IsAdmissible formed.now.problem.formulas }
+    requires form { form_of formed.now.form ≡ clausal_form formed.now.problem.formulas }
+    requires proved { IsProvedForm formed.now.problem.formulas options proved.now }
+    requires says { PoolSays formed.now.problem.formulas options proved.now }
+    ensures { IfOk result (λ answer. IsProofAnswer file.now formed.now.problem.formulas options answer) }
 {
-    let conjecture = has_conjecture(problem.formulas.as_slice());
+    let conjecture = has_conjecture(formed.problem.formulas.as_slice());
     match proved.outcome {
         Outcome::Refuted => {
             let name = shown_name(alloc, file)?;
             let derivation = write_refutation(
                 alloc,
-                problem,
-                &proved.form,
+                &formed.problem,
+                &formed.form,
                 &proved.pool,
                 name.as_slice(),
             )?;
@@ -83,9 +85,8 @@ fn proof_answer(
             })
         }
         Outcome::Saturated => {
-            saturated_is_saturated();
             members_have_met();
-            let members = write_saturation(alloc, &proved.form, &proved.bank, &proved.pool)?;
+            let members = write_saturation(alloc, &formed.form, &proved.bank, &proved.pool)?;
             Ok(Answer::Saturated {
                 conjecture,
                 members,

@@ -1,19 +1,22 @@
 // A problem from its formulas to the outcome of a pool.
 
-ghost use Rattle.std.specs.Prelude.{◌≡◌, false, IfOk, IfErr, IsTrue};
+ghost use Rattle.std.specs.Prelude.{◌≡◌, false, map, None, IfOk, IfErr, IsTrue};
 ghost use Rattle.tptp_tree.specs.ProblemSize.{HasProblemSize};
+ghost use Rattle.fol_base.specs.Literal.{clause_of};
+ghost use Rattle.signature.specs.Form.{clausal_form};
+ghost use Rattle.clausal_form.specs.Fault.{form_fault};
 ghost use Rattle.clausal_form.specs.Form.{form_of};
-ghost use Rattle.form_truth.specs.Meaning.{are_closed};
-ghost use Rattle.pool_core.specs.Inputs.{IsLimit};
-ghost use Rattle.pool_core.specs.Replay.{replay};
+ghost use Rattle.laws_meaning.specs.Meaning.{are_closed};
+ghost use Rattle.pool_history.specs.Inputs.{AreInputs, IsLimit};
+ghost use Rattle.pool_history.specs.Replay.{replay};
 ghost use Rattle.prover_main.specs.Meaning.{FormMeans};
-ghost use Rattle.prover_main.specs.AnswerShape.{IsProvedProblem, IsProveFault, OutcomeSays};
+ghost use Rattle.prover_main.specs.AnswerShape.{IsProvedForm, IsProvedProblem, IsProveFault, OutcomeSays, PoolSays};
 
 use clausal_form::{Clausal, FormCause, FormFault, clausal};
-use plain_types::Text;
+use laws_saturation::laws::saturated_is_saturated;
+use plain_types::{Mem, Text};
 use pool_core::{Options, Outcome, Pool};
 use proving::prove_clauses;
-use saturation::laws::saturated_is_saturated;
 use std::alloc::Global;
 use std::sync::Wait;
 use term_bank::Bank;
@@ -37,7 +40,7 @@ pub enum ProveFault {
 }
 
 /// Brings a problem to clausal form, and works on a pool of its clauses until an outcome stands. Clauses aren't split. What
-/// the form and the outcome say of the problem is told here; that the members of a saturated pool are saturated stands by the laws of saturation.
+/// the form means and what the outcome says of the problem is told here.
 pub fn prove_problem<R: Wait>(
     rt: &R,
     alloc: Global,
@@ -52,9 +55,8 @@ pub fn prove_problem<R: Wait>(
     ensures says { IfOk result (λ p. OutcomeSays problem.now.formulas options (replay p.pool.origin p.pool.history) p.outcome) }
     ensures refused { IfErr result (IsProveFault problem.now.formulas) }
 {
-    saturated_is_saturated();
     match clausal(alloc, problem) {
-        Ok(form) => match prove_clauses(rt, alloc, &form.clauses, options) {
+        Ok(form) => match prove_form(rt, alloc, problem, &form, options) {
             Ok(proved) => Ok(Proved {
                 outcome: proved.outcome,
                 pool: proved.pool,
@@ -67,3 +69,31 @@ pub fn prove_problem<R: Wait>(
         Err(FormFault::Refused(cause, name)) => Err(ProveFault::Form(cause, name)),
     }
 }
+
+/// Works on a pool of the clauses of a problem's clausal form until an outcome stands, however the problem came. Clauses aren't split. What
+/// the outcome says of the problem is told.
+pub fn prove_form<R: Wait>(
+    rt: &R,
+    alloc: Global,
+    problem: &Problem,
+    form: &Clausal,
+    options: Options,
+) -> Mem<proving::Proved>
+    requires within { form_fault problem.now.formulas ≡ None }
+    requires form { form_of form.now ≡ clausal_form problem.now.formulas }
+    requires limit { IsLimit options }
+    requires unsplit { options.split ≡ false }
+    ensures proved { IfOk result (IsProvedForm problem.now.formulas options) }
+    ensures says { IfOk result (PoolSays problem.now.formulas options) }
+{
+    prove_inputs(problem, form);
+    saturated_is_saturated();
+    prove_clauses(rt, alloc, &form.clauses, options)
+}
+
+/// The clauses of a problem's form are such as a pool may begin with.
+fn prove_inputs(problem: &Problem, form: &Clausal)
+    requires within { form_fault problem.now.formulas ≡ None }
+    requires form { form_of form.now ≡ clausal_form problem.now.formulas }
+    ensures { AreInputs (map clause_of form.now.clauses) }
+{}

@@ -137,7 +137,7 @@ fn saturation_word(conjecture: bool) -> &'static [u8]
     }
 }
 
-/// Adds a text between its two lines, behind the status of a word.
+/// Adds a text between its two lines, after the status of a word.
 fn push_printed(page: &mut Page, file: &str, word: &[u8], form: &[u8], text: &[u8]) -> Mem<()>
     ensures { IfOk result (λ _. page.new ≡ page.old ++ printed_report file.now word.now form.now text.now) }
 {
@@ -147,7 +147,7 @@ fn push_printed(page: &mut Page, file: &str, word: &[u8], form: &[u8], text: &[u
     push_output(page, b"end", form, file)
 }
 
-/// Adds a derivation behind its status.
+/// Adds a derivation after its status.
 fn push_refuted(page: &mut Page, file: &str, conjecture: bool, derivation: &[u8]) -> Mem<()>
     ensures { IfOk result (λ _. page.new ≡ page.old ++ refuted_report file.now conjecture derivation.now) }
 {
@@ -155,7 +155,7 @@ fn push_refuted(page: &mut Page, file: &str, conjecture: bool, derivation: &[u8]
     push_printed(page, file, word, b"CNFRefutation", derivation)
 }
 
-/// Adds the members of a saturated set behind their status.
+/// Adds the members of a saturated set after their status.
 fn push_saturated(page: &mut Page, file: &str, conjecture: bool, members: &[u8]) -> Mem<()>
     ensures { IfOk result (λ _. page.new ≡ page.old ++ saturated_report file.now conjecture members.now) }
 {

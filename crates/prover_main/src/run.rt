@@ -1,10 +1,11 @@
 // One run of the program.
 
-ghost use Rattle.std.specs.Prelude.{◌≡◌, ◌≤◌, IfOk};
+ghost use Rattle.std.specs.Prelude.{◌≡◌, IfOk};
 ghost use Rattle.prover_main.specs.Outside.{outside_by};
 ghost use Rattle.prover_main.specs.Answer.{IsAnswer};
 ghost use Rattle.prover_main.specs.WordParts.{command_meant, IsFit};
 ghost use Rattle.prover_main.specs.Reports.{memory_out_report};
+ghost use Rattle.prover_main.specs.Rows.{TheoremRow, PrintedRow, SaturatedRow, GaveUpRow, CheckedRow, FormFaultRow, LoadFaultRow, LostOutputRow, UsageRow, MemoryOutRow, ReadFaultRow, CompleteRow};
 ghost use Rattle.prover_main.specs.Run.{file_of, taken_by, status_after, IsAnswered, IsRunBy, DeliveredBy};
 
 use crate::answer::Answer;
@@ -14,6 +15,7 @@ use crate::prove::prove_answer;
 use crate::report::report_of;
 use crate::status::{MEMORY_OUT, SINK_FAILED, USAGE_SHOWN};
 use crate::words::{Command, Words};
+use clausal_form::laws::texts_have_one_answer;
 use outside::{Library, Sink, SinkFault, deliver};
 use plain_types::{Mem, NoMemory, Text};
 use std::alloc::Global;
@@ -31,8 +33,70 @@ struct Report {
 
 /// What the program does with the words of its command line: it proves a problem or checks a derivation, and writes the
 /// report. The answer is the status of the report, or `SINK_FAILED`. For words that are usage it takes no memory,
-/// and none for the report that memory was wanted.
+/// and none for the report that it is out of memory. Each clause but the last two is a row of the table of answers and
+/// stands alone. `complete` says that a valid input is answered. `writes` has the whole: what is due, and by which writes it is delivered.
 pub fn run<R: Wait, L: Library, S: Sink>(
+    rt: &R,
+    alloc: Global,
+    words: &Words,
+    library: &mut L,
+    sink: &mut S,
+) -> u8
+    ensures usage { UsageRow words.now
+        (taken_by S.taken S.faults sink.old sink.new)
+        result }
+    ensures theorem { TheoremRow words.now
+        (outside_by L.told L.faults L.found L.failed library.old library.new)
+        result }
+    ensures printed { PrintedRow words.now
+        (outside_by L.told L.faults L.found L.failed library.old library.new)
+        (taken_by S.taken S.faults sink.old sink.new)
+        result }
+    ensures saturated { SaturatedRow words.now
+        (outside_by L.told L.faults L.found L.failed library.old library.new)
+        (taken_by S.taken S.faults sink.old sink.new)
+        result }
+    ensures gave_up { GaveUpRow words.now
+        (outside_by L.told L.faults L.found L.failed library.old library.new)
+        (taken_by S.taken S.faults sink.old sink.new)
+        result }
+    ensures read_fault { ReadFaultRow words.now
+        (outside_by L.told L.faults L.found L.failed library.old library.new)
+        (taken_by S.taken S.faults sink.old sink.new)
+        result }
+    ensures form_fault { FormFaultRow words.now
+        (outside_by L.told L.faults L.found L.failed library.old library.new)
+        (taken_by S.taken S.faults sink.old sink.new)
+        result }
+    ensures load_fault { LoadFaultRow words.now
+        (outside_by L.told L.faults L.found L.failed library.old library.new)
+        (taken_by S.taken S.faults sink.old sink.new)
+        result }
+    ensures lost_output { LostOutputRow words.now
+        (outside_by L.told L.faults L.found L.failed library.old library.new)
+        (taken_by S.taken S.faults sink.old sink.new)
+        result }
+    ensures checked { CheckedRow words.now
+        (outside_by L.told L.faults L.found L.failed library.old library.new)
+        (taken_by S.taken S.faults sink.old sink.new)
+        result }
+    ensures memory_out { MemoryOutRow words.now
+        (taken_by S.taken S.faults sink.old sink.new)
+        result }
+    ensures complete { CompleteRow words.now
+        (outside_by L.told L.faults L.found L.failed library.old library.new)
+        result }
+    ensures writes { IsRunBy S.gives sink.old sink.new words.now
+        (outside_by L.told L.faults L.found L.failed library.old library.new)
+        (taken_by S.taken S.faults sink.old sink.new)
+        result }
+{
+    texts_have_one_answer();
+    run_words(rt, alloc, words, library, sink)
+}
+
+/// The report that is due to the words is made and written.
+fn run_words<R: Wait, L: Library, S: Sink>(
     rt: &R,
     alloc: Global,
     words: &Words,

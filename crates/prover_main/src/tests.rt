@@ -1,11 +1,9 @@
 // What no clause says: that runs end with the report that they should, over memory.
 mod cases;
-mod derivations;
 
 use super::*;
 use crate::memory_out::deliver_memory_out;
-use cases::{CASES, FAILURE_FILES, FAILURES, LIMITS, REFUTED};
-use derivations::{ROWS, Row};
+use cases::{CASES, FAILURE_FILES, FAILURES, REFUTED};
 use outside::{Files, MemFile, MemLibrary, MemSink};
 use plain_types::Numbers;
 use std::alloc::Global;
@@ -54,52 +52,6 @@ fn runs_report_as_stated(rt: HostRuntime) {
     }
 }
 
-/// The text of a row's derivation.
-fn derivation_of(alloc: Global, row: &Row) -> Mem<Vec<u8>> {
-    let mut text = Vec::new(alloc);
-    for (index, line) in row.example.example().lines.iter().enumerate() {
-        match row.change {
-            Some((place, other)) if place == index => text.extend_from_slice(other)?,
-            _ => text.extend_from_slice(line)?,
-        }
-        text.push(b'\n')?;
-    }
-    Ok(text)
-}
-
-/// A problem's file and a derivation's.
-fn files_with<'a>(
-    alloc: Global,
-    file: &'a str,
-    problem: &'a [u8],
-    derivation: &'a [u8],
-) -> Mem<Vec<(&'a str, &'a [u8])>> {
-    let mut files = Vec::new(alloc);
-    files.push((file, problem))?;
-    files.push(("d", derivation))?;
-    Ok(files)
-}
-
-#[test]
-fn changed_derivations_are_refused_by_their_causes(rt: HostRuntime) {
-    for (index, row) in ROWS.iter().enumerate() {
-        let example = row.example.example();
-        let derivation = derivation_of(rt.alloc(), row).expect(&rt, "memory");
-        let files = files_with(
-            rt.alloc(),
-            example.file,
-            example.problem,
-            derivation.as_slice(),
-        )
-        .expect(&rt, "memory");
-        let words = ["check", example.file, "d"];
-        let told = outcome(&rt, rt.alloc(), words.as_slice(), files.as_slice());
-        let (status, sink) = told.expect(&rt, "memory");
-        assert_eq!(rt; status, row.status, "{index}");
-        assert!(rt; sink.bytes() == row.report, "{index}");
-    }
-}
-
 // The first load that fails is told, of the problem's file, of one that it includes, and last of a derivation. A sink that fails has taken
 // what came before.
 #[test]
@@ -129,7 +81,7 @@ fn want_of_memory_is_told_in_pieces(rt: HostRuntime) {
     assert!(rt; failing.bytes() == b"% SZS status MemoryOut for r".as_slice());
 }
 
-/// A list and one item more in front or behind.
+/// A list and one item more in front or after.
 fn with_word<'a>(alloc: Global, front: &[&'a str], words: &[&'a str]) -> Mem<Vec<&'a str>> {
     let mut list = Vec::new(alloc);
     list.extend_from_slice(front)?;
@@ -162,30 +114,5 @@ fn printed_refutations_are_accepted(rt: HostRuntime) {
         );
         let told = outcome(&rt, alloc, words.as_slice(), files.as_slice());
         assert_eq!(rt; told.expect(&rt, "memory").0, 0, "{}", problem.word);
-    }
-}
-
-/// The text of pieces, each so many times.
-fn text_of(alloc: Global, pieces: &[(&[u8], usize)]) -> Mem<Vec<u8>> {
-    let mut text = Vec::new(alloc);
-    for (piece, times) in pieces {
-        for _ in 0..*times {
-            text.extend_from_slice(piece)?;
-        }
-    }
-    Ok(text)
-}
-
-#[test]
-fn limits_of_a_problem_are_told(rt: HostRuntime) {
-    let alloc = rt.alloc();
-    for limit in LIMITS {
-        let text = text_of(alloc, limit.pieces).expect(&rt, "memory");
-        let files = [("d.p", text.as_slice())];
-        let told = outcome(&rt, alloc, &["prove", "d.p"], files.as_slice());
-        let (status, sink) = told.expect(&rt, "memory");
-        let report = text_of(alloc, limit.report).expect(&rt, "memory");
-        assert_eq!(rt; status, limit.status, "{}", text.len());
-        assert!(rt; sink.bytes() == report.as_slice(), "{}", text.len());
     }
 }

@@ -153,7 +153,7 @@ impl<'a> Given<'a> {
     }
 }
 
-/// What stands behind a command.
+/// What stands after a command.
 #[derive(Clone, Copy)]
 struct Arguments<'a> {
     files: FileWords<'a>,
@@ -171,7 +171,7 @@ fn is_option(word: &str) -> bool
     }
 }
 
-/// The value behind an option's name and `=`, which isn't empty.
+/// The value after an option's name and `=`, which isn't empty.
 fn value_behind<'a>(name: &str, word: &'a str) -> Option<&'a str>
     ensures { lent result ≡ value_behind name.now word.now }
 {
@@ -288,7 +288,7 @@ impl Words {
         }
     }
 
-    /// Adds a word at the end. After want of memory the words are as before.
+    /// Adds a word at the end. After an out-of-memory error the words are as before.
     pub fn push(&mut self, word: String) -> Mem<()>
         ensures ok { IfOk result (λ _. self.new ≡ self.old ++ string_bytes word ∷ []) }
         ensures err { OnErr result (self.new ≡ self.old) }

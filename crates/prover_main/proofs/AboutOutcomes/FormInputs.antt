@@ -10,7 +10,7 @@ use Rattle.signature.specs.Form.{clausal_form}
 use Rattle.clausal_form.specs.Fault.{form_fault}
 use Rattle.clausal_form.proofs.AboutForms.FormLemmas.{forms-are-canonical, forms-are-small, forms-have-small-clauses}
 use Rattle.clausal_form.proofs.AboutForms.WellFormedLemmas.{forms-are-well-formed}
-use Rattle.pool_core.specs.Inputs.{AreInputs}
+use Rattle.pool_history.specs.Inputs.{AreInputs}
 
 abbrev IsPlain : TreeClause → Type 0
 IsPlain c = IsCanonical c × (c.names ≡ [])

@@ -14,7 +14,7 @@ use Rattle.signature.specs.Symbol.{is_predicate_kind}
 use Rattle.signature.specs.Form.{clausal_form}
 use Rattle.kernel_steps.specs.Symbols.{symbols_pass, all_symbols_pass, literal_symbols_pass, clause_symbols_pass}
 use Rattle.clausal_form.specs.FormFunctions.{functions_from, functions_of, is_predicate_in, OwnFunctions}
-use Rattle.calculus.specs.Symbols.{is_allowed, HasSymbolsOf}
+use Rattle.laws_calculus.specs.Symbols.{is_allowed, HasSymbolsOf}
 use Rattle.tstp_writer.specs.ReadableLines.{is_symbol_in}
 use Rattle.pool_writer.proofs.FormSymbols.{form-symbols-pass}
 

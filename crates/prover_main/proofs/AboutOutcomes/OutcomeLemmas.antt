@@ -1,20 +1,20 @@
 -- What the outcome of a problem's pool says of the problem.
 use Rattle.std.proofs.Common.{◌≡◌, List, false}
 use Rattle.tptp_tree.specs.declared.problem.Annotated.{Annotated}
-use Rattle.pool_core.specs.declared.options.Options.{Options}
-use Rattle.pool_core.specs.declared.outcome.Outcome.{Outcome}
-use Rattle.pool_core.specs.declared.outcome.Outcome.TheVariants.{Refuted, Saturated, Spent, Heavy}
-use Rattle.saturation.specs.Laws.{SaturatedIsSaturated}
+use Rattle.pool_history.specs.declared.options.Options.{Options}
+use Rattle.pool_history.specs.declared.outcome.Outcome.{Outcome}
+use Rattle.pool_history.specs.declared.outcome.Outcome.TheVariants.{Refuted, Saturated, Spent, Heavy}
+use Rattle.laws_saturation.specs.Laws.{SaturatedIsSaturated}
 use Rattle.clausal_form.specs.FormFunctions.{IsHerbrandRefuted}
-use Rattle.prover_main.specs.AnswerShape.{IsProvedProblem, OutcomeSays}
-use Rattle.prover_main.specs.declared.proved.Proved.{Proved}
+use Rattle.proving.specs.declared.proved.Proved.{Proved as ProvedPool}
+use Rattle.prover_main.specs.AnswerShape.{IsProvedForm, OutcomeSays}
 use Rattle.prover_main.proofs.AboutOutcomes.HistoryLemmas.{ended, has-counted, heavy-cause}
 use Rattle.prover_main.proofs.AboutOutcomes.RefutedLemmas.{herbrand-refuted}
 use Rattle.prover_main.proofs.AboutOutcomes.SaturatedLemmas.{ended-saturated}
 use Rattle.prover_main.proofs.AboutOutcomes.TheoremLemmas.{refuted-theorem}
 
 pub outcome-says :
-    (formulas : List Annotated) (options : Options) (proved : Proved) (is : IsProvedProblem formulas options proved)
+    (formulas : List Annotated) (options : Options) (proved : ProvedPool) (is : IsProvedForm formulas options proved)
     → options.split ≡ false → SaturatedIsSaturated → (o : Outcome) → proved.outcome ≡ o
     → OutcomeSays formulas options (ended formulas options proved is) o
 outcome-says formulas options proved is unsplit saturates Refuted same =

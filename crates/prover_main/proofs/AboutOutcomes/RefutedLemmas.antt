@@ -25,15 +25,15 @@ use Rattle.clausal_form.specs.FormLaws.{arity_in, use_of}
 use Rattle.clausal_form.proofs.AboutForms.FunctionLemmas.{form-functions}
 use Rattle.clausal_form.proofs.AboutForms.WellFormedLemmas.{forms-are-well-formed}
 use Rattle.tstp_writer.specs.ReadableLines.{is_symbol_in}
-use Rattle.pool_core.specs.Derived.{is_function_term_of, IsPlainLine, ArePoolLines}
-use Rattle.pool_core.specs.Inputs.{AreInputs, IsUseOf}
-use Rattle.pool_core.specs.Replay.{Origin}
-use Rattle.pool_core.specs.declared.options.Options.{Options}
-use Rattle.pool_core.specs.declared.outcome.Outcome.TheVariants as outcome
-use Rattle.pool_core.proofs.AboutBeginnings.BeginningLemmas.{lines_are_derived, refuted_is_refutation}
+use Rattle.pool_history.specs.Derived.{is_function_term_of, IsPlainLine, ArePoolLines}
+use Rattle.pool_history.specs.Inputs.{AreInputs, IsUseOf}
+use Rattle.pool_history.specs.Replay.{Origin}
+use Rattle.pool_history.specs.declared.options.Options.{Options}
+use Rattle.pool_history.specs.declared.outcome.Outcome.TheVariants as outcome
+use Rattle.pool_history.proofs.AboutLines.BeginningLemmas.{lines_are_derived, refuted_is_refutation}
 use Rattle.pool_writer.proofs.FormSymbols.{form-symbols-pass, truth-passes}
-use Rattle.prover_main.specs.AnswerShape.{IsProvedProblem}
-use Rattle.prover_main.specs.declared.proved.Proved.{Proved}
+use Rattle.proving.specs.declared.proved.Proved.{Proved as ProvedPool}
+use Rattle.prover_main.specs.AnswerShape.{IsProvedForm}
 use Rattle.prover_main.proofs.AboutOutcomes.FormInputs.{form-inputs}
 use Rattle.prover_main.proofs.AboutOutcomes.FormSymbols.{own-allowed}
 use Rattle.prover_main.proofs.AboutOutcomes.HistoryLemmas.{cause, ended, lawful}
@@ -109,7 +109,7 @@ module _ (symbols : List Symbol) (own : OwnFunctions symbols) where
 -- ---- a refuted pool
 
 module _
-    (formulas : List Annotated) (options : Options) (proved : Proved) (is : IsProvedProblem formulas options proved)
+    (formulas : List Annotated) (options : Options) (proved : ProvedPool) (is : IsProvedForm formulas options proved)
     (same : proved.outcome ≡ outcome.Refuted) (unsplit : options.split ≡ false) where
   abbrev form : List TreeClause
   form = (clausal_form formulas).clauses

@@ -2,19 +2,13 @@
 use Rattle.std.proofs.Common.{◌≡◌, List, sym, subst}
 use Rattle.std.specs.Prelude.{IsTrue}
 use Rattle.tptp_tree.specs.declared.problem.Annotated.{Annotated}
-use Rattle.tptp_tree.specs.declared.problem.Problem.{Problem}
 use Rattle.signature.specs.Form.{ClausalForm, clausal_form}
 use Rattle.clausal_form.specs.FormFunctions.{IsHerbrandRefuted}
-use Rattle.form_truth.specs.Meaning.{are_closed}
-use Rattle.form_truth.proofs.AboutForms.ConsequenceLemmas.{refuted_conjectures_follow, refuted_axioms_are_unsatisfiable}
-use Rattle.form_truth.proofs.AboutForms.ExtendedLemmas.{models_extend}
-use Rattle.form_truth.proofs.AboutForms.ReturnedLemmas.{forms_return}
-use Rattle.form_truth.proofs.AboutReading.ClosedLemmas.{read_problems_are_closed}
+use Rattle.laws_meaning.specs.Meaning.{are_closed}
+use Rattle.laws_meaning.proofs.AboutForms.ConsequenceLemmas.{refuted_conjectures_follow, refuted_axioms_are_unsatisfiable}
+use Rattle.laws_meaning.proofs.AboutForms.ExtendedLemmas.{models_extend}
+use Rattle.laws_meaning.proofs.AboutForms.ReturnedLemmas.{forms_return}
 use Rattle.prover_main.specs.Meaning.{FormMeans, IsTheorem}
-use Rattle.prover_main.specs.AnswerShape.{WasRead}
-
-pub read-closed : (problem : Problem) → WasRead problem → IsTrue (are_closed problem.formulas)
-read-closed problem was = read_problems_are_closed was.told was.source.file was.source.root problem.formulas was.read_from.read
 
 pub refuted-theorem : (formulas : List Annotated) → IsTrue (are_closed formulas) → IsHerbrandRefuted formulas → IsTheorem formulas
 refuted-theorem formulas closed refuted = record {

@@ -18,13 +18,13 @@ use Rattle.clausal_form.specs.DerivationLaws.{TextsHaveOneAnswer}
 use Rattle.tstp_checker.specs.Causes.{cause_meant}
 use Rattle.tstp_checker.specs.declared.cause.Cause.{Cause}
 use Rattle.tstp_checker.specs.declared.cause.Cause.TheVariants.{Text, Order, UnknownParent, Leaf, Clausify, Binding, Rule, Conclusion, NewSymbol, NoEmptyClause}
-use Rattle.pool_core.specs.declared.options.Options.{Options}
-use Rattle.prover_main.specs.Outside.{Outside}
+use Rattle.pool_history.specs.declared.options.Options.{Options}
+use Rattle.prover_main.specs.Outside.{Outside, IsTold}
 use Rattle.prover_main.specs.declared.answer.Answer.{Answer}
 use Rattle.prover_main.specs.declared.answer.Answer.TheVariants.{Refuted, Saturated, Spent, Heavy, Accepted, Refused, Unloaded, Unread, Unformed}
-use Rattle.prover_main.specs.Answer.{Source, IsRead, IsFormed, IsUnread, IsUnformed, IsLoaded, IsJudged, IsTooLong, IsProveAnswer, IsCheckAnswer}
+use Rattle.prover_main.specs.Answer.{Source, IsRead, IsFormed, IsUnread, IsUnformed, IsLoaded, IsJudged, IsTooLong, IsReadProveAnswer, IsReadCheckAnswer}
 use Rattle.prover_main.specs.Reports.{status_of}
-use Rattle.prover_main.specs.Laws.{IsTold, is_exact, ChecksHaveOneAnswer, FaultsAreTheOnlyAnswer}
+use Rattle.prover_main.specs.Laws.{is_exact, ChecksHaveOneAnswer, FaultsAreTheOnlyAnswer}
 use Rattle.prover_main.proofs.AboutPages.PlacedLemmas.{placed-one}
 
 some-none : {A : Type 0} (x : A) → Some x ≡ None → ⊥
@@ -68,12 +68,12 @@ of_fault : Option (FormCause × List ℕ) → Answer
 of_fault None = Accepted 0
 of_fault (Some x) = Unformed x.0 x.1
 
-unformed-one : (outside : Outside) (source : Source) (t : IsTold outside) (c d : FormCause) (n m : List ℕ) → IsUnformed outside source c n → IsUnformed outside source d m → Unformed c n ≡ Unformed d m
+unformed-one : (outside : Outside) (source : Source) (t : IsTold outside) (c d : FormCause) (n m : List ℕ) → IsUnformed (IsRead outside source) c n → IsUnformed (IsRead outside source) d m → Unformed c n ≡ Unformed d m
 unfolding of_fault
 unformed-one outside source t c d n m h k =
     ap of_fault (sym h.fault ∙ ap form_fault (read-one outside source t h.formulas k.formulas h.read k.read) ∙ k.fault)
 
-pub unformed-formed : (outside : Outside) (source : Source) (t : IsTold outside) (c : FormCause) (n : List ℕ) (gs : List Annotated) → IsUnformed outside source c n → IsFormed outside source gs → ⊥
+pub unformed-formed : (outside : Outside) (source : Source) (t : IsTold outside) (c : FormCause) (n : List ℕ) (gs : List Annotated) → IsUnformed (IsRead outside source) c n → IsFormed (IsRead outside source) gs → ⊥
 unformed-formed outside source t c n gs h k =
     some-none (c, n) (sym h.fault ∙ ap form_fault (read-one outside source t h.formulas gs h.read k.read) ∙ k.within)
 
@@ -81,8 +81,8 @@ unformed-formed outside source t c n gs h k =
 
 data Stage (outside : Outside) (source : Source) (behind : List Annotated → Answer → Type 0) (a : Answer) : Type 0 where
   at_reading : (c : ReadCause) (f : List ℕ) (p : ℕ) → IsUnread outside source c f p → a ≡ Unread c f p → Stage outside source behind a
-  at_forming : (c : FormCause) (n : List ℕ) → IsUnformed outside source c n → a ≡ Unformed c n → Stage outside source behind a
-  at_work : (fs : List Annotated) → IsFormed outside source fs → behind fs a → Stage outside source behind a
+  at_forming : (c : FormCause) (n : List ℕ) → IsUnformed (IsRead outside source) c n → a ≡ Unformed c n → Stage outside source behind a
+  at_work : (fs : List Annotated) → IsFormed (IsRead outside source) fs → behind fs a → Stage outside source behind a
 
 stage-one :
     (outside : Outside) (source : Source) (behind : List Annotated → Answer → Type 0) (a b : Answer) → IsTold outside
@@ -106,7 +106,7 @@ Worked fs a = is_exact (status_of a) ≡ false
 true-false : {A : Type 0} (b : Bool) → b ≡ true → b ≡ false → A
 true-false b e f = absurd (let w : true ≡ false = sym e ∙ f in cc)
 
-prove-stage : (outside : Outside) (source : Source) (options : Options) (a : Answer) → IsProveAnswer outside source options a → Stage outside source Worked a
+prove-stage : (outside : Outside) (source : Source) (options : Options) (a : Answer) → IsReadProveAnswer outside source options a → Stage outside source Worked a
 prove-stage outside source options (Refuted c d) h = at_work h.formulas h.formed refl
 prove-stage outside source options (Spent n m) h = at_work h.formulas h.formed refl
 prove-stage outside source options (Heavy k) h = at_work h.formulas h.formed refl
@@ -187,7 +187,7 @@ judged-one one outside derivation t fs a b (on_text x v l h e) (too_long f i) = 
 judged-one one outside derivation t fs a b (too_long f e) (on_text y w m k i) = absurd (loaded-short outside t derivation y m f)
 judged-one one outside derivation t fs a b (too_long f e) (too_long g i) = e ∙ sym i
 
-check-stage : (outside : Outside) (source : Source) (derivation : List ℕ) (t : IsTold outside) (a : Answer) → IsCheckAnswer outside source derivation a → Stage outside source (Judged outside derivation) a
+check-stage : (outside : Outside) (source : Source) (derivation : List ℕ) (t : IsTold outside) (a : Answer) → IsReadCheckAnswer outside source derivation a → Stage outside source (Judged outside derivation) a
 check-stage outside source derivation t (Accepted n) h =
     at_work h.formulas h.formed (on_text h.says.text (accepted n) h.says.loaded h.says.judgement.0 (accepted-back n))
 check-stage outside source derivation t (Refused n c) h = at_work h.formulas h.formed (by h.says)

@@ -4,13 +4,9 @@ use Rattle.std.specs.Prelude.{nat_le, if◌then◌else◌, IsTrue}
 use Rattle.std.proofs.lemmas.Bool.{true≢false}
 use Rattle.std.specs.List.{list_all}
 use Rattle.tptp_token.specs.Spelling.{is_printable}
-use Rattle.tptp_tree.specs.declared.problem.Problem.{Problem}
 use Rattle.tstp_writer.specs.Printable.{IsShown}
-use Rattle.tstp_writer.specs.ProblemLaws.{ArePrintableEntries}
-use Rattle.tstp_writer.proofs.ReadAgain.ProblemLemmas.{formulas-printable}
 use Rattle.prover_main.specs.Words.{is_filled}
 use Rattle.prover_main.specs.Names.{shown_byte, shown}
-use Rattle.prover_main.specs.AnswerShape.{WasRead}
 
 byte-shown : (b : ℕ) → is_printable (shown_byte b) ≡ true
 byte-shown b = by (nat_le 32 b && nat_le b 126) refl
@@ -26,7 +22,3 @@ bytes-shown (b ∷ bs) = ap (λ c. c && list_all is_printable (shown bs)) (byte-
 pub file-shown : (file : List ℕ) → IsTrue (is_filled file) → IsShown (shown file)
 file-shown [] h = absurd (true≢false (sym h))
 file-shown (b ∷ bs) h = record { printable = bytes-shown (b ∷ bs); some = omega arith }
-
--- the formulas that were read can be printed
-pub read-printable : (problem : Problem) → WasRead problem → ArePrintableEntries problem.formulas
-read-printable problem was = formulas-printable was.told was.source.file was.source.root problem.formulas was.read_from.read

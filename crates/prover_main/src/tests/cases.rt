@@ -1,4 +1,5 @@
-// Runs over memory, with the status and the report that each must give.
+// Runs over memory, with the status and the report that each must give: a row or a few for each status. Cuts of a text and the limits stand
+// in .ci/rows, and each cause for which a derivation is refused in test_checker.
 
 /// A run: its words, the files' names and bytes, the status, and the report.
 #[derive(Drop)]
@@ -14,7 +15,7 @@ const USAGE: &[u8] =
     b"usage: prove FILE [--inferences=N] [--tptp=DIR] [--select=none|negative]\n       \
 check FILE DERIVATION [--tptp=DIR]\n";
 
-pub(crate) const TWO_UNITS: &[u8] = b"cnf(a,axiom,p). cnf(b,negated_conjecture,~p).";
+const TWO_UNITS: &[u8] = b"cnf(a,axiom,p). cnf(b,negated_conjecture,~p).";
 
 const TWO_UNITS_DERIVATION: &[u8] = b"cnf(c0,axiom,p,file('r1.p',a)).\n\
 cnf(c1,negated_conjecture,~p,file('r1.p',b)).\n\
@@ -29,21 +30,19 @@ const CLAUSES: &[u8] =
 const IMPLICATION: &[u8] =
     b"fof(a,axiom,! [X] : (p(X) => q(X))). fof(b,axiom,p(a)). fof(c,conjecture,q(a)).";
 
-const REWRITES: &[u8] = b"cnf(a,axiom,a = b). cnf(b,axiom,f(a) = c). cnf(c,axiom,f(b) != c).";
-
 /// Twenty atoms in nested equivalences.
 const EQUIVALENCES: &[u8] =
     b"fof(a,axiom,p0 <=> (p1 <=> (p2 <=> (p3 <=> (p4 <=> (p5 <=> (p6 <=> (p7 <=> (p8 <=> (p9 <=> \
 (p10 <=> (p11 <=> (p12 <=> (p13 <=> (p14 <=> (p15 <=> (p16 <=> (p17 <=> (p18 <=> p19))))))))))))))))))).";
 
 /// The problem of a right identity in groups, as it is ordinarily used.
-pub(crate) const GROUP: &[u8] = b"%--------------------------------------------------------------\n\
+const GROUP: &[u8] = b"%--------------------------------------------------------------\n\
 % File     : r7.p\n\
 %--------------------------------------------------------------\n\
 include('Axioms/grp.ax').\n\
 fof(right_id,conjecture,! [X] : mult(X,e) = X).\n";
 
-pub(crate) const GROUP_AXIOMS: &[u8] =
+const GROUP_AXIOMS: &[u8] =
     b"fof(left_id,axiom,! [X] : mult(e,X) = X, file('grp.ax',left_id), [useful(1)]).\n\
 fof(left_inv,axiom,! [X] : mult(inv(X),X) = e).\n\
 cnf(assoc,axiom,( mult(mult(X,Y),Z) = mult(X,mult(Y,Z)) )).\n";
@@ -52,11 +51,6 @@ cnf(assoc,axiom,( mult(mult(X,Y),Z) = mult(X,mult(Y,Z)) )).\n";
 const NO_MEMBERS: &[u8] = b"% SZS status Satisfiable for r2\n\
 % SZS output start Saturation for r2\n\
 % SZS output end Saturation for r2\n";
-
-const ONE_UNIT_SATURATED: &[u8] = b"% SZS status Satisfiable for r1\n\
-% SZS output start Saturation for r1\n\
-cnf(s0,plain,p).\n\
-% SZS output end Saturation for r1\n";
 
 /// A quantifier that ends before the arrow.
 const NARROW: &[u8] = b"fof(a,axiom,! [X] : p(X) => q).";
@@ -78,15 +72,6 @@ pub(crate) const CASES: &[Case] = &[
         report: NO_MEMBERS,
     },
     Case {
-        words: &["prove", "r4.p"],
-        files: &[("r4.p", b"cnf(a,axiom,p(X)).")],
-        status: 1,
-        report: b"% SZS status Satisfiable for r4\n\
-% SZS output start Saturation for r4\n\
-cnf(s0,plain,p(X0)).\n\
-% SZS output end Saturation for r4\n",
-    },
-    Case {
         words: &["prove", "r9.p"],
         files: &[("r9.p", b"cnf(a,axiom,f(a) = b). cnf(b,axiom,f(a) = c).")],
         status: 1,
@@ -97,25 +82,10 @@ cnf(s1,plain,b = c).\n\
 % SZS output end Saturation for r9\n",
     },
     Case {
-        words: &["prove", "r12.p"],
-        files: &[("r12.p", NARROW)],
-        status: 1,
-        report: NARROW_SATURATED,
-    },
-    Case {
         words: &["prove", "--select=none", "r12.p"],
         files: &[("r12.p", NARROW)],
         status: 1,
         report: NARROW_SATURATED,
-    },
-    Case {
-        words: &["prove", "--select=negative", "r12.p"],
-        files: &[("r12.p", b"fof(a,axiom,! [X] : (p(X) => q)).")],
-        status: 1,
-        report: b"% SZS status Satisfiable for r12\n\
-% SZS output start Saturation for r12\n\
-cnf(s0,plain,~p(X0) | q).\n\
-% SZS output end Saturation for r12\n",
     },
     Case {
         words: &["prove", "r18.p"],
@@ -141,19 +111,6 @@ cnf(s3,plain,q(a)).\n\
 cnf(s0,plain,p).\n\
 cnf(s1,plain,~q).\n\
 % SZS output end Saturation for c\n",
-    },
-    // The problem of two units cut after 15 bytes and after 16.
-    Case {
-        words: &["prove", "r1.p"],
-        files: &[("r1.p", b"cnf(a,axiom,p).")],
-        status: 1,
-        report: ONE_UNIT_SATURATED,
-    },
-    Case {
-        words: &["prove", "r1.p"],
-        files: &[("r1.p", b"cnf(a,axiom,p). ")],
-        status: 1,
-        report: ONE_UNIT_SATURATED,
     },
     // What gives up.
     Case {
@@ -186,24 +143,6 @@ cnf(s1,plain,~q).\n\
         ],
         status: 3,
         report: b"% SZS status InputError for r14\n% SelectionMissing at r14.p:21\n",
-    },
-    Case {
-        words: &["prove", "j.p"],
-        files: &[("j.p", b"include('f.ax')."), ("f.ax", b"cnf(a,axiom,p")],
-        status: 3,
-        report: b"% SZS status InputError for j\n% Syntax at f.ax:13\n",
-    },
-    Case {
-        words: &["prove", "loop.p"],
-        files: &[("loop.p", b"include('loop.p').")],
-        status: 3,
-        report: b"% SZS status InputError for loop\n% IncludeDepth at loop.p:0\n",
-    },
-    Case {
-        words: &["prove", "r20.p"],
-        files: &[("r20.p", b"fof(a,axiom,p(X)).")],
-        status: 3,
-        report: b"% SZS status InputError for r20\n% FreeVariable at r20.p:14\n",
     },
     Case {
         words: &["prove", "x.p"],
@@ -273,18 +212,6 @@ cnf(c3,plain,$false,inference(refl,[status(thm),lit(0),bind([sk0])],[c2])).\n\
         status: 6,
         report: USAGE,
     },
-    Case {
-        words: &["prove", "r2.p", "--select=positive"],
-        files: &[],
-        status: 6,
-        report: USAGE,
-    },
-    Case {
-        words: &["check", "r1.p", "d", "--select=none"],
-        files: &[],
-        status: 6,
-        report: USAGE,
-    },
 ];
 
 /// Problems that are refuted, whose derivations must be accepted: the words, the files, and the word of the status.
@@ -297,23 +224,8 @@ pub(crate) struct Refuted {
 pub(crate) const REFUTED: &[Refuted] = &[
     Refuted {
         words: &["b.p"],
-        files: &[("b.p", TWO_UNITS)],
-        word: "Unsatisfiable",
-    },
-    Refuted {
-        words: &["b.p"],
         files: &[("b.p", IMPLICATION)],
         word: "Theorem",
-    },
-    Refuted {
-        words: &["b.p"],
-        files: &[("b.p", EQUAL_TO_SOME)],
-        word: "Theorem",
-    },
-    Refuted {
-        words: &["b.p"],
-        files: &[("b.p", REWRITES)],
-        word: "Unsatisfiable",
     },
     Refuted {
         words: &["b.p"],
@@ -386,65 +298,5 @@ pub(crate) const FAILURES: &[Failure] = &[
         most: 1,
         status: 5,
         report: b"",
-    },
-];
-
-/// A problem `d.p` of pieces, each so many times, with the status and the report of its proof, in pieces too.
-pub(crate) struct Limit {
-    pub pieces: &'static [(&'static [u8], usize)],
-    pub status: u8,
-    pub report: &'static [(&'static [u8], usize)],
-}
-
-/// 500 levels, and over 4,000 symbols of a clause, `p`, `c` and `$true` among them.
-pub(crate) const LIMITS: &[Limit] = &[
-    Limit {
-        pieces: &[
-            (b"cnf(a,axiom,", 1),
-            (b"(", 500),
-            (b"p", 1),
-            (b")", 500),
-            (b").", 1),
-        ],
-        status: 1,
-        report: &[(
-            b"% SZS status Satisfiable for d\n\
-% SZS output start Saturation for d\n\
-cnf(s0,plain,p).\n\
-% SZS output end Saturation for d\n",
-            1,
-        )],
-    },
-    Limit {
-        pieces: &[(b"cnf(a,axiom,", 1), (b"(", 501)],
-        status: 3,
-        report: &[(b"% SZS status InputError for d\n% Nesting at d.p:512\n", 1)],
-    },
-    Limit {
-        pieces: &[
-            (b"cnf(a,axiom,p(", 1),
-            (b"f(", 499),
-            (b"c", 1),
-            (b")", 499),
-            (b")).", 1),
-        ],
-        status: 1,
-        report: &[
-            (
-                b"% SZS status Satisfiable for d\n\
-% SZS output start Saturation for d\n\
-cnf(s0,plain,p(",
-                1,
-            ),
-            (b"f(", 499),
-            (b"c", 1),
-            (b")", 499),
-            (b")).\n% SZS output end Saturation for d\n", 1),
-        ],
-    },
-    Limit {
-        pieces: &[(b"cnf(a,axiom,p(c", 1), (b",c", 3998), (b")).", 1)],
-        status: 3,
-        report: &[(b"% SZS status InputError for d\n% TooHeavy in a\n", 1)],
     },
 ];

@@ -1,8 +1,8 @@
 use Rattle.std.proofs.Common.{refl, sym, arith}
 use Rattle.std.proofs.lemmas.Bool.{true≢false}
-use Rattle.form_truth.specs.Meaning.{InterpretsProblem}
-use Rattle.form_truth.specs.Examples.{hiding_alone, p_or_loop, bare}
-use Rattle.form_truth.proofs.WorkedExamples.SmallExamples.{one_value_of_form, own_consequence, no_consequence, no_conjecture_follows, contradiction_follows, contradiction_unsatisfiable}
+use Rattle.laws_meaning.specs.Meaning.{InterpretsProblem}
+use Rattle.laws_meaning.specs.Examples.{hiding_alone, p_or_loop, bare}
+use Rattle.laws_meaning.proofs.WorkedExamples.SmallExamples.{one_value_of_form, own_consequence, no_consequence, no_conjecture_follows, contradiction_follows, contradiction_unsatisfiable}
 use Rattle.prover_main.proofs.AboutOutcomes.TheoremLemmas.{own-form-means}
 use Rattle.prover_main.proofs.laws.meaning_examples.Goals as goal
 

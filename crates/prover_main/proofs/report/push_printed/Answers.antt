@@ -3,4 +3,4 @@ use Rattle.prover_main.proofs.report.push_printed.Goals as goal
 
 pub returns : goal.returns
 returns c =
-    four_added c.push_output-2.result _ _ _ _ _ _ _ _ _ c.in_ok-push_status.ensures c.in_ok-push_output.ensures c.in_ok-bytes.ensures c.push_output-2.ensures
+    four_added c.push_output-2.result _ _ _ _ _ _ _ _ _ c.in_ok-push_status.ensures c.in_ok-push_output.ensures c.in_ok-bytes.ensures.added c.push_output-2.ensures
