@@ -1,6 +1,7 @@
 -- The verdict on a line of a derivation: it is taken, or the first cause for which it is refused.
 use Rattle.std.specs.Prelude.{ℕ, Bool, true, false, not, ◌&&◌, ◌||◌, ◌==◌, List, [], ◌∷◌, map, zip, length, codes, Option, None, Some, option_map, option_and_then, unwrap_or, is_some, slice_get, position, bytes_eq, if◌then◌else◌}
 use Rattle.std.specs.List.{list_any, list_all, position_or_len}
+use Rattle.plain_types.specs.Names.{positive_of, negative_of}
 use Rattle.fol_base.specs.Tree.{Tree}
 use Rattle.fol_base.specs.Clause.{TreeLiteral, TreeClause, clause_eq, names_eq}
 use Rattle.fol_base.specs.Ground.{is_ground_literal}
@@ -9,7 +10,7 @@ use Rattle.tptp_tree.specs.Entries.{AnnotatedTree, is_conjecture}
 use Rattle.signature.specs.Symbol.{predicate_symbol, has_symbol}
 use Rattle.kernel_steps.specs.Parents.{Parent}
 use Rattle.kernel_steps.specs.Conclusion.{Verdict, binding_fault, rule_fault, concludes, empty_clause, binds, verdict}
-use Rattle.kernel_steps.specs.Derivation.{negative_of, positive_of, complement, component_clause}
+use Rattle.kernel_steps.specs.Derivation.{complement, component_clause}
 use Rattle.kernel_steps.specs.declared.step.Step.{Step}
 use Rattle.kernel_steps.specs.declared.step.Step.TheVariants.{Input, Negate, Clausify, Component, Opposite}
 use Rattle.kernel_steps.specs.declared.step.Line.{Line}
@@ -42,7 +43,7 @@ pub data Cause : Type 0 where
   conclusion : Cause
   -- the clause or a binding has a symbol that the form doesn't have, or a name isn't new
   new_symbol : Cause
-  -- behind the last line: it isn't the empty clause
+  -- after the last line: it isn't the empty clause
   no_empty_clause : Cause
 
 -- ---- what the source gives: a fault; or a step, and the formula or the clause that the line has to have

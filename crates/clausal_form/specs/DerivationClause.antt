@@ -4,6 +4,7 @@ use mathlib.Core.Bool.{beq}
 use Rattle.std.specs.Prelude.{ℕ, ◌+◌, Bool, true, false, ◌&&◌, List, [], ◌∷◌, ◌++◌, map, filter, filter_map, flat_map, fold, Option, None, option_map, is_some, is_none, position, bytes_eq, if◌then◌else◌}
 use Rattle.std.specs.List.{list_all}
 use Rattle.plain_types.specs.declared.sequence.NameLit.{NameLit}
+use Rattle.plain_types.specs.Names.{signed}
 use Rattle.fol_base.specs.Tree.{Tree, variable, application, true_tree}
 use Rattle.fol_base.specs.Clause.{TreeLiteral, TreeClause}
 use Rattle.tptp_tree.specs.Term.{TermTree, no_terms}
@@ -13,7 +14,7 @@ use Rattle.signature.specs.Symbol.{predicate_symbol, number_of, with_symbol}
 use Rattle.signature.specs.Occurrences.{terms_count, term_symbols, formula_symbols}
 use Rattle.signature.specs.Environment.{Environment, term_names, free_names, different_names, term_under, terms_under}
 use Rattle.signature.specs.Clausal.{atom_literal}
-use Rattle.kernel_steps.specs.Names.{signed, are_sorted}
+use Rattle.kernel_steps.specs.Names.{are_sorted}
 
 -- ---- literals as they are written
 
@@ -67,7 +68,7 @@ names_come_last names [] = true
 names_come_last names (l ∷ ls) =
     if is_some (literal_name names l) then list_all (λ k. is_some (literal_name names k)) ls else names_come_last names ls
 
--- `$false` stands only alone; the names stand behind the ordinary literals, by rising number, of one name the negative one before the
+-- `$false` stands only alone; the names stand after the ordinary literals, by rising number, of one name the negative one before the
 -- positive one, each once
 abbrev pub is_written_clause : List (List ℕ) → FormulaTree → Bool
 is_written_clause names f =
@@ -89,7 +90,7 @@ abbrev pub variables_in : List FormulaTree → List TermTree → List (List ℕ)
 variables_in literals bound = flat_map free_names literals ++ flat_map term_names bound
 
 -- How a line's symbols and variables are numbered, both by their first occurrences. Symbols of the form keep their numbers, and new ones
--- come behind them, each once; variables are numbered from 0.
+-- come after them, each once; variables are numbered from 0.
 pub record Numbering : Type 0 where
   pub symbols : List Symbol
   pub variables : Environment

@@ -292,7 +292,7 @@ merging_lines = merging_with (p a) (name (codes "a"))
 abbrev pub turned : List Annotated
 turned = entry (codes "a") Axiom true (one_of (equal a b ∷ equal b a ∷ [])) ∷ entry (codes "b") Axiom true (unequal a b) ∷ []
 
--- with the lines behind the clauses of the form
+-- with the lines after the clauses of the form
 abbrev pub turned_then : List LineTree → List LineTree
 turned_then ts =
     line_as (codes "c0") Axiom true (one_of (equal a b ∷ equal b a ∷ [])) (by_file (codes "e.p") (codes "a"))

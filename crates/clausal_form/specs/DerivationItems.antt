@@ -2,10 +2,10 @@
 use Rattle.std.specs.Prelude.{ℕ, Bool, true, false, ◌&&◌, List, [], ◌∷◌, map, filter, codes, Option, None, Some, option_map, option_and_then, bytes_eq, if◌then◌else◌}
 use Rattle.std.specs.List.{list_any}
 use Rattle.plain_types.specs.declared.sequence.NameLit.{NameLit}
+use Rattle.plain_types.specs.Names.{signed}
 use Rattle.tptp_tree.specs.Term.{TermTree}
 use Rattle.fol_base.specs.declared.clause.Side.{Side}
 use Rattle.fol_base.specs.declared.clause.Side.TheVariants.{Left, Right}
-use Rattle.kernel_steps.specs.Names.{signed}
 use Rattle.kernel_steps.specs.Parents.{all_there}
 use Rattle.tptp_source.specs.General.{GeneralTree, word, no_trees, list_of_trees}
 use Rattle.tptp_source.specs.TermSources.{items_in}
@@ -81,7 +81,7 @@ have_words [] (t ∷ ts) = false
 have_words (w ∷ ws) [] = false
 have_words (w ∷ ws) (t ∷ ts) = has_word w t && have_words ws ts
 
--- The arguments of a row's items behind `status`, where the items with words of the row are these, in order. Items with other words
+-- The arguments of a row's items after `status`, where the items with words of the row are these, in order. Items with other words
 -- are ignored.
 abbrev pub row_arguments : List ℕ → List (List ℕ) → List GeneralTree → Option (List (List GeneralTree))
 row_arguments status words items =

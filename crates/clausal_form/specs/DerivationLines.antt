@@ -15,7 +15,7 @@ pub data LinesVerdict : Type 0 where
   all_taken : Taken → LinesVerdict
   refused_at : ℕ → Cause → LinesVerdict
 
--- a line that was judged behind others
+-- a line that was judged after others
 abbrev pub after_line : Taken → LineTree → LineVerdict → LinesVerdict
 after_line e t (refused cause) = refused_at (length e.lines + 1) cause
 after_line e t (taken line) = all_taken (with_line e t line)

@@ -62,7 +62,7 @@ abbrev pub IsAcceptedDerivation : List Annotated → List ℕ → ℕ → Type 0
 IsAcceptedDerivation problem bytes count =
     (ts : List LineTree) × SpellsDerivation bytes ts × (verdict_on_lines problem ts ≡ accepted count)
 
--- ---- what is wrong behind lines that are taken, and at which line
+-- ---- what is wrong after lines that are taken, and at which line
 
 -- the text ends, without the empty clause
 abbrev pub EndsEarly : List Annotated → List ℕ → List LineTree → List Lexeme → ℕ → Cause → Type 0
@@ -80,7 +80,7 @@ IsRefusedLine problem before rest number cause =
     × (lines_verdict (setting_of problem) (before ++ t ∷ []) ≡ refused_at number cause)
 
 -- A derivation that isn't accepted, with its first bad line and the first cause there: the text begins with lines that are taken, and
--- behind them something is wrong.
+-- after them something is wrong.
 pub record IsRefusedDerivation (problem : List Annotated) (bytes : List ℕ) (number : ℕ) (cause : Cause) : Type 0 where
   pub before : List LineTree
   pub rest : List Lexeme

@@ -44,7 +44,7 @@ first_fault n (a ∷ fs) counted m =
 abbrev pub form_fault : List Annotated → Option (FormCause × List ℕ)
 form_fault fs = first_fault (symbol_numbers fs) fs 0 nothing_made
 
--- want of memory, or the first fault
+-- out of memory, or the first fault
 abbrev pub IsFormFault : List Annotated → FormFault → Type 0
 IsFormFault fs NoMemory = ⊤
 IsFormFault fs (Refused cause name) = form_fault fs ≡ Some (cause, name)

@@ -35,7 +35,7 @@ pub record IsWork (s : Naming) (w : Worked) (cs : List Literals) (a : Measure) :
   pub measured : IsMeasured a cs
   pub defining : IsMeasured s.measure (defining_clauses s)
 
--- why naming ended before it had all of the clauses that define names: want of memory, or one of them is over the limit
+-- why naming ended before it had all of the clauses that define names: out of memory, or one of them is over the limit
 abbrev pub IsEnd : NamingEnd → List Literals → Type 0
 IsEnd NoMemory defining = ⊤
 IsEnd TooHeavy defining = MOST_SYMBOLS < largest defining

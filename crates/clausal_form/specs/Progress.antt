@@ -43,7 +43,7 @@ pub record IsStep (n : SymbolNumbers) (a : Annotated) (place : ℕ) (prefix : Li
   pub counted : new.counted ≡ old.counted + counted_in (annotated_clauses n a m).clauses
   pub within : formula_fault n a old.counted m ≡ None
 
--- want of memory, or the formula's fault with its name
+-- out of memory, or the formula's fault with its name
 abbrev pub IsRefusal : SymbolNumbers → Annotated → Made → ℕ → FormFault → Type 0
 IsRefusal n a m counted NoMemory = ⊤
 IsRefusal n a m counted (Refused cause name) = (formula_fault n a counted m ≡ Some cause) × (name ≡ a.name)

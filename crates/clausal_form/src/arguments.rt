@@ -44,7 +44,7 @@ fn push_matrix_variables(alloc: Global, matrix: &Matrix<'_>, found: &mut Variabl
     }
 }
 
-/// The same for matrices one after another.
+/// Gathers the variables of matrices one after another.
 #[cycle(push_matrix_variables)]
 fn push_listed_variables(
     alloc: Global,
@@ -63,7 +63,7 @@ fn push_listed_variables(
     Ok(some)
 }
 
-/// The same for a product. Its variables are gathered apart, since it has none where a member has no clauses.
+/// Gathers the variables of a product. They are gathered apart, since it has none where a member has no clauses.
 #[cycle(push_matrix_variables)]
 fn push_product_variables(
     alloc: Global,

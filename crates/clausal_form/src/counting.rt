@@ -149,7 +149,7 @@ fn doubled(count: SkolemCount) -> Mem<SkolemCount>
     })
 }
 
-/// The counts under a quantifier of so many names, which become Skolem terms under + (`positive`) or under -.
+/// The counts under a quantifier of `names` names, which become Skolem terms under + (`positive`) or under -.
 fn quantified(names: u64, positive: bool, count: SkolemCount) -> Mem<SkolemCount>
     ensures positive { IfOk result (λ made. made.positive ≡ (if positive then names else 0) + count.positive) }
     ensures negative { IfOk result (λ made. made.negative ≡ (if positive then 0 else names) + count.negative) }

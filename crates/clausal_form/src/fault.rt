@@ -28,7 +28,7 @@ pub enum FormCause {
     TotalLimit,
 }
 
-/// Why a problem has no clausal form here: want of memory, or the first formula that passes a limit, by its name.
+/// Why a problem has no clausal form here: out of memory, or the first formula that passes a limit, by its name.
 #[derive(Drop)]
 pub enum FormFault {
     NoMemory,
@@ -63,7 +63,7 @@ pub(crate) fn expands_too_far(formula: &Formula) -> bool
     expanded(formula) > MOST_EXPANDED
 }
 
-/// The symbols and clauses so far with those of a formula, if these pass no limit. So many Skolem symbols were made by then.
+/// The symbols and clauses so far with those of a formula, if these pass no limit. `skolem` is the number of Skolem symbols made by then.
 pub(crate) fn counted_with(measure: Measure, counted: u64, skolem: u32) -> Result<u64, FormCause>
     ensures within { IfOk result (λ _. limit_fault measure.largest (counted + measure.clauses + measure.symbols + skolem) ≡ None) }
     ensures total { IfOk result (λ total. total ≡ counted + measure.clauses + measure.symbols) }

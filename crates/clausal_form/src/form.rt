@@ -30,7 +30,7 @@ use std::alloc::Global;
 use std::mem;
 use tptp_tree::{Annotated, Problem};
 
-/// What there is of a form: the problem's symbols with the Skolem symbols, the number of the next Skolem symbol, the names, the clauses,
+/// A form that is being made: the problem's symbols with the Skolem symbols, the number of the next Skolem symbol, the names, the clauses,
 /// and how many symbols and clauses these are.
 #[derive(Drop)]
 pub(crate) struct FormSoFar {
@@ -125,7 +125,7 @@ fn add_clauses<'a>(
     }
 }
 
-/// The number after so many more.
+/// The number after `count` more.
 fn sum_of(number: u32, more: usize) -> Mem<u32>
     ensures { IfOk result (λ sum. sum ≡ number + more) }
 {
@@ -155,7 +155,7 @@ pub(crate) fn add_formulas(
     Ok(())
 }
 
-/// The form of a problem before its first formula. Naming symbols come after so many Skolem symbols.
+/// The form of a problem before its first formula. Naming symbols come after all Skolem symbols, `skolem` in number.
 fn begun_form(alloc: Global, signature: Signature, skolem: u64) -> Mem<FormSoFar>
     ensures made { IfOk result (λ form. (prefix : List ℕ) → HasMade (numbers_with signature skolem) prefix nothing_made form) }
     ensures empty { IfOk result (λ form. IsEmpty form) }

@@ -31,7 +31,7 @@ use tptp_tree::Annotated;
 
 /// The matrix of a formula under its closing names, and its Skolem symbols by their numbers of arguments; or why there can be no form, where that is
 /// told without its clauses: a literal in these has over `MOST_SYMBOLS` symbols, or all together have over `MOST_FORM_SYMBOLS` and over 2^26 arguments of
-/// Skolem terms are listed. Where they have so many as they are written, no literal is kept; nor where literals that stand in no clause make a name's
+/// Skolem terms are listed. No literal is kept where they have that many already as they are written, or where literals that stand in no clause make a name's
 /// clauses too heavy, and are too heavy themselves or too many.
 pub(crate) fn formula_matrix<'a>(
     alloc: Global,

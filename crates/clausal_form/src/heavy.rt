@@ -24,7 +24,7 @@ const ATOM_SYMBOLS: u64 = 2;
 /// More symbols than a form may have. A literal that is too heavy is read no further, so it isn't known how many it has.
 const OVER_TOTAL: u64 = MOST_FORM_SYMBOLS + 1;
 
-/// What is asked of a form: whether it has clauses, whether a literal that is too heavy stands in one of them, the symbols of the literals in
+/// The weight of a form: whether it has clauses, whether a literal that is too heavy stands in one of them, the symbols of the literals in
 /// them, and those of all its literals (`written`), where one that is too heavy counts as `OVER_TOTAL`. Both numbers stop at u64's last value.
 #[derive(Clone, Copy)]
 pub(crate) struct Weight {
@@ -34,7 +34,7 @@ pub(crate) struct Weight {
     pub written: u64,
 }
 
-/// The same of several: whether some have clauses, whether all have, whether one is heavy, and their symbols together.
+/// The weights of several forms together: whether some have clauses, whether all have, whether one is heavy, and their symbols together.
 #[derive(Clone, Copy)]
 struct Weights {
     some: bool,
@@ -103,7 +103,7 @@ fn with_member(weights: Weights, member: Weight) -> Weights
     }
 }
 
-/// Of a list of members.
+/// The weight of a list of members.
 fn listed(members: Weights) -> Weight
     ensures clauses { result.has_clauses ≡ members.some }
     ensures heavy { result.is_heavy ≡ members.heavy }
@@ -117,7 +117,7 @@ fn listed(members: Weights) -> Weight
     }
 }
 
-/// Of a product of members, which are written whether it has clauses or not.
+/// The weight of a product of members, which are written whether it has clauses or not.
 fn multiplied(members: Weights) -> Weight
     ensures clauses { result.has_clauses ≡ members.all }
     ensures heavy { result.is_heavy ≡ (members.all && members.heavy) }
@@ -131,7 +131,7 @@ fn multiplied(members: Weights) -> Weight
     }
 }
 
-/// Of `$true` or `$false`.
+/// The weight of `$true` or `$false`.
 fn constant(positive: bool) -> Weight
     ensures clauses { result.has_clauses ≡ not positive }
     ensures heavy { result.is_heavy ≡ false }
@@ -145,7 +145,7 @@ fn constant(positive: bool) -> Weight
     }
 }
 
-/// Of a literal of that size.
+/// The weight of a literal of that size.
 fn literal_weight(size: u64) -> Weight
     ensures clauses { result.has_clauses ≡ true }
     ensures heavy { result.is_heavy ≡ nat_lt MOST_SYMBOLS size }
@@ -178,7 +178,7 @@ fn term_size_from(size: u64, term: &TreeTerm) -> u64
     }
 }
 
-/// The same with several terms.
+/// A size with the symbols and variables of several terms.
 #[cycle(term_size_from)]
 fn terms_size_from(size: u64, terms: &[TreeTerm]) -> u64
     requires { size ≤ MOST_SYMBOLS + 1 }

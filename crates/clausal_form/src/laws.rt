@@ -35,7 +35,7 @@ pub use derivations::{
 pub use forms::{clauses_of_forms, forms_are_well_formed};
 pub use refused_examples::{cause_order_examples, refused_line_examples, small_refused_examples};
 
-/// Of a product the first list changes slowest, and with `$true` it has no clause.
+/// In a product the first list changes slowest, and with `$true` it has no clause.
 pub fn written_examples()
     ensures product { written (one_of (all_of (1 ∷ 2 ∷ []) ∷ all_of (3 ∷ 4 ∷ []) ∷ []))
         ≡ (proposition 1 ∷ proposition 3 ∷ []) ∷ (proposition 1 ∷ proposition 4 ∷ [])
@@ -50,7 +50,7 @@ pub fn measure_examples()
     ensures none { measured [] ≡ record { clauses = 0; symbols = 0; largest = 0 } }
 {}
 
-/// `p(X0) & (p(X1) | p(X2))` has clauses of 3 and of 6 symbols. A name that stands for them in a product that was begun behind one variable has the
+/// `p(X0) & (p(X1) | p(X2))` has clauses of 3 and of 6 symbols. A name that stands for them in a product that was begun after one variable has the
 /// argument X0, and its largest defining clause 9 symbols. With `$true` a product has no clause.
 pub fn outline_examples()
     ensures listed { outline_of (conjunction (matrices_of (literal (p_literal 0) ∷ disjunction 0 (matrices_of (literal (p_literal 1) ∷ literal (p_literal 2) ∷ [])) ∷ [])))
@@ -76,7 +76,7 @@ pub fn limit_examples()
     ensures both { limit_fault 4001 (2 ^ 28 + 1) ≡ Some TooHeavy }
 {}
 
-/// Behind 2^28 less 3 symbols and clauses the clause `p` passes no limit, since it counts 3; behind one more it does. Skolem symbols of
+/// After 2^28 less 3 symbols and clauses the clause `p` passes no limit, since it counts 3; after one more it does. Skolem symbols of
 /// earlier formulas count. The first fault is that of the first formula that has one.
 pub fn fault_examples()
     ensures within { formula_fault (symbol_numbers (cnf_axiom p ∷ [])) (cnf_axiom p) (2 ^ 28 - 3) nothing_made ≡ None }

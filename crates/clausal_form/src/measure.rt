@@ -45,7 +45,7 @@ impl Measure {
         }
     }
 
-    /// Two lists, one after the other. More clauses than a u64 counts are want of memory; a formula that doesn't expand too far has far fewer.
+    /// Two lists, one after the other. More clauses than a u64 counts are answered by out of memory; a formula that doesn't expand too far has far fewer.
     pub(crate) fn sum(self, other: Measure) -> Mem<Measure>
         ensures { IfOk result (λ made. measure_of made ≡ capped_measure (sum_measure (measure_of self) (measure_of other))) }
     {

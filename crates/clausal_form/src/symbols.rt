@@ -32,7 +32,7 @@ pub(crate) fn fresh_prefixes(alloc: Global, signature: &Signature) -> Mem<Prefix
     })
 }
 
-/// Adds naming symbols of those numbers of arguments, named by the prefix and the numbers from 0 on. After want of memory there may be some
+/// Adds naming symbols of those numbers of arguments, named by the prefix and the numbers from 0 on. After an out-of-memory error there may be some
 /// of them.
 pub(crate) fn add_naming_symbols(
     alloc: Global,

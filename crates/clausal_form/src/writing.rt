@@ -20,7 +20,7 @@ pub(crate) struct Output {
     pub origins: Vec<u64>,
 }
 
-/// What a clause still has to get: the literals that it has, and the matrices of which it gets a clause each, the next one last.
+/// The rest of a clause that is being written: the literals that it has, and the matrices of which it gets a clause each, the next one last.
 #[derive(Drop)]
 pub(crate) struct Agenda<'m, 'a> {
     pub literals: Vec<&'m MatrixLiteral<'a>>,
@@ -52,7 +52,7 @@ fn write_agenda<'m, 'a>(
     }
 }
 
-/// The same, with a clause of the matrix before those of the matrices that are left.
+/// Writes these clauses with a clause of the matrix before those of the matrices that are left.
 #[cycle(write)]
 pub(crate) fn write_matrix<'m, 'a>(
     alloc: Global,
@@ -88,7 +88,7 @@ pub(crate) fn write_matrix<'m, 'a>(
     }
 }
 
-/// The same for each of several matrices, one after another.
+/// Writes these clauses for each of several matrices, one after another.
 #[cycle(write)]
 fn write_each<'m, 'a>(
     alloc: Global,

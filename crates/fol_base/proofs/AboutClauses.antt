@@ -5,3 +5,4 @@ pub mod CountLemmas
 pub mod AssertionLemmas
 pub mod MeaningLemmas
 pub mod InferenceLemmas
+pub mod PlaceSums

@@ -1,4 +1,4 @@
-// What a clause asserts: the ordinary part of a clause holds only under the names that stand negative in it, by their numbers.
+// The assertions of a clause: its literals hold only under the names that stand negative in it, by their numbers.
 
 ghost use Rattle.std.specs.Prelude.{◌≡◌, ◌==◌, IfOk, filter, map, not};
 ghost use Rattle.std.specs.List.{list_any};
@@ -27,7 +27,7 @@ fn negative_numbers(alloc: Global, names: &[NameLit]) -> Mem<Vec<u32>>
     Ok(numbers)
 }
 
-/// Whether all numbers of a list are in another one. Clauses assert few names.
+/// Whether all numbers of a list are in another one. Quadratic: lists of few names or variables.
 pub fn are_among(numbers: &[u32], others: &[u32]) -> bool
     ensures { result ≡ is_among numbers.now others.now }
 {

@@ -73,7 +73,7 @@ impl Clause {
     }
 }
 
-/// Adds copies of the literals at the end; after want of memory none is added.
+/// Adds copies of the literals at the end; after an out-of-memory error none is added.
 pub fn push_literal_copies(alloc: Global, made: &mut Vec<Literal>, literals: &[Literal]) -> Mem<()>
     ensures added { IfOk result (λ _. map literal_of made.new.items ≡ map literal_of made.old.items ++ map literal_of literals.now) }
     ensures unchanged { OnErr result (made.new.items ≡ made.old.items) }

@@ -1,4 +1,4 @@
-// What is said of instances without building them.
+// Questions about instances that are answered without building them.
 
 ghost use Rattle.std.specs.Prelude.{◌≡◌, ◌-◌, ◌^◌, min, map};
 ghost use Rattle.fol_base.specs.Tree.{tree_eq, trees_eq, tree_size, trees_size, trees_of};

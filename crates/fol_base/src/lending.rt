@@ -1,4 +1,4 @@
-// What lends literals one by one, and what lends the terms of variables: calls over many literals, and calls that speak of instances
+// Traits that lend literals one by one, and the terms of variables: calls over many literals, and calls that speak of instances
 // without building them, go by these two traits and take no memory.
 
 ghost use Rattle.std.specs.Prelude.{◌≡◌, ◌<◌, ℕ, List, Some, length, slice_get, option_map, unwrap_or};
@@ -12,7 +12,7 @@ use crate::clause::{Literal, Literals};
 use crate::literal_ref::LiteralRef;
 use crate::term::{Term, Terms};
 
-/// What lends literals by their indices: a list of literals, or a clause of the bank.
+/// A lender of literals by their indices: a list of literals, or a clause of the bank.
 pub trait LendsLiterals {
     /// The literals, in order.
     ghost meaning: { Self → List TreeLiteral };
@@ -57,7 +57,7 @@ impl LendsLiterals for &[Literal] {
     }
 }
 
-/// What lends the term that a variable stands for: a list of terms, as a unifier's bindings are made into, or the pairs of a matcher.
+/// A lender of the term that a variable stands for: a list of terms, as a unifier's bindings are made into, or the pairs of a matcher.
 pub trait LendsTerms {
     /// The term of each variable.
     ghost meaning: { Self → Substitution };

@@ -51,7 +51,7 @@ pub fn replace_at(alloc: Global, term: &Term, place: &Position, new: &Term) -> M
     replace_from(alloc, term, place.as_slice(), 0, new)
 }
 
-/// The same for the part of the place from `depth` on.
+/// As `replace_at`, for the part of the place from `depth` on.
 fn replace_from(
     alloc: Global,
     term: &Term,

@@ -137,7 +137,7 @@ impl Terms {
         self.items.len()
     }
 
-    /// Adds a term at the end. After want of memory the list is as before.
+    /// Adds a term at the end. After an out-of-memory error the list is as before.
     pub fn push(&mut self, term: Term) -> Mem<()>
         ensures ok { IfOk result (λ _. self.new ≡ self.old ++ tree_of term ∷ []) }
         ensures err { OnErr result (self.new ≡ self.old) }

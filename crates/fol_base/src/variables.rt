@@ -77,7 +77,7 @@ impl Clause {
     }
 }
 
-/// Adds the numbers of a term's variables at the end, with repetitions, from left to right; after want of memory none is added.
+/// Adds the numbers of a term's variables at the end, with repetitions, from left to right; after an out-of-memory error none is added.
 #[cycle(push_variables)]
 pub fn push_variables(term: &Term, found: &mut Vec<u32>) -> Mem<()>
     ensures added { IfOk result (λ _. found.new.items ≡ found.old.items ++ tree_variables (tree_of term.now)) }

@@ -10,7 +10,7 @@ ghost use Rattle.formula_nnf.specs.CappedCount.{count_of, capped_count, total_co
 
 use tptp_tree::Formula;
 
-/// Over so many clauses a product of two lists is named.
+/// Above this number of clauses a product of two lists gets a name.
 const LARGEST_PRODUCT: u64 = 64;
 
 /// The clauses of a formula, and those that define the names made in it. Each count stops at u64's last value.
@@ -152,7 +152,7 @@ fn product(first: Count, second: Count) -> Count
     }
 }
 
-/// Whether a product of two lists of so many clauses is named.
+/// Whether a product of two lists of these lengths gets a name.
 pub fn is_large(first: u64, second: u64) -> bool
     ensures { result ≡ is_large_count first second }
 {

@@ -114,7 +114,7 @@ impl<'a> Nnfs<'a> {
         self.items.as_slice()
     }
 
-    /// Adds a form at the end. After want of memory the list is as before.
+    /// Adds a form at the end. After an out-of-memory error the list is as before.
     pub fn push(&mut self, form: Nnf<'a>) -> Mem<()>
         ensures ok { IfOk result (λ _. self.new ≡ self.old ++ nnf_tree form.entry ∷ []) }
         ensures err { OnErr result (self.new ≡ self.old) }

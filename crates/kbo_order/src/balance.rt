@@ -1,4 +1,4 @@
-// What stands more often on one side of a comparison than on the other: all occurrences together, and those of the variables of
+// Which variables and how many symbols occur more often on one side of a comparison than on the other: all occurrences together, and those of the variables of
 // a block.
 
 ghost use Rattle.std.specs.Prelude.{◌≡◌, ◌+◌, ◌-◌, ◌<◌, ◌≤◌, ◌^◌, [], ◌∷◌};
@@ -14,7 +14,7 @@ use std::cmp::Ordering;
 /// How many variables are counted in one walk. Their numbers follow one another.
 pub const BLOCK: usize = 32;
 
-/// What is as much on the left as on the right. A difference is kept from here up and down, so that it is never negative.
+/// The value of a level balance. A difference is kept from here up and down, so that it is never negative.
 pub const LEVEL: u64 = 1 << 63;
 
 /// The differences, from LEVEL on. Where the same was met on both sides they are level.
@@ -24,7 +24,7 @@ pub struct Balance {
     pub start: u64,
     /// The occurrences of symbols and variables on the left, less those on the right.
     pub weight: u64,
-    /// The same for each variable of the block.
+    /// The difference for each variable of the block.
     pub counts: [u64; BLOCK],
     /// How many variables of the block stand more often on the left.
     pub more_left: u64,

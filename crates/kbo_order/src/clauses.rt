@@ -20,7 +20,7 @@ use crate::literals::compare_literals_under;
 use crate::reading::Unbound;
 use fol_base::{LendsLiterals, LendsTerms, LiteralRef, same_instance};
 
-/// What two clauses, as lists of their literals, are to each other: multisets of literals, compared by
+/// Compares two clauses, given as lists of their literals: multisets of literals, compared by
 /// the multiset extension of the order on literals (Bachmair and Ganzinger 1994). Equal are two that have
 /// each literal equally often, sides in either order. It takes no memory.
 pub fn compare_clauses<L: LendsLiterals, M: LendsLiterals>(left: &L, right: &M) -> Cmp
@@ -32,7 +32,7 @@ pub fn compare_clauses<L: LendsLiterals, M: LendsLiterals>(left: &L, right: &M) 
     compare_clauses_under(left, &nothing, right, &nothing)
 }
 
-/// What the instances of two clauses are to each other, each under its own substitution. The instances aren't built, and no memory
+/// Compares the instances of two clauses, each under its own substitution. The instances aren't built, and no memory
 /// is taken. The condition is that of `compare_clauses`, on the instances.
 pub fn compare_clauses_under<L: LendsLiterals, S: LendsTerms, M: LendsLiterals, T: LendsTerms>(
     left: &L,

@@ -1,4 +1,4 @@
-// What two terms, literals or clauses are to each other.
+// The answers of a comparison of terms, literals or clauses.
 
 /// The answer of a comparison.
 #[derive(Clone, Copy, Debug, PartialEq, Eq)]
@@ -44,7 +44,7 @@ impl Cmp {
         }
     }
 
-    /// What the right one is to the left one.
+    /// The answer with the two sides exchanged.
     pub fn reversed(self) -> Cmp
         ensures { result ≡ reversed self }
     {

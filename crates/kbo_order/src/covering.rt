@@ -106,7 +106,7 @@ impl Balance {
         }
     }
 
-    /// The same for the terms from an index on.
+    /// Covers the terms from an index on.
     #[cycle(cover)]
     fn cover_from<S: LendsTerms>(
         &mut self,

@@ -17,7 +17,7 @@ use fol_base::{LendsTerms, Term};
 /// Whether the first instance is greater than the second one, each under its own substitution. The instances aren't built, and no
 /// memory is taken.
 ///
-/// It is the walk of `compare_under`, but that what stands behind the first difference is met on the left and then on the right, where
+/// It is the walk of `compare_under`, but that the terms after the first difference are met on the left and then on the right, where
 /// the walk ends as soon as the right one has more.
 pub fn greater_under<S: LendsTerms, T: LendsTerms>(
     left: &Term,
@@ -35,7 +35,7 @@ pub fn greater_under<S: LendsTerms, T: LendsTerms>(
 }
 
 /// `greater_under` for a caller who knows that the instances are of one size: where the symbols, or else the first two arguments that differ,
-/// don't make the first one greater, nothing behind them is met.
+/// don't make the first one greater, nothing after them is met.
 pub fn greater_at_equal_sizes<S: LendsTerms, T: LendsTerms>(
     left: &Term,
     left_bind: &S,

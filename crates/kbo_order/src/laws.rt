@@ -20,7 +20,7 @@ ghost use Rattle.kbo_order.specs.Laws.{
   GroundClausesPreordered,
 };
 
-/// Greater is irreflexive and transitive, and what is the same for the order is greater than the same.
+/// Greater is irreflexive and transitive, and two that are equal for the order are greater than the same ones.
 pub fn order_is_strict()
     ensures trees { TreesOrdered }
     ensures literals { LiteralsOrdered }

@@ -15,7 +15,7 @@ use crate::sides::SidePairs;
 use crate::terms::compare_under;
 use fol_base::{LendsTerms, LiteralRef};
 
-/// What two literals are to each other: a positive one is the multiset of its two sides, a negative one
+/// Compares two literals: a positive one is the multiset of its two sides, a negative one
 /// has each side twice, and these are compared by the multiset extension of the order on terms
 /// (Bachmair and Ganzinger 1994). Equal are two of one sign with the same sides in either order. It takes
 /// no memory.
@@ -28,7 +28,7 @@ pub fn compare_literals(left: LiteralRef<'_>, right: LiteralRef<'_>) -> Cmp
     compare_literals_under(left, &nothing, right, &nothing)
 }
 
-/// What the instances of two literals are to each other, each under its own substitution. The instances aren't built, and no memory
+/// Compares the instances of two literals, each under its own substitution. The instances aren't built, and no memory
 /// is taken.
 ///
 /// Sides are compared as they are needed. The right ones come first: where both are `$true`, the left ones decide.

@@ -8,7 +8,7 @@ ghost use Rattle.kbo_order.specs.Reading.{seen};
 
 use fol_base::{LendsTerms, Term};
 
-/// What puts nothing in: a term under it is the term as it stands.
+/// The empty substitution: a term under it is the term as it stands.
 #[derive(Clone, Copy)]
 pub struct Unbound;
 

@@ -14,7 +14,7 @@ use crate::limits::COMPARED_SIZE_LIMIT;
 use crate::terms::compare_under;
 use fol_base::{LendsTerms, LiteralRef};
 
-/// What each side of one literal is to each side of another: the first word of a name is the side of
+/// How each side of one literal compares with each side of another: the first word of a name is the side of
 /// the first literal.
 #[derive(Drop)]
 pub struct SidePairs {
@@ -62,7 +62,7 @@ impl SidePairs {
         }
     }
 
-    /// What each side of the second literal is to each side of the first.
+    /// The comparisons with the two literals exchanged.
     pub fn reversed(&self) -> SidePairs
         ensures left_left { result.left_left ≡ reversed self.now.left_left }
         ensures left_right { result.left_right ≡ reversed self.now.right_left }

@@ -18,7 +18,7 @@ use fol_base::{LendsTerms, Term};
 /// The end of the variables' numbers.
 pub const VARIABLES: u64 = 1 << 32;
 
-/// What two terms are to each other in the Knuth-Bendix order with weight 1 for each occurrence of a
+/// Compares two terms in the Knuth-Bendix order with weight 1 for each occurrence of a
 /// symbol or variable, and the symbols' numbers as precedence (Knuth and Bendix 1970). It takes no memory.
 pub fn compare(left: &Term, right: &Term) -> Cmp
     requires left_size { tree_size (tree_of left.now) < COMPARED_SIZE_LIMIT }
@@ -29,7 +29,7 @@ pub fn compare(left: &Term, right: &Term) -> Cmp
     compare_under(left, &nothing, right, &nothing)
 }
 
-/// What the instances of two terms are to each other, each under its own substitution. The instances aren't built, and no memory is
+/// Compares the instances of two terms, each under its own substitution. The instances aren't built, and no memory is
 /// taken. The condition is that of `compare`, on the instances.
 ///
 /// `$true` is told by the heads. Else one walk down both, as in Löchner (2006), for each block of 32 variables that has one of theirs.
@@ -56,7 +56,7 @@ pub fn compare_under<S: LendsTerms, T: LendsTerms>(
     compare_walked(left, left_bind, right, right_bind)
 }
 
-/// What an instance is to `$true`, which is below every other term that isn't a variable: its head tells.
+/// Compares an instance with `$true`, which is below every other term that isn't a variable: its head tells.
 pub fn against_truth<S: LendsTerms>(term: &Term, bind: &S) -> Cmp
     ensures { comparison_of result ≡ compare_trees (instance (S.meaning bind.now) (tree_of term.now)) true_tree }
 {

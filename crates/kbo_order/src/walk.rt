@@ -12,7 +12,7 @@ use crate::cmp::Cmp;
 use crate::reading::head;
 use fol_base::{LendsTerms, Side, Term};
 
-/// What decides between two applications at equal sizes.
+/// The tie-break between two applications of equal size.
 #[derive(Drop)]
 pub struct Difference {
     pub tie: Cmp,
@@ -60,7 +60,7 @@ impl Balance {
         self.decide(tie)
     }
 
-    /// What decides at equal sizes: the heads, and then the arguments.
+    /// The tie-break at equal sizes: the heads, and then the arguments.
     #[cycle(compare)]
     #[inline(always)]
     fn tie<S: LendsTerms, T: LendsTerms>(
@@ -134,8 +134,8 @@ impl Balance {
         }
     }
 
-    /// What decides between two applications at equal sizes: the symbols, and then the first two arguments that differ. Equal
-    /// arguments leave the balance level, and those behind the first difference aren't met.
+    /// The tie-break between two applications of equal size: the symbols, and then the first two arguments that differ. Equal
+    /// arguments leave the balance level, and those after the first difference aren't met.
     #[cycle(compare)]
     pub fn difference<S: LendsTerms, T: LendsTerms>(
         &mut self,

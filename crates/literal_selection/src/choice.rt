@@ -12,7 +12,7 @@ use kbo_order::COMPARED_SIZE_LIMIT;
 /// Which literal of a clause is chosen.
 #[derive(Clone, Copy, Debug, PartialEq, Eq)]
 pub enum Selection {
-    /// None.
+    /// No literal is selected.
     Nothing,
     /// The first negative literal of greatest size.
     Negative,

@@ -12,7 +12,7 @@ library_files library = library.files
 abbrev pub library_fail : MemLibrary → List ℕ
 library_fail library = library.fail
 
--- how many loads were answered, want of memory aside
+-- how many loads were answered, out of memory aside
 abbrev pub library_calls : MemLibrary → ℕ
 library_calls library = library.calls
 

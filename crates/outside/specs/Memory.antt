@@ -29,14 +29,14 @@ load_within limit (Some bytes) = if nat_le (length bytes) limit then Ok bytes el
 abbrev pub numbered_load : List ℕ → ℕ → ℕ → Option (List ℕ) → Result (List ℕ) LoadFault
 numbered_load fail number limit bytes = if list_any (λ n. nat_eq n number) fail then Err Failed else load_within limit bytes
 
--- the answer is this one, or want of memory
+-- the answer is this one, or out of memory
 abbrev pub AnswersUnlessNoMemory : Result (Vec ℕ Global) LoadFault → Result (List ℕ) LoadFault → Type 0
 AnswersUnlessNoMemory (Ok bytes) answer = answer ≡ Ok bytes.items
 AnswersUnlessNoMemory (Err Failed) answer = answer ≡ Err Failed
 AnswersUnlessNoMemory (Err TooLong) answer = answer ≡ Err TooLong
 AnswersUnlessNoMemory (Err NoMemory) answer = ⊤
 
--- the number of calls after one that was answered so: want of memory is no call
+-- the number of calls after one that was answered so: out of memory is no call
 abbrev pub calls_after : {T : Type 0} → Result T LoadFault → ℕ → ℕ
 calls_after (Err NoMemory) calls = calls
 calls_after (Err Failed) calls = count_after calls

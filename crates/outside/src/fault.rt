@@ -1,4 +1,4 @@
-// What keeps a load or a write from being done.
+// Why a load or a write failed.
 ghost use Rattle.std.specs.Prelude.{◌≡◌, Some};
 ghost use Rattle.outside.specs.declared.fault.LoadFault.TheVariants.{NoMemory as no_memory};
 

@@ -55,9 +55,9 @@ impl<R: Files> Library for FileLibrary<'_, R> {
 
     fn load(&mut self, alloc: Global, name: &str, limit: usize) -> Result<Vec<u8>, LoadFault>
         ensures count { file_faults self.new ≡ faults_after result (file_faults self.old) }
-        // What is given was read from a file, to its end: of which, and from where in it, no clause says.
+        // The bytes were read from a file, to its end. No clause says from which file, or from where in it.
         ensures read { IfOk result (λ bytes. IsReadFrom R.File.remaining limit bytes.items) }
-        // What was too long was read from a file too, up to a byte more than the limit.
+        // A text that is too long was read from a file too, up to a byte more than the limit.
         ensures beyond { IsErrOf result TooLong →
             IsReadBeyond R.File.remaining limit (file_found self.new) }
         // The clauses of the trait that are not of what is told.
@@ -91,7 +91,7 @@ fn read_file<R: Files>(rt: &R, alloc: Global, path: &str, limit: usize) -> io::R
     read_front(alloc, &mut fs::open(rt, path)?, limit)
 }
 
-// What a reader has left, or one more than `limit` bytes of it where there is more.
+// The bytes that a reader has left, or one more than `limit` of them where there are more.
 fn read_front<R: Read>(alloc: Global, reader: &mut R, limit: usize) -> io::Result<Vec<u8>>
     ensures { IfOk result (λ bytes. ReadsFront (R.remaining reader.old) limit bytes.items) }
 {

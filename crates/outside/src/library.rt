@@ -9,7 +9,7 @@ use std::alloc::Global;
 
 /// Where texts are loaded from by name.
 pub trait Library {
-    /// What the library holds, where it tells.
+    /// The texts that the library holds, where it tells.
     ghost told: { Self → Option Holdings };
 
     /// How often the library has failed. Where it is kept in a number, it stops at the number's end.

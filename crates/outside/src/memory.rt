@@ -47,7 +47,7 @@ impl MemLibrary {
     ghost use Rattle.outside.specs.MemLibrary.{library_files, library_fail, library_calls, library_faults, library_failed};
 
     /// A library of these files. The calls with these numbers fail, counted from 1, and so does each
-    /// load of a name that isn't listed. A call that wants memory isn't counted.
+    /// load of a name that isn't listed. A call that runs out of memory isn't counted.
     pub fn new(alloc: Global, files: Files, fail: Numbers) -> MemLibrary
         ensures files { library_files result ≡ files }
         ensures fail { library_fail result ≡ fail }

@@ -1,3 +1,2 @@
 pub mod Names
 pub mod Capped
-pub mod Examples

@@ -1,8 +1,19 @@
 -- Signed names, and sets of them as lists: neither order nor repetition counts (the clauses of propositional logic).
 use mathlib.Core.Bool.{beq}
-use Rattle.std.specs.Prelude.{Bool, not, ◌&&◌, ◌==◌, List, ◌++◌, filter}
+use Rattle.std.specs.Prelude.{ℕ, Bool, true, false, not, ◌&&◌, ◌==◌, List, ◌++◌, filter}
 use Rattle.std.specs.List.{list_any}
 use Rattle.plain_types.specs.declared.sequence.NameLit.{NameLit}
+
+-- a name under a sign
+abbrev pub signed : Bool → ℕ → NameLit
+signed positive name = record { positive = positive; name = name }
+
+-- the name itself, and its negation
+abbrev pub positive_of : ℕ → NameLit
+positive_of name = record { positive = true; name = name }
+
+abbrev pub negative_of : ℕ → NameLit
+negative_of name = record { positive = false; name = name }
 
 -- the same sign and the same name
 abbrev pub same_name : NameLit → NameLit → Bool

@@ -2,18 +2,17 @@
 
 ghost use Rattle.std.specs.Prelude.{◌≡◌, ◌-◌, ◌^◌, [], ◌∷◌, IsTrue, IsFalse};
 ghost use Rattle.plain_types.specs.Capped.{capped};
-ghost use Rattle.plain_types.specs.Names.{opposite, has_name, without, can_resolve, resolvent};
-ghost use Rattle.plain_types.specs.Examples.{positive_name, negative_name};
+ghost use Rattle.plain_types.specs.Names.{opposite, has_name, without, can_resolve, resolvent, positive_of, negative_of};
 
 /// Signed names and resolution.
 pub fn name_examples()
-    ensures turned { opposite (positive_name 1) ≡ negative_name 1 }
-    ensures there { IsTrue (has_name (positive_name 1) (negative_name 0 ∷ positive_name 1 ∷ [])) }
-    ensures other_sign { IsFalse (has_name (positive_name 0) (negative_name 0 ∷ positive_name 1 ∷ [])) }
-    ensures each_gone { without (positive_name 1) (positive_name 1 ∷ negative_name 1 ∷ positive_name 1 ∷ []) ≡ negative_name 1 ∷ [] }
-    ensures resolves { IsTrue (can_resolve (positive_name 0) (positive_name 0 ∷ []) (negative_name 0 ∷ [])) }
-    ensures not_both_ways { IsFalse (can_resolve (negative_name 0) (positive_name 0 ∷ []) (negative_name 0 ∷ [])) }
-    ensures rest { resolvent (positive_name 0) (positive_name 0 ∷ positive_name 1 ∷ []) (negative_name 2 ∷ negative_name 0 ∷ []) ≡ positive_name 1 ∷ negative_name 2 ∷ [] }
+    ensures turned { opposite (positive_of 1) ≡ negative_of 1 }
+    ensures there { IsTrue (has_name (positive_of 1) (negative_of 0 ∷ positive_of 1 ∷ [])) }
+    ensures other_sign { IsFalse (has_name (positive_of 0) (negative_of 0 ∷ positive_of 1 ∷ [])) }
+    ensures each_gone { without (positive_of 1) (positive_of 1 ∷ negative_of 1 ∷ positive_of 1 ∷ []) ≡ negative_of 1 ∷ [] }
+    ensures resolves { IsTrue (can_resolve (positive_of 0) (positive_of 0 ∷ []) (negative_of 0 ∷ [])) }
+    ensures not_both_ways { IsFalse (can_resolve (negative_of 0) (positive_of 0 ∷ []) (negative_of 0 ∷ [])) }
+    ensures rest { resolvent (positive_of 0) (positive_of 0 ∷ positive_of 1 ∷ []) (negative_of 2 ∷ negative_of 0 ∷ []) ≡ positive_of 1 ∷ negative_of 2 ∷ [] }
 {}
 
 /// Counts that stop at a machine word's last value.

@@ -1,4 +1,9 @@
-// Small types that crates with and without trees share: want of memory, and plain lists.
+//! Small types that crates with and without trees share: out of memory as an ordinary answer, names with signs, and plain lists.
+//!
+//! `Mem<T>` is the answer of a call that takes memory: a value, or `NoMemory`. `Sequence<T>` (`sequence.rt`) is a list over a `Vec` that
+//! contracts see as the mathematical list of its elements, so that definitions can speak of texts, terms and clauses without their
+//! representation; most plural types of the prover (`Text`, `Texts`, `Numbers`, ..) are such lists. `NameLit` (`names.rt`) is a
+//! propositional literal: the name of a split-off component with a sign. `limits.rt` has the limits of which several layers speak.
 #![tactic(auto)]
 
 pub mod laws;

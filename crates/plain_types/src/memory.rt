@@ -1,4 +1,4 @@
-// Want of memory as an ordinary answer.
+// Out of memory as an ordinary answer.
 
 ghost use Rattle.std.specs.Prelude.{◌≡◌, Some, codes};
 ghost use Rattle.plain_types.specs.declared.memory.NoMemory.{NoMemory};
@@ -11,7 +11,7 @@ use std::fmt;
 #[derive(Clone, Copy, Debug, PartialEq, Eq)]
 pub struct NoMemory;
 
-/// A value, or want of memory.
+/// A value, or out of memory.
 pub type Mem<T> = Result<T, NoMemory>;
 
 impl fmt::Display for NoMemory {

@@ -101,7 +101,7 @@ impl<T> Sequence<T> {
 }
 
 impl<T: Drop> Sequence<T> {
-    /// Adds an element at the end. After want of memory the list is as before.
+    /// Adds an element at the end. After an out-of-memory error the list is as before.
     pub fn push(&mut self, item: T) -> Mem<()>
         ensures ok { IfOk result (λ _. self.new ≡ self.old ++ item ∷ []) }
         ensures err { OnErr result (self.new ≡ self.old) }

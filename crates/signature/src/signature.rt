@@ -96,7 +96,7 @@ impl Signature {
         self.symbols.as_slice()
     }
 
-    /// Adds a new symbol, and gives its number. A symbol over 2^32 is want of memory. After want of memory the signature is as before.
+    /// Adds a new symbol, and gives its number. A symbol over 2^32 is out of memory. After an out-of-memory error the signature is as before.
     pub fn add(&mut self, symbol: Symbol) -> Mem<u32>
         requires new { IsFalse (has_symbol symbol self.old) }
         ensures number { IfOk result (λ number. number ≡ length self.old) }
@@ -110,7 +110,7 @@ impl Signature {
         Ok(place as u32)
     }
 
-    /// Adds a symbol whose name is the prefix followed by the number; with it and later numbers no symbol is named. After want of memory the
+    /// Adds a symbol whose name is the prefix followed by the number; with it and later numbers no symbol is named. After an out-of-memory error the
     /// signature is as before.
     pub fn add_numbered(
         &mut self,

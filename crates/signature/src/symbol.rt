@@ -131,7 +131,7 @@ impl<'a> Equivalent<Symbol> for SymbolRef<'a> {
     }
 }
 
-/// How many arguments there are, as a symbol has it; else want of memory, since no such symbol fits.
+/// How many arguments there are, as a symbol has it; else out of memory, since no such symbol fits.
 pub fn arity_of(arguments: usize) -> Mem<u32>
     ensures { IfOk result (λ arity. arity ≡ arguments) }
 {

@@ -76,7 +76,7 @@ abbrev mutual
 abbrev pub total_in : Bool → ℕ → ℕ
 total_in in_clauses total = if in_clauses then total else 0
 
--- Nothing is said of want of memory. Else what is looked at stands in clauses, and a literal in its own is too heavy; or its literals together are,
+-- Nothing is said of out of memory. Else what is looked at stands in clauses, and a literal in its own is too heavy; or its literals together are,
 -- with the symbols that were counted before.
 abbrev pub IsMatrixEnd : MatrixEnd → Bool → ℕ → Bool → ℕ → Type 0
 IsMatrixEnd NoMemory in_clauses counted heavy total = ⊤

@@ -108,7 +108,7 @@ pub record IsOutline (a : Outline) (t : ClauseOutline) : Type 0 where
 abbrev pub lasting : Bool → ℕ → ℕ → ℕ
 lasting in_clauses largest defining = max defining (if in_clauses then largest else 0)
 
--- Nothing is said of want of memory. Else such a clause is over the limit.
+-- Nothing is said of out of memory. Else such a clause is over the limit.
 abbrev pub IsOutlineEnd : OutlineEnd → Bool → ClauseOutline → Type 0
 IsOutlineEnd NoMemory in_clauses t = ⊤
 IsOutlineEnd TooHeavy in_clauses t = MOST_SYMBOLS < lasting in_clauses t.largest t.defining

@@ -16,7 +16,7 @@ use plain_types::{Mem, Text};
 use std::alloc::Global;
 use std::marker::Model;
 
-/// What a name without a variable in force stands for. A form without free variables has none.
+/// The binding of a name without a variable in force. A form without free variables has none.
 pub(crate) const NO_VARIABLE_IN_FORCE: u32 = 0;
 
 /// A variable in force, and the term to which it is bound.
@@ -230,7 +230,7 @@ fn entry_at(entries: &[Entry], place: usize) -> &Entry
     &entries[place]
 }
 
-/// What the entry at a place covers, or 0. Places are counted from 1.
+/// The place that the entry at a place covers, or 0. Places are counted from 1.
 fn covers_at(entries: &[Entry], place: usize) -> usize
     requires { 0 < place }
     ensures { result ≡ (get_or entries.now (place - 1) no_entry).covers }

@@ -1,4 +1,4 @@
-// What the variables in force are bound to.
+// The terms to which the variables in force are bound.
 
 ghost use Rattle.std.specs.Prelude.{◌≡◌, ◌++◌, ◌-◌, ◌^◌, min, IfOk};
 ghost use Rattle.fol_base.specs.Tree.{tree_size, tree_variables};

@@ -46,7 +46,7 @@ pub(crate) fn push_bound(bindings: &Bindings, term: &TreeTerm, bound: &mut Bound
     }
 }
 
-/// The same for several terms.
+/// Fills several terms.
 #[cycle(push_bound)]
 pub(crate) fn push_all_bound(
     bindings: &Bindings,
@@ -105,7 +105,7 @@ pub(crate) fn filled<'b>(
     }
 }
 
-/// The same of several terms.
+/// The sizes of several terms together.
 #[cycle(filled)]
 pub(crate) fn filled_terms<'b>(
     alloc: Global,

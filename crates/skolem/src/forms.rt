@@ -328,7 +328,7 @@ fn bind_skolem_term(
     Ok(())
 }
 
-/// The number of the next Skolem symbol, after so many.
+/// The number of the next Skolem symbol, after `count` more.
 fn next_symbol(signature: &Signature, made: usize) -> Mem<u32>
     ensures { IfOk result (λ symbol. symbol ≡ length signature.now + made) }
 {

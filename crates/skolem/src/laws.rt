@@ -67,7 +67,7 @@ pub fn clauses_of_parts_examples()
     ensures product_total { matrix_total (disjunction 1 (matrix_then (literal (p_literal 0)) (matrix_then (literal (p_literal 0)) no_matrices))) ≡ 6 }
 {}
 
-/// Of a product of more than 64 clauses the longer list is named, and of two of the same length the first: with 8 clauses and 9 the second, whose
+/// In a product of more than 64 clauses the longer list gets a name, and of two of equal length the first: with 8 clauses and 9 the second, whose
 /// variable X1 was made before the work on the product began, with 9 and 9 the first. The name has three symbols with `$true` and the variable.
 /// Without a name 8 and 8 clauses are 64.
 pub fn product_outline_examples()

@@ -195,7 +195,7 @@ fn filled_atom(
     Ok(Term::App(number, filled))
 }
 
-/// What an atom's variables are bound to, and the size of its literal.
+/// The terms to which an atom's variables are bound, and the size of its literal.
 fn bound_terms(alloc: Global, bindings: &Bindings, atom: Atom<'_>) -> Mem<BoundTerms>
     ensures terms { IfOk result (λ bound. map bound_tree bound.terms.items ≡ terms_in_force (environment_of bindings.now) (atom_names atom.entry)) }
     ensures size { IfOk result (λ bound. bound.size ≡ min (atom_size (environment_of bindings.now) atom.entry) (2 ^ 64 - 1)) }

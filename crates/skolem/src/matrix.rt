@@ -74,7 +74,7 @@ impl<'a> Matrices<'a> {
         self.items.as_slice()
     }
 
-    /// Adds a matrix at the end. After want of memory the list is as before.
+    /// Adds a matrix at the end. After an out-of-memory error the list is as before.
     pub fn push(&mut self, matrix: Matrix<'a>) -> Mem<()>
         ensures ok { IfOk result (λ _. self.new ≡ self.old ++ matrix_tree matrix.entry ∷ []) }
         ensures err { OnErr result (self.new ≡ self.old) }

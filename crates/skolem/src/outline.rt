@@ -31,7 +31,7 @@ const OVER_LIMIT: u64 = MOST_SYMBOLS + 1;
 /// The symbols of a name's literal beside its arguments: the name and `$true`.
 const NAME_SYMBOLS: u64 = 2;
 
-/// What is known of clauses: how many they are, the symbols of the largest, those of the largest that defines a name, and the variables in them.
+/// The outline of a list of clauses: how many they are, the symbols of the largest, those of the largest that defines a name, and the variables in them.
 #[derive(Drop)]
 pub(crate) struct Outline {
     pub clauses: u64,
@@ -136,7 +136,7 @@ fn outline_in<'a>(
     }
 }
 
-/// The outline of forms one after another (`listed`), or of their product, on which the work began when so many variables were made.
+/// The outline of forms one after another (`listed`), or of their product, on which the work began when `began` variables were made.
 #[cycle(outline_in)]
 fn outline_in_all<'a>(
     alloc: Global,
@@ -235,7 +235,7 @@ fn joined(alloc: Global, listed: bool, began: u32, first: Outline, second: Outli
     }
 }
 
-/// One list after another. More clauses than a u64 counts are want of memory; a formula that doesn't expand too far has far fewer.
+/// One list after another. More clauses than a u64 counts are answered by out of memory; a formula that doesn't expand too far has far fewer.
 fn sum(alloc: Global, first: Outline, second: Outline) -> Mem<Outline>
     ensures { IfOk result (λ outline. (t u : ClauseOutline) → IsOutline first t → IsOutline second u
         → IsOutline outline (sum_outline t u)) }

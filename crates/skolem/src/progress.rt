@@ -122,7 +122,7 @@ fn are_below(number: u32, variables: &[u32]) -> bool
     variables.iter().all(|variable| *variable < number)
 }
 
-/// Of the variables below that number those that occur, in their order, each once. The list is sorted for it, by the sort that merges what is in order
+/// The variables below that number that occur, in their order, each once. The list is sorted for it, by the sort that merges what is in order
 /// already, since such lists are mostly put together from lists that are.
 pub fn made_in_order(alloc: Global, variables: u32, occurring: &mut Vec<u32>) -> Mem<Vec<u32>>
     ensures { IfOk result (λ found. found.items ≡ made_in_order variables occurring.old.items) }
@@ -131,7 +131,7 @@ pub fn made_in_order(alloc: Global, variables: u32, occurring: &mut Vec<u32>) ->
     once_each(alloc, variables, occurring.as_slice())
 }
 
-/// The same of a sorted list.
+/// Those of a sorted list.
 fn once_each(alloc: Global, variables: u32, sorted: &[u32]) -> Mem<Vec<u32>>
     requires sorted { IsNonDecreasingBy (λ v. v) sorted.now }
     ensures { IfOk result (λ found. found.items ≡ made_in_order variables sorted.now) }

@@ -9,7 +9,7 @@ use signature::{Signature, SymbolKind};
 use std::alloc::Global;
 
 /// Adds the symbols of those numbers of arguments, named by the prefix and the numbers from `next` on, and gives the number after the
-/// last. After want of memory the signature is as before.
+/// last. After an out-of-memory error the signature is as before.
 pub fn add_skolem_symbols(
     alloc: Global,
     signature: &mut Signature,
@@ -31,7 +31,7 @@ pub fn add_skolem_symbols(
     added
 }
 
-/// The same; after want of memory there may be further symbols at the end.
+/// Adds them; after an out-of-memory error there may be further symbols at the end.
 fn push_symbols(
     alloc: Global,
     signature: &mut Signature,
@@ -53,7 +53,7 @@ fn push_symbols(
     Ok(number)
 }
 
-/// The next number, where there is one; else want of memory, since no more symbols fit.
+/// The next number, where there is one; else out of memory, since no more symbols fit.
 pub fn number_after(number: u32) -> Mem<u32>
     ensures { IfOk result (λ next. next ≡ number + 1) }
 {

@@ -64,7 +64,7 @@ impl Bank {
     }
 
     /// The reference of a term's tree, with the number that the table has for it; a tree that the table
-    /// doesn't have is added. Want of memory comes only for a tree that the table doesn't have, and leaves the table
+    /// doesn't have is added. Out of memory is answered only for a tree that the table doesn't have, and leaves the table
     /// as before.
     ///
     /// A term that is there is hashed, and compared with the bank's own; a new one is hashed once and copied once.

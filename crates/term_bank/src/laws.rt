@@ -65,7 +65,7 @@ pub fn several_trees()
     ensures after_first { InternsAfterFirst }
 {}
 
-/// What a table's entries become, what is right of them, and which of several trees a table learns, in which order; where terms
+/// The entries of a table after each change, which entries are right, and which of several trees a table learns, in which order; where terms
 /// stand; and what is hashed.
 pub fn examples()
     ensures known_again { interned ((a, 0) ∷ []) a 7 ≡ (a, 0) ∷ [] }

@@ -1,6 +1,6 @@
 // The rows of places in which a bank keeps its terms. A place is written once and read by any thread, and no term
 // is ever moved. Each row has twice as many places as the one before, up to 2^32, as many as a u32 numbers; all
-// later rows have so many. There are as many rows as a u8 numbers, but for the one that the default reference names.
+// later rows have this length. There are as many rows as a u8 numbers, but for the one that the default reference names.
 
 ghost use Rattle.std.specs.Prelude.{◌≡◌, ◌<◌, ◌≤◌, ◌+◌, ◌*◌, ◌^◌, [], ◌∷◌, length, ⊤, IfOk, IfSome, IfNone};
 ghost use Rattle.term_bank.specs.declared.rows.TheConstants.{ROWS};
@@ -56,7 +56,7 @@ const LONGEST: u64 = 1 << 32;
 /// How many places all rows have together: those of the shorter rows are `LONGEST - FIRST`.
 const PLACES: u64 = (ROWS - SHORTER + 1) as u64 * LONGEST - FIRST;
 
-/// What shows that a row is of a bank, and a term of the row. It has no bytes.
+/// Proof that a row is of a bank, and a term of the row. It has no bytes.
 #[derive(Drop)]
 pub struct Shown {
     pub(crate) rows: Written<Rows>,
@@ -102,7 +102,7 @@ fn row_length(row: usize) -> usize
     (FIRST as usize) << row.min(SHORTER)
 }
 
-/// The row and the place in it of the term that comes after so many others; none where all rows are full.
+/// The row and the place in it of the term that comes after `count` others; none where all rows are full.
 pub(crate) fn located(index: u64) -> Option<(u8, u32)>
     ensures place { IfSome result (λ found. IsPlaceOf index found.0 found.1) }
     ensures full { IfNone result (places_before ROWS ≤ index) }
@@ -161,7 +161,7 @@ pub(crate) fn laid<R: Wait>(
     unreachable!()
 }
 
-/// After want of memory: the places that another thread has made meanwhile, if it has.
+/// After an out-of-memory error: the places that another thread has made meanwhile, if it has.
 fn laid_meanwhile(slot: &OnceSlot<Row, FullLength>) -> Mem<Written<Row>>
     ensures { IfOk result (λ written. written.of ≡ slot.now.id) }
 {

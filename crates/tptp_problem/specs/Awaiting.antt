@@ -12,7 +12,7 @@ use Rattle.tptp_problem.specs.declared.include.Ending.TheVariants.{Whole, Stoppe
 abbrev pub when : Bool → Awaited → Option Awaited → Option Awaited
 when test next otherwise = if test then Some next else otherwise
 
--- what may come behind a token, where that token may come
+-- what may come after a token, where that token may come
 abbrev pub after : Awaited → Lexeme → Option Awaited
 after Keyword t = when (is_lexeme Lower (codes "include") t) Open None
 after Open t = when (is_mark (codes "(") t) File None
@@ -37,7 +37,7 @@ is_nothing AfterName = false
 is_nothing Close = false
 is_nothing Stop = false
 
--- behind the token of an index, with what follows where more has to come
+-- after the token of an index, with what follows where more has to come
 abbrev pub ended : ℕ → (Awaited → Ending) → Option Awaited → Ending
 ended at more None = Stopped at
 ended at more (Some next) = if is_nothing next then Whole (suc at) else more next

@@ -24,7 +24,7 @@ abbrev pub IncludeCutOff : Type 0
 IncludeCutOff =
     IsProblemFault (Some (holding (codes "a") (codes "include(f") [] [])) 0 (codes "a") None Syntax (codes "a") 9
 
--- behind the last token a quoted word without an end
+-- after the last token a quoted word without an end
 abbrev pub QuoteLeftOpen : Type 0
 QuoteLeftOpen =
     IsProblemFault (Some (holding (codes "a") (codes " 'b") [] [])) 0 (codes "a") None Unclosed (codes "a") 1

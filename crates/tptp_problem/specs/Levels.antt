@@ -12,7 +12,7 @@ pub record HasFewLevels (f : FormulaTree) : Type 0 where
 
 -- ---- a worked example
 
--- `$true` behind so many `~`
+-- `$true` after so many `~`
 abbrev pub negated_times : ℕ → FormulaTree
 negated_times zero = truth
 negated_times (suc n) = negation (negated_times n)

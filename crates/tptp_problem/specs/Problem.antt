@@ -33,7 +33,7 @@ tokens_of source = (lexed_of source.bytes).tokens
 abbrev pub lexemes : LoadedFile → List Lexeme
 lexemes source = lexemes_of source.bytes (tokens_of source)
 
--- where a token begins; 0 behind the last one
+-- where a token begins; 0 after the last one
 abbrev pub start_of : Option Token → ℕ
 start_of None = 0
 start_of (Some token) = token.start
@@ -55,13 +55,13 @@ with_formula around f progress =
 
 -- ---- entries
 
--- an entry that was read: the formulas that it gives, the progress behind it, and the token behind it
+-- an entry that was read: the formulas that it gives, the progress after it, and the token after it
 pub record Step : Type 0 where
   pub formulas : List Placed
   pub progress : Progress
   pub next : ℕ
 
--- a second conjecture stands at a token, by the role word behind it
+-- a second conjecture stands at a token, by the role word after it
 abbrev pub is_second : LoadedFile → ℕ → Progress → Bool
 is_second source first progress = progress.met && begun_counts source.around (conjecture_begun (drop first (lexemes source)))
 
@@ -96,7 +96,7 @@ abbrev pub IsStep : List ℕ → Reads → LoadedFile → ℕ → Progress → S
 IsStep base reads source first progress step =
     (first < length (tokens_of source)) × IsStepBy base reads source (is_include (drop first (lexemes source))) first progress step
 
--- entries, one behind the other
+-- entries, one after the other
 abbrev pub AreSteps : List ℕ → Reads → LoadedFile → ℕ → Progress → List Step → Type 0
 AreSteps base reads source first progress [] = ⊤
 AreSteps base reads source first progress (s ∷ ss) =
@@ -123,7 +123,7 @@ formulas_along (s ∷ ss) = s.formulas ++ formulas_along ss
 
 -- ---- files
 
--- The entries lead behind the last token, and no fault of the tokens stands there.
+-- The entries lead after the last token, and no fault of the tokens stands there.
 pub record ReadsText (base : List ℕ) (reads : Reads) (source : LoadedFile) (start : Progress) (formulas : List Placed) (progress : Progress) : Type 0 where
   pub steps : List Step
   pub are : AreSteps base reads source 0 start steps
@@ -157,7 +157,7 @@ Faults = List ℕ → List (List (List ℕ)) → Progress → ReadCause → List
 abbrev pub EntryFaults : Type 1
 EntryFaults = ℕ → Progress → ReadCause → List ℕ → ℕ → Type 0
 
--- a second conjecture is refused before what is wrong behind its role
+-- a second conjecture is refused before what is wrong after its role
 abbrev pub IsFormulaFault : LoadedFile → Bool → EntryFaults
 IsFormulaFault source true first progress cause file place =
     (cause ≡ SecondConjecture) × (file ≡ source.name) × (place ≡ place_of source (first + 4))
@@ -171,8 +171,8 @@ IsIncludeSyntaxFault source first cause file place =
     × (((index : ℕ) × StopsInclude (lexemes source) first index × (cause ≡ Syntax) × (place ≡ place_of source index))
     ⊎ CutsInclude (lexemes source) first × IsEndFault (lexed_of source.bytes).fault (length source.bytes) cause place)
 
--- The file was read, and no formula of it has one of the selected names. The names stand behind `include ( FILE , [`, each but
--- the first behind a comma.
+-- The file was read, and no formula of it has one of the selected names. The names stand after `include ( FILE , [`, each but
+-- the first after a comma.
 pub record IsMissing (source : LoadedFile) (first : ℕ) (names : List (List ℕ)) (reads : List Placed → Progress → Type 0) (cause : ReadCause) (file : List ℕ) (place : ℕ) : Type 0 where
   pub formulas : List Placed
   pub behind : Progress
@@ -183,7 +183,7 @@ pub record IsMissing (source : LoadedFile) (first : ℕ) (names : List (List ℕ
   pub file_is : file ≡ source.name
   pub place_is : place ≡ place_of source (first + 5 + 2 * index)
 
--- a fault in the file of a whole include, or behind that file
+-- a fault in the file of a whole include, or after that file
 pub record IsIncludedFault (base : List ℕ) (reads : Reads) (faults : Faults) (source : LoadedFile) (first : ℕ) (progress : Progress) (cause : ReadCause) (file : List ℕ) (place : ℕ) : Type 0 where
   pub word : Word
   pub names : List NamePhrase
@@ -213,7 +213,7 @@ IsEntryFault depth base reads faults source first progress cause file place =
     (first < length (tokens_of source))
     × IsFaultBy depth base reads faults source (is_include (drop first (lexemes source))) first progress cause file place
 
--- behind the last token
+-- after the last token
 pub record IsTextEndFault (source : LoadedFile) (first : ℕ) (cause : ReadCause) (file : List ℕ) (place : ℕ) : Type 0 where
   pub ended : length (tokens_of source) ≤ first
   pub fault : LexFault

@@ -31,7 +31,7 @@ EntryGives base gives file (annotated_tree tree) formulas = formulas ≡ record 
 EntryGives base gives file (include_tree word names) formulas =
     (all : List FromFile) × gives (loaded_name base word) all × (formulas ≡ taken names all)
 
--- entries, one behind the other
+-- entries, one after the other
 abbrev pub EntriesGive : List ℕ → Gives → List ℕ → List EntryTree → List FromFile → Type 0
 EntriesGive base gives file [] formulas = formulas ≡ []
 EntriesGive base gives file (e ∷ es) formulas =

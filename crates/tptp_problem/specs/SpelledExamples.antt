@@ -57,7 +57,7 @@ NestedInclude =
 abbrev pub placed_clause : List ℕ → List ℕ → List ℕ → ℕ → Placed
 placed_clause name symbol file place = record { tree = clause_named name symbol; file = file; place = place }
 
--- a problem of one clause, which begins behind a blank
+-- a problem of one clause, which begins after a blank
 abbrev pub OneClause : Type 0
 OneClause =
     IsProblem (Some (holding (codes "a") (codes " cnf(a,plain,p).") [] [])) (codes "a") None

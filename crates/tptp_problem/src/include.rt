@@ -16,7 +16,7 @@ use tptp_reader::{ReadCause, ReadFault};
 use tptp_token::{Kind, TextToken};
 
 /// An include: the word for its file, the names of the formulas that it takes, or none where it takes all, and the token
-/// behind it.
+/// after it.
 #[derive(Drop)]
 pub struct Include {
     pub file: Text,
@@ -24,7 +24,7 @@ pub struct Include {
     pub next: usize,
 }
 
-/// What has to come next of `include ( FILE ) .` or of `include ( FILE , [ NAME , .. ] ) .`.
+/// The part that has to come next of `include ( FILE ) .` or of `include ( FILE , [ NAME , .. ] ) .`.
 #[derive(Clone, Copy)]
 enum Awaited {
     Keyword,
@@ -40,7 +40,7 @@ enum Awaited {
 }
 
 impl Awaited {
-    /// What has to come behind a token, where it may stand here.
+    /// The part that has to come after a token, where the token may stand here.
     fn after(self, token: TextToken<'_>) -> Option<Awaited>
         ensures { result ≡ after_token self (lexeme_of token.entry) }
     {

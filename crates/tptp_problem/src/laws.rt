@@ -49,7 +49,7 @@ pub fn closed_formulas()
 {}
 
 /// A problem has at most as many formulas, occurrences and quantified variables as bytes were loaded for it, since each is
-/// spelled by a token of its own; and no more than so many bytes are loaded.
+/// spelled by a token of its own; and no more than that many bytes are loaded.
 pub fn problems_have_a_size()
     ensures loaded { (told : Option Holdings) (file : List ℕ) (root : Option (List ℕ)) (formulas : List Annotated)
         (h : IsProblem told file root (map placed formulas)) → problem_size formulas ≤ h.0.loaded }

@@ -7,7 +7,7 @@ ghost use Rattle.tptp_problem.specs.Files.{folder_of as folder, base_of as base_
 use plain_types::Mem;
 use std::alloc::Global;
 
-/// What stands before the name of an included file: the root and a `/`, where a root is given, else what the first file's
+/// The text before the name of an included file: the root and a `/`, where a root is given, else what the first file's
 /// name has up to and with its last `/`.
 pub fn base_of(alloc: Global, file: &str, root: Option<&str>) -> Mem<String>
     ensures { IfOk result (λ base. string_bytes base ≡ base_meant (option_copied root.entry) file.now) }
@@ -22,7 +22,7 @@ pub fn base_of(alloc: Global, file: &str, root: Option<&str>) -> Mem<String>
     }
 }
 
-/// What stands up to and with the last `/`.
+/// The text up to and with the last `/`.
 fn folder_of(path: &str) -> &str
     ensures { result.now ≡ folder path.now }
 {
@@ -36,7 +36,7 @@ fn folder_of(path: &str) -> &str
     &path[..end]
 }
 
-/// The name under which the file of an include is loaded: one that begins with `/` as it stands, any other behind the base.
+/// The name under which the file of an include is loaded: one that begins with `/` as it stands, any other after the base.
 pub fn loaded_name(alloc: Global, base: &str, word: &[u8]) -> Mem<String>
     requires { IsUtf8 word.now }
     ensures { IfOk result (λ name. string_bytes name ≡ name_meant base.now word.now) }

@@ -122,7 +122,7 @@ impl Reading<'_> {
         }
     }
 
-    /// Reads an include and its file, adds the formulas that it takes to the list, and tells the token behind it.
+    /// Reads an include and its file, adds the formulas that it takes to the list, and tells the token after it.
     #[cycle(reading)]
     fn include<L: Library>(
         &mut self,
@@ -173,7 +173,7 @@ impl Reading<'_> {
         }
     }
 
-    /// Reads an annotated formula, adds it to the list, and tells the token behind it.
+    /// Reads an annotated formula, adds it to the list, and tells the token after it.
     fn formula(
         &mut self,
         alloc: Global,
@@ -210,7 +210,7 @@ impl Reading<'_> {
         }
     }
 
-    /// Loads a file, as long as it may be behind those that were loaded before.
+    /// Loads a file, as long as it may be after those that were loaded before.
     fn load<L: Library>(
         &mut self,
         alloc: Global,

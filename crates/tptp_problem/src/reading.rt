@@ -6,7 +6,7 @@ ghost use Rattle.tptp_problem.specs.declared.limits.TheConstants.{MOST_PROBLEM_B
 /// How far the reading of a problem has come.
 #[derive(Drop)]
 pub struct Reading<'a> {
-    /// What stands before the names of included files.
+    /// The text before the names of included files.
     pub base: &'a str,
     /// The bytes of the files loaded so far.
     pub loaded: usize,

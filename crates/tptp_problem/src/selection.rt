@@ -9,7 +9,7 @@ use plain_types::Text;
 #[derive(Clone, Copy)]
 pub struct Selection<'a, 'k> {
     pub names: &'a [Text],
-    /// The same names, by which each is found.
+    /// A table of these names.
     pub known: &'k NameSet<'a>,
     ghost known_are: { HasNames names.now known.now },
 }

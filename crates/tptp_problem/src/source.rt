@@ -115,7 +115,7 @@ impl<'a> Source<'a> {
         self.fault_at(alloc, cause, self.place_of(at))
     }
 
-    /// The fault behind the last token: that of the tokens, or else the end of the text.
+    /// The fault after the last token: that of the tokens, or else the end of the text.
     pub fn end_fault(&self, alloc: Global) -> ReadFault
         requires { length self.now.bytes.now ≤ MOST_TEXT_BYTES }
         ensures { IsFaultWhere
@@ -125,7 +125,7 @@ impl<'a> Source<'a> {
         self.fault_at(alloc, cause, place)
     }
 
-    /// Where a token begins in the text; 0 behind the last one.
+    /// Where a token begins in the text; 0 after the last one.
     fn place_of(&self, at: usize) -> u32
         ensures { result ≡ start_of (slice_get self.now.lexed.now.tokens at) }
     {

@@ -17,7 +17,7 @@ pub record IsReadAs (limit : ℕ) (tokens : List Lexeme) (p : AnnotatedPhrase) (
   pub spelled : tokens ≡ annotated_lexemes p rest
   pub faultless : AreFaultless (annotated_causes limit p)
 
--- some text goes on behind the tokens: they are the first ones of a right annotated formula
+-- some text goes on after the tokens: they are the first ones of a right annotated formula
 pub record Begins (tokens : List Lexeme) (p : AnnotatedPhrase) (more : List Lexeme) : Type 0 where
   pub right : is_right_annotated p ≡ true
   pub continued : annotated_lexemes p [] ≡ tokens ++ more
@@ -31,13 +31,13 @@ BeginsFaultless limit tokens =
     (p : AnnotatedPhrase) × (more : List Lexeme) × Begins tokens p more
     × AreFaultless (take (length tokens) (annotated_causes limit p))
 
--- The grammar allows the token behind those before it, and it has the cause.
+-- The grammar allows the token after those before it, and it has the cause.
 abbrev pub IsFault : ℕ → List Lexeme → Lexeme → Refusal → Type 0
 IsFault limit before token refusal =
     (p : AnnotatedPhrase) × (more : List Lexeme) × Begins (before ++ token ∷ []) p more
     × (take (suc (length before)) (annotated_causes limit p) ≡ map (λ (t : Lexeme). None) before ++ Some refusal ∷ [])
 
--- ---- a token behind which no text goes on
+-- ---- a token after which no text goes on
 
 -- A term may stand where both a variable and a word may.
 abbrev pub TermMayStand : List Lexeme → Type 0
@@ -84,7 +84,7 @@ abbrev pub RunsOut : ℕ → List Lexeme → Type 0
 RunsOut limit tokens =
     BeginsFaultless limit tokens × ((p : AnnotatedPhrase) → (rest : List Lexeme) → IsReadAs limit tokens p rest → ⊥)
 
--- The token behind the tokens before it ends the reading, for that reason: it is at fault itself, or the formula isn't ended
+-- The token after the tokens before it ends the reading, for that reason: it is at fault itself, or the formula isn't ended
 -- before it and no formula goes on with it.
 abbrev pub IsRefusedAt : ℕ → List Lexeme → Lexeme → Refusal → Type 0
 IsRefusedAt limit before token refusal =

@@ -26,6 +26,6 @@ same_names = on_equiv bytes_of same_bytes
 pub same_names_hash_alike : (m n : Name) → IsTrue (same_name m n) → bytes_of m ∷ [] ≡ bytes_of n ∷ []
 same_names_hash_alike m n h = ap (λ (x : List ℕ). x ∷ []) ((bytes_eq-Decides (bytes_of m) (bytes_of n)).0 h)
 
--- The table has how often each name stands behind the first ones.
+-- The table has how often each name stands after the first ones.
 abbrev pub IsCounted : List Name → HashMap Name ℕ (BuildHasherDefault FoldHasher) → Type 0
 IsCounted names behind = (x : Name) → count_at (get same_name behind) x ≡ count_by (same_name x) (drop SCANNED names)

@@ -1,4 +1,4 @@
--- What a fault tells: its cause, the name of its file and its place. Want of memory may be told anywhere.
+-- What a fault tells: its cause, the name of its file and its place. Out of memory may be told anywhere.
 use Rattle.std.specs.Prelude.{◌≡◌, ⊤, ℕ, List, Option, None, Some}
 use Rattle.tptp_token.specs.declared.token.LexFault.{LexFault}
 use Rattle.tptp_token.specs.declared.token.LexFault.TheVariants.{BadByte as BadByteAt, Unclosed as UnclosedAt}
@@ -11,7 +11,7 @@ abbrev pub IsFaultWhere : (ReadCause → List ℕ → ℕ → Type 0) → ReadFa
 IsFaultWhere is NoMemory = ⊤
 IsFaultWhere is (At cause file place) = is cause file place
 
--- behind the last token of a text that ends at that place: the fault of the tokens, or else the end of the text
+-- after the last token of a text that ends at that place: the fault of the tokens, or else the end of the text
 abbrev pub IsEndFault : Option LexFault → ℕ → ReadCause → ℕ → Type 0
 IsEndFault None end cause place = (cause ≡ Syntax) × (place ≡ end)
 IsEndFault (Some (BadByteAt n)) end cause place = (cause ≡ BadByte) × (place ≡ n)

@@ -44,7 +44,7 @@ pub data Symbol : Type 0 where
   a_role : Bool → Symbol
   -- after the body: `,` and notes, or `)`
   end_of_body : ℕ → Symbol
-  -- the first token of notes, and the others with the `)` behind them, with the brackets that are open
+  -- the first token of notes, and the others with the `)` after them, with the brackets that are open
   first_note : ℕ → Symbol
   more_notes : ℕ → List Bracket → Symbol
   an_annotated : ℕ → Symbol
@@ -70,7 +70,7 @@ is_binary_connective token =
 abbrev pub is_truth_word : List ℕ → Bool
 is_truth_word = is_one_of (codes "$true" ∷ codes "$false" ∷ [])
 
--- the marks behind which nothing is wrong
+-- the marks after which nothing is wrong
 abbrev pub taken : List Symbol → Step
 taken new = takes new None
 
@@ -160,7 +160,7 @@ role_step is_clause Connective bytes = stops syntax
 role_step is_clause Mark bytes = stops syntax
 role_step is_clause Other bytes = stops syntax
 
--- with the brackets that are open before the token and behind it, and what comes where the token closes none of them
+-- with the brackets that are open before the token and after it, and what comes where the token closes none of them
 abbrev pub note_step : ℕ → List Bracket → Option (List Bracket) → Step → Lexeme → Step
 note_step limit unclosed (Some behind) otherwise token =
     takes (more_notes limit behind ∷ []) (note_cause limit (length unclosed) (opened token))
@@ -255,7 +255,7 @@ stepped place below (takes new (Some refusal)) left_out_run = refused place refu
 stepped place below passes left_out_run = left_out_run
 stepped place below (stops refusal) left_out_run = refused place refusal
 
--- the run behind a token
+-- the run after a token
 abbrev pub after_token : ℕ → List Symbol → Lexeme → Run
 after_token place [] token = over place
 after_token place (s ∷ ss) token = stepped place ss (step s token) (after_token place ss token)

@@ -1,4 +1,4 @@
--- The tokens of a text stand one behind the other, none of them empty, within the text.
+-- The tokens of a text stand one after the other, none of them empty, within the text.
 use Rattle.std.specs.Prelude.{◌≤◌, ◌<◌, ℕ, List, [], ◌∷◌, length}
 use Rattle.tptp_token.specs.Lexing.{lexed_of}
 use Rattle.tptp_token.specs.declared.token.Kind.TheVariants.{Lower}
@@ -29,6 +29,6 @@ EmptyToken = StandBetween 0 4 (word 1 1 ∷ []) → ⊥
 abbrev pub CrossingTokens : Type 0
 CrossingTokens = StandBetween 0 4 (word 0 2 ∷ word 1 3 ∷ []) → ⊥
 
--- a token that ends behind the text
+-- a token that ends after the text
 abbrev pub TokenTooFar : Type 0
 TokenTooFar = StandBetween 0 4 (word 3 5 ∷ []) → ⊥

@@ -40,7 +40,7 @@ refusal_of RoleRefusal = role_not_taken
 refusal_of Nesting = too_deep
 refusal_of (Inappropriate form) = left_out (form_of form)
 
--- Reading halts as the machine does; for want of memory it may halt anywhere.
+-- Reading halts as the machine does; for out of memory it may halt anywhere.
 abbrev pub IsEnd : Halt → Verdict → Type 0
 IsEnd NoMemory v = ⊤
 IsEnd (At refusal index) v = v ≡ refused_at index (refusal_of refusal)
@@ -124,7 +124,7 @@ ReadsTerm r names level at next t = Reads term_lexemes term_meant r (one a_term)
 abbrev pub ReadsArguments : Reader → List Name → ℕ → ℕ → ℕ → TermTrees → Type 0
 ReadsArguments r names level at next ts = Reads arguments_lexemes terms_meant r (one maybe_arguments) names level at next ts
 
--- terms between commas, and the bracket behind them
+-- terms between commas, and the bracket after them
 abbrev pub bracketed_lexemes : Listed TermPhrase → List Lexeme → List Lexeme
 bracketed_lexemes ts rest = listed term_lexemes (lexeme Mark (codes ",")) ts (lexeme Mark (codes ")") ∷ rest)
 
@@ -176,7 +176,7 @@ ReadsUnit r names level at next f = Reads unit_lexemes unit_meant r (one a_unit)
 abbrev pub ReadsFormula : Reader → List Name → ℕ → ℕ → ℕ → FormulaTree → Type 0
 ReadsFormula r names level at next f = Reads phrase_lexemes meant r formula_symbols names level at next f
 
--- further units behind the first one and a sign, with that sign between them
+-- further units after the first one and a sign, with that sign between them
 abbrev pub further_units : List ℕ → Surroundings → List Symbol
 further_units sign s = a_unit s ∷ maybe_more_units sign s ∷ []
 
@@ -233,7 +233,7 @@ binary_of Xor = different
 binary_of Nor = nor
 binary_of Nand = nand
 
--- one variable of a quantifier, behind those read before it
+-- one variable of a quantifier, after those read before it
 pub record ReadsVariable (r : Reader) (at next : ℕ) (before behind : List (List ℕ)) : Type 0 where
   pub name : List ℕ
   pub here : IsNext r at (lexeme Variable name)
@@ -259,7 +259,7 @@ further_literals s = a_literal s ∷ maybe_more_literals s ∷ []
 abbrev pub ReadsLiteral : Reader → List Name → ℕ → ℕ → ℕ → FormulaTree → Type 0
 ReadsLiteral r names level at next f = Reads literal_lexemes literal_meant r (one a_literal) names level at next f
 
--- behind `~`
+-- after `~`
 pub record NegatedPhrase : Type 0 where
   pub bracketed : Bool
   pub atom : AllowedAtom false

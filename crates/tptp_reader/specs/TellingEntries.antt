@@ -95,7 +95,7 @@ IsWithin count NoMemory = ⊤
 IsWithin count (At refusal index) = index < count
 IsWithin count Ended = ⊤
 
--- want of memory is told exactly where reading halted for it
+-- out of memory is told exactly where reading halted for it
 abbrev pub IsFaultOfHalt : List ℕ → Lexed → Halt → ReadFault → Type 0
 IsFaultOfHalt bytes lexed halt NoFaultMemory = halt ≡ NoMemory
 IsFaultOfHalt bytes lexed halt (FaultAt cause file place) = (file ≡ []) × IsCauseBy bytes lexed halt cause place

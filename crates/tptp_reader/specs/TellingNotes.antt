@@ -31,7 +31,7 @@ abbrev pub closes_first : List Bracket → Lexeme → Bool
 closes_first [] token = false
 closes_first (b ∷ bs) token = closes b token
 
--- a token of notes: whether it goes on with them, and the brackets that are open behind it
+-- a token of notes: whether it goes on with them, and the brackets that are open after it
 abbrev pub GoesOn : ℕ → List Bracket → Lexeme → Bool → List Bracket → Type 0
 GoesOn limit unclosed token true behind =
     (open_after unclosed token ≡ Some behind) × (note_cause limit (length unclosed) (opened token) ≡ None)
@@ -53,7 +53,7 @@ abbrev pub is_end_of_notes : List Bracket → Lexeme → Bool
 is_end_of_notes [] token = is_mark (codes ")") token
 is_end_of_notes (b ∷ bs) token = false
 
--- notes, up to the bracket behind them
+-- notes, up to the bracket after them
 pub record ReadsNotes (r : Reader) (at next : ℕ) : Type 0 where
   pub first : Lexeme
   pub others : List Lexeme

@@ -12,7 +12,7 @@ use std::alloc::Global;
 use std::collections::HashMap;
 use std::marker::Model;
 
-/// How many of the bound variables are looked through; those behind them are found by a table.
+/// How many of the bound variables are looked through; those after them are found by a table.
 const SCANNED: usize = 16;
 
 /// The variables that are bound, which contracts see as the list of their names, the innermost last. Whether a name is one of
@@ -20,7 +20,7 @@ const SCANNED: usize = 16;
 #[derive(Drop)]
 pub struct Bound<'a> {
     names: Vec<Name<'a>>,
-    /// How often each name stands behind the first `SCANNED`.
+    /// How often each name stands after the first `SCANNED`.
     behind: HashMap<Name<'a>, usize>,
 }
 
@@ -61,7 +61,7 @@ impl<'a> Bound<'a> {
         is_among_first(self.names.as_slice(), bytes) || self.is_behind(bytes)
     }
 
-    /// Whether a name stands behind those that are looked through.
+    /// Whether a name stands after those that are looked through.
     fn is_behind(&self, bytes: &'a [u8]) -> bool
         ensures { result ≡ among (drop SCANNED self.now) bytes.now }
     {
@@ -83,7 +83,7 @@ impl<'a> Bound<'a> {
         Ok(())
     }
 
-    /// Keeps the first ones of that number, and drops those behind them, the innermost first.
+    /// Keeps the first ones of that number, and drops those after them, the innermost first.
     pub fn truncate(&mut self, len: usize)
         ensures { self.new ≡ take len self.old }
     {

@@ -51,7 +51,7 @@ pub enum ReadCause {
     Load,
 }
 
-/// A text isn't read: for want of memory, or for a cause, with the name of a file and the place in it, in bytes from 0.
+/// A text isn't read: for out of memory, or for a cause, with the name of a file and the place in it, in bytes from 0.
 #[derive(Drop)]
 pub enum ReadFault {
     NoMemory,
@@ -70,7 +70,7 @@ impl ReadFault {
     }
 }
 
-/// The cause and the place of a fault behind the last token of a text: those of the tokens' own fault, or else `Syntax` at the
+/// The cause and the place of a fault after the last token of a text: those of the tokens' own fault, or else `Syntax` at the
 /// end of the text, which is handed in as its length in bytes.
 pub fn fault_at_end(fault: Option<LexFault>, end: u32) -> (ReadCause, u32)
     ensures { IsEndFault fault end result.0 result.1 }

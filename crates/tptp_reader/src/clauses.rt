@@ -55,7 +55,7 @@ impl<'a> Reader<'a> {
         Ok((Formula::Or(all), next))
     }
 
-    /// Reads the literals behind the first one and a `|`.
+    /// Reads the literals after the first one and a `|`.
     fn more_literals(
         &self,
         alloc: Global,

@@ -19,19 +19,19 @@ use std::alloc::Global;
 use tptp_token::{Lexed, MOST_TEXT_BYTES};
 use tptp_tree::{Annotated, FileName, Formula, Role};
 
-/// An annotated formula, with the tokens of its notes and the token behind it, by their indices.
+/// An annotated formula, with the tokens of its notes and the token after it, by their indices.
 #[derive(Drop)]
 pub struct Read {
     pub annotated: Annotated,
     /// The first token of the notes.
     pub notes_start: usize,
-    /// The token behind the notes, which is the first where there are none.
+    /// The token after the notes, which is the first where there are none.
     pub notes_end: usize,
-    /// The token behind the formula's full stop.
+    /// The token after the formula's full stop.
     pub next: usize,
 }
 
-/// The end of an entry: the range of its notes, and the token behind its full stop.
+/// The end of an entry: the range of its notes, and the token after its full stop.
 #[derive(Clone, Copy)]
 struct Ending {
     start: usize,
@@ -39,7 +39,7 @@ struct Ending {
     next: usize,
 }
 
-/// Reads the annotated formula that begins at a token, with so many levels of nesting at most. A level is begun by `~`, by
+/// Reads the annotated formula that begins at a token, with at most `levels` levels of nesting. A level is begun by `~`, by
 /// a quantifier and by a bracket, and ends with its unit or its closing bracket; the brackets of the entry itself count
 /// none. The place is that of the formula's first byte, and the name of the file is empty.
 ///
@@ -139,7 +139,7 @@ impl<'a> Reader<'a> {
         })
     }
 
-    /// Where a token begins in the text; 0 behind the last token.
+    /// Where a token begins in the text; 0 after the last token.
     fn place_of(&self, at: usize) -> u32
         ensures { IfSome (slice_get self.now.tokens.now at) (λ t. result ≡ t.start) }
     {
@@ -221,7 +221,7 @@ impl<'a> Reader<'a> {
         Ok((read, next))
     }
 
-    /// Reads notes behind a comma, or none, and the bracket and the full stop that close the entry.
+    /// Reads notes after a comma, or none, and the bracket and the full stop that close the entry.
     fn ending(&self, alloc: Global, at: usize) -> Result<Ending, Halt>
         ensures read { IfOk result (λ ending. ReadsEnding self.now at ending.start ending.end ending.next) }
         ensures close { IfOk result (λ ending. ending.end + 2 ≡ ending.next) }

@@ -1,6 +1,6 @@
 // Formulas of `fof` entries, read from tokens.
 //
-// What is read is put into a place that the caller lends, in place of the formula that stands there. So no function that waits for
+// A formula that is read is put into a place that the caller lends, in place of the formula that stands there. So no function that waits for
 // what stands in brackets keeps a formula of its own, and a level of nesting takes little stack. What holds or moves formulas is in
 // functions that aren't inlined and from which nothing is read.
 
@@ -79,7 +79,7 @@ impl<'a> Reader<'a> {
         }
     }
 
-    /// Reads the units behind the first one, which is read, and a connective, with the same connective between them.
+    /// Reads the units after the first one, which is read, and a connective, with the same connective between them.
     #[cycle(formulas)]
     #[inline(never)]
     fn operands(
@@ -338,7 +338,7 @@ fn quantify(alloc: Global, for_all: bool, variables: Texts, read: &mut Formula) 
     Ok(())
 }
 
-/// Puts a connective of two operands between a formula and the one that was read behind it.
+/// Puts a connective of two operands between a formula and the one that was read after it.
 #[inline(never)]
 fn connect(alloc: Global, connective: Binary, left: FormulaBox, read: &mut Formula) -> Mem<()>
     ensures { IfOk result (λ _. formula_of read.new ≡ connected_tree (binary_of connective) left (formula_of read.old)) }

@@ -27,7 +27,7 @@ pub fn one_answer()
     ensures { (limit : ℕ) (tokens : List Lexeme) → IsTheAnswer limit tokens }
 {}
 
-/// What the machine's verdict says of the annotated formula that begins at some token, told by the places of tokens among
+/// The machine's verdict on the annotated formula that begins at some token, told by the places of tokens among
 /// all of them: the formula whose tokens stand there is read; a token ends the reading; or the tokens end too early.
 pub fn placed_answers()
     ensures read { (limit : ℕ) (tokens : List Lexeme) (first next : ℕ) (p : AnnotatedPhrase)
@@ -45,7 +45,7 @@ pub fn one_placed_answer()
     ensures { (limit : ℕ) (tokens : List Lexeme) (first : ℕ) → first ≤ length tokens → IsTheAnswerFrom limit tokens first }
 {}
 
-/// What `annotated` tells is told of the formula alone: what is read has no fault, there is at most one fault, and all that
+/// The answer of `annotated` depends on the formula alone: an entry that is read has no fault, there is at most one fault, and all that
 /// is told of a formula is determined by the text.
 pub fn one_outcome()
     ensures read_or_fault { (limit : ℕ) (bytes : List ℕ) (lexed : Lexed) (first : ℕ) (read : Read) (cause : ReadCause) (place : ℕ)
@@ -57,7 +57,7 @@ pub fn one_outcome()
         → IsReading limit bytes tokens first read → IsReading limit bytes tokens first other → IsSameReading read other }
 {}
 
-/// What is spelled as an annotated formula is printed so that it is spelled again, and so is what `annotated` reads: the
+/// An annotated formula that some tokens spell is printed so that its text spells it again, and so is each that `annotated` reads: the
 /// printed formula spells the same tree as a formula, and one that stood in `cnf` also as a clause; the printed name, which
 /// may be of digits, spells the name.
 pub fn printed_again()
@@ -71,7 +71,7 @@ pub fn printed_again()
         → SpellsName (name_text (entry_of read.annotated).name) (entry_of read.annotated).name }
 {}
 
-/// Whole texts: what is read from the first token up to the end of all is what the text spells; and where nothing is wrong
+/// Whole texts: the formulas that are read from the first token up to the end are those that the text spells; and where nothing is wrong
 /// with any token of a text that spells an annotated formula, the answer is that it is read up to the end.
 pub fn whole_texts()
     ensures read_is_spelled { (limit : ℕ) (bytes : List ℕ) (read : Read)
@@ -83,7 +83,7 @@ pub fn whole_texts()
         → IsReadFrom limit (lexemes_of bytes (lexed_of bytes).tokens) 0 s.0 (length (lexed_of bytes).tokens) }
 {}
 
-/// The tokens of a text stand one behind the other, none of them empty, within the text.
+/// The tokens of a text stand one after the other, none of them empty, within the text.
 pub fn tokens_rise()
     ensures { TokensRise }
 {}

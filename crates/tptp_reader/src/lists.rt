@@ -1,10 +1,10 @@
-// Lists that are whole, without room behind their last element: most hold one to three, where a vector that grows has room for four.
+// Lists that are whole, without room after their last element: most hold one to three, where a vector that grows has room for four.
 
 ghost use Rattle.std.specs.Prelude.{◌≡◌};
 
 use tptp_tree::{Formulas, TreeTerms};
 
-/// The same terms. Takes no memory.
+/// These terms, without spare room. It takes no memory.
 pub fn fitted_terms(terms: TreeTerms) -> TreeTerms
     ensures { result ≡ terms }
 {
@@ -13,7 +13,7 @@ pub fn fitted_terms(terms: TreeTerms) -> TreeTerms
     TreeTerms::from_vec(items)
 }
 
-/// The same formulas. Takes no memory.
+/// These formulas, without spare room. It takes no memory.
 pub fn fitted_formulas(formulas: Formulas) -> Formulas
     ensures { result ≡ formulas }
 {

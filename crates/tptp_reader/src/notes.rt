@@ -54,7 +54,7 @@ fn opened(token: &TextToken<'_>) -> Option<Bracket>
 }
 
 impl<'a> Reader<'a> {
-    /// The index behind a run of tokens, not empty, that is balanced in brackets of three kinds and ends before a closing
+    /// The index after a run of tokens, not empty, that is balanced in brackets of three kinds and ends before a closing
     /// bracket of its own. Each bracket begins a level.
     pub fn notes(&self, alloc: Global, at: usize) -> Result<usize, Halt>
         ensures read { IfOk result (λ next. ReadsNotes self.now at next) }
@@ -81,7 +81,7 @@ impl<'a> Reader<'a> {
         }
     }
 
-    /// Whether a token goes on with notes, where these brackets are unclosed before it, and with those unclosed behind it.
+    /// Whether a token goes on with notes, where these brackets are unclosed before it, and with those unclosed after it.
     fn note(
         &self,
         unclosed: &mut Vec<Bracket>,
@@ -107,7 +107,7 @@ impl<'a> Reader<'a> {
         unclosed.len() < self.limit as usize
     }
 
-    /// The same, where the token doesn't close the innermost bracket.
+    /// Whether the token goes on with notes, where it doesn't close the innermost bracket.
     fn enter(
         &self,
         unclosed: &mut Vec<Bracket>,

@@ -140,7 +140,7 @@ impl<'a> Reader<'a> {
         }
     }
 
-    /// The index behind a mark that has to stand here.
+    /// The index after a mark that has to stand here.
     pub fn after(&self, at: usize, bytes: &[u8]) -> Result<usize, Halt>
         ensures found { IfOk result (λ next. (next ≡ at + 1) × IsNext self.now at (lexeme Mark bytes.now)) }
         ensures leads { IfOk result (λ next. Leads self.now (mark bytes.now ∷ []) at [] next) }

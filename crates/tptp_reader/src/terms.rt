@@ -62,7 +62,7 @@ impl<'a> Reader<'a> {
         self.bracketed(alloc, bound, at + 1, level)
     }
 
-    /// Reads terms between commas, at least one, and the bracket behind them.
+    /// Reads terms between commas, at least one, and the bracket after them.
     #[cycle(terms)]
     fn bracketed(
         &self,

@@ -38,7 +38,7 @@ abbrev pub positive_by : List ℕ → GeneralTrees → Option SignedName
 positive_by f no_trees = Some (true, f)
 positive_by f (tree_then t ts) = None
 
--- a word without arguments, or one behind `~`
+-- a word without arguments, or one after `~`
 abbrev pub signed_name_in : GeneralTree → Option SignedName
 signed_name_in (variable x) = None
 signed_name_in (word f ts) = positive_by f ts
@@ -57,7 +57,7 @@ is_decimal [] = false
 is_decimal (d ∷ []) = is_digit d
 is_decimal (d ∷ e ∷ es) = not (d == 48) && list_all is_digit (d ∷ e ∷ es)
 
--- the number of digits behind those of a number
+-- the number of digits after those of a number
 abbrev pub value_behind : ℕ → List ℕ → ℕ
 value_behind value [] = value
 value_behind value (d ∷ ds) = value_behind (value * 10 + (d - 48)) ds

@@ -43,17 +43,17 @@ level o before items = record { opener = o; before = before; items = items }
 pub data State : Type 0 where
   -- a part has to come
   wants : List GeneralTree → List Level → State
-  -- behind a word or a dollar word: arguments may come
+  -- after a word or a dollar word: arguments may come
   may_open : Opener → List GeneralTree → List Level → State
-  -- behind the bracket of a list
+  -- after the bracket of a list
   in_list : List GeneralTree → List Level → State
-  -- behind `~`
+  -- after `~`
   wants_word : List GeneralTree → List Level → State
-  -- behind the sign of a number
+  -- after the sign of a number
   wants_number : NumberSign → List GeneralTree → List Level → State
-  -- behind a part, which is the last one of those that were read
+  -- after a part, which is the last one of those that were read
   has : List GeneralTree → List Level → State
-  -- behind a whole term
+  -- after a whole term
   ends : GeneralTree → List Level → State
 
 -- ---- tokens
@@ -135,7 +135,7 @@ abbrev pub number_step : NumberSign → List GeneralTree → List Level → Lexe
 number_step sign before levels token =
     if is_number token.kind then Some (has (before ++ number sign token.bytes ∷ []) levels) else None
 
--- the state behind a token, if a term can go on with it
+-- the state after a token, if a term can go on with it
 abbrev pub step : State → Lexeme → Option State
 step (wants before levels) token = wants_step before levels token
 step (may_open o before levels) token = may_open_step o before levels token

@@ -55,12 +55,12 @@ abbrev mutual
   arguments_lexemes (phrase_then t ts) rest =
       lexeme Mark (codes "(") ∷ general_lexemes t (more_lexemes (codes ")") ts rest)
 
-  -- behind an opening square bracket
+  -- after an opening square bracket
   pub items_lexemes : GeneralPhrases → List Lexeme → List Lexeme
   items_lexemes no_phrases rest = lexeme Mark (codes "]") ∷ rest
   items_lexemes (phrase_then t ts) rest = general_lexemes t (more_lexemes (codes "]") ts rest)
 
-  -- further terms, each behind a comma, and the closing bracket
+  -- further terms, each after a comma, and the closing bracket
   pub more_lexemes : List ℕ → GeneralPhrases → List Lexeme → List Lexeme
   more_lexemes close no_phrases rest = lexeme Mark close ∷ rest
   more_lexemes close (phrase_then t ts) rest = lexeme Mark (codes ",") ∷ general_lexemes t (more_lexemes close ts rest)

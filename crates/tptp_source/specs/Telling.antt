@@ -29,7 +29,7 @@ IsHalt NoTerm answer = answer ≡ None
 abbrev pub Place : Type 0
 Place = List GeneralTree → List Level → State
 
--- behind that part
+-- after that part
 abbrev pub behind : GeneralTree → Place
 behind t before levels = has (before ++ t ∷ []) levels
 
@@ -54,7 +54,7 @@ ended t before levels = ends t levels
 abbrev pub ReadsTerm : Reader → ℕ → ℕ → GeneralTree → Type 0
 ReadsTerm r at next t = Leads r term_place at (ended t) next
 
--- further parts of a term, behind these and a `:`
+-- further parts of a term, after these and a `:`
 abbrev pub parts_place : List GeneralTree → Place
 parts_place parts before levels = wants parts levels
 

@@ -1,4 +1,4 @@
-// What parts of general terms begin with.
+// The tokens with which parts of general terms begin.
 
 ghost use Rattle.std.specs.Prelude.{◌≡◌};
 ghost use Rattle.tptp_token.specs.TextTokens.{lexeme_of};
@@ -7,7 +7,7 @@ ghost use Rattle.tptp_source.specs.Machine.{beginning_of};
 use crate::sign::NumberSign;
 use tptp_token::{Kind, TextToken};
 
-/// What a token begins, where a part of a general term may stand.
+/// The part that a token begins, where a part of a general term may stand.
 #[derive(Clone, Copy, Debug, PartialEq, Eq)]
 pub enum Beginning {
     Variable,
@@ -26,7 +26,7 @@ pub enum Beginning {
 }
 
 impl Beginning {
-    /// What the token begins.
+    /// The part that the token begins.
     pub fn of(token: &TextToken<'_>) -> Beginning
         ensures { result ≡ beginning_of (lexeme_of token.now) }
     {

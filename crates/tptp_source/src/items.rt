@@ -1,4 +1,4 @@
-// What the items of an inference say.
+// The items of an inference.
 
 ghost use Rattle.std.specs.Prelude.{◌≡◌, IfOk, map};
 ghost use Rattle.std.specs.Option.{option_map};

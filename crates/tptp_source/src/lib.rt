@@ -1,4 +1,11 @@
-// General terms and sources of the annotations of TPTP's formulas, read from their tokens.
+//! The annotations of TSTP lines: general terms, and the sources of a derivation's lines.
+//!
+//! `reader.rt` reads a general term from tokens by recursive descent; `source.rt` recognises `file(..)` and `inference(..)`; `items.rt`
+//! has the items in brackets by which an inference names its places and bindings. What an item means is decided in `tstp_lines`.
+//!
+//! **What is proved.** A term that is read is spelled by the tokens, by the definition in `tptp_tree`, and where none is read none is spelled.
+//!
+//! **Cost.** Linear in the tokens. The reader goes some frames deeper for each level of brackets, of which a derivation may have 5,000.
 #![tactic(auto)]
 
 mod beginning;

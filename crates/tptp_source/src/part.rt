@@ -1,4 +1,4 @@
-// What a general term has in it: a name, a list, a word with its arguments, so many terms.
+// The contents of a general term: a name, a list, a word with its arguments, a number of terms.
 
 ghost use Rattle.std.specs.Prelude.{◌≡◌, IfOk};
 ghost use Rattle.std.specs.Option.{option_map};

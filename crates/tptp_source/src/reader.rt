@@ -84,7 +84,7 @@ impl<'a> Reader<'a> {
         Ok((first, next))
     }
 
-    /// Reads the parts behind the first one and a `:`.
+    /// Reads the parts after the first one and a `:`.
     #[cycle(general_terms)]
     fn joined(
         &self,
@@ -150,7 +150,7 @@ impl<'a> Reader<'a> {
         }
     }
 
-    /// Reads the number behind a sign.
+    /// Reads the number after a sign.
     fn number(
         &self,
         alloc: Global,
@@ -169,7 +169,7 @@ impl<'a> Reader<'a> {
         Ok((GeneralTerm::Number(sign, number), at + 1))
     }
 
-    /// Reads the word behind `~`.
+    /// Reads the word after `~`.
     fn negated(&self, alloc: Global, at: usize) -> Result<(GeneralTerm, usize), Halt>
         ensures read { IfOk result (λ read. ReadsPart self.now wants_word at read.1 (tree_of read.0)) }
         ensures onward { IfOk result (λ read. at < read.1) }
@@ -183,7 +183,7 @@ impl<'a> Reader<'a> {
         Ok((GeneralTerm::Negated(name), at + 1))
     }
 
-    /// Reads the arguments behind a word or a dollar word: terms in round brackets, or nothing where no bracket opens.
+    /// Reads the arguments after a word or a dollar word: terms in round brackets, or nothing where no bracket opens.
     #[cycle(general_terms)]
     #[inline(always)]
     fn arguments(&self, alloc: Global, at: usize) -> Result<(GeneralTerms, usize), Halt>
@@ -197,7 +197,7 @@ impl<'a> Reader<'a> {
         Ok((GeneralTerms::new(alloc), at))
     }
 
-    /// Reads the terms behind the bracket of a list, of which there may be none.
+    /// Reads the terms after the bracket of a list, of which there may be none.
     #[cycle(general_terms)]
     #[inline(always)]
     fn list(&self, alloc: Global, at: usize) -> Result<(GeneralTerms, usize), Halt>
@@ -211,7 +211,7 @@ impl<'a> Reader<'a> {
         self.items(alloc, b"]", at)
     }
 
-    /// Reads terms between commas, at least one, and the bracket that closes behind them.
+    /// Reads terms between commas, at least one, and the bracket that closes after them.
     #[cycle(general_terms)]
     fn items(&self, alloc: Global, close: &[u8], at: usize) -> Result<(GeneralTerms, usize), Halt>
         ensures read { IfOk result (λ read. ReadsItems close.now self.now at read.1 read.0) }

@@ -1,6 +1,6 @@
 // The signs of numbers.
 
-/// What stands before a number.
+/// The sign before a number.
 #[derive(Clone, Copy, Debug, PartialEq, Eq)]
 pub enum NumberSign {
     Unsigned,

@@ -17,7 +17,7 @@ use std::slice::Iter;
 pub enum GeneralTerm {
     /// A variable by its name.
     Variable(Text),
-    /// A word by its name, which is the same in quotes and without, and its arguments.
+    /// A word by its name, which doesn't depend on quotes, and its arguments.
     Word(Text, GeneralTerms),
     /// A dollar word with its dollar signs, and its arguments.
     Dollar(Text, GeneralTerms),
@@ -118,7 +118,7 @@ impl GeneralTerms {
         self.items.is_empty()
     }
 
-    /// Adds a term at the end. After want of memory the list is as before.
+    /// Adds a term at the end. After an out-of-memory error the list is as before.
     pub fn push(&mut self, term: GeneralTerm) -> Mem<()>
         ensures ok { IfOk result (λ _. self.new ≡ self.old ++ tree_of term ∷ []) }
         ensures err { OnErr result (self.new ≡ self.old) }

@@ -10,7 +10,7 @@ greatest test (suc n) = if test (suc n) then suc n else greatest test n
 unfoldable pub longest : (List ℕ → Bool) → List ℕ → ℕ
 longest test bytes = greatest (λ n. test (take n bytes)) (length bytes)
 
--- a length behind a front of so many bytes, and 0 where it is 0
+-- a length after a front of so many bytes, and 0 where it is 0
 abbrev pub behind : ℕ → ℕ → ℕ
 behind front zero = zero
 behind front (suc n) = front + suc n

@@ -31,7 +31,7 @@ block_end [] = None
 block_end (byte ∷ bytes) =
     if (byte == 42) && starts_with 47 bytes then Some 2 else option_map (λ n. n + 1) (block_end bytes)
 
--- behind `/*`
+-- after `/*`
 abbrev pub block_piece : Option ℕ → Piece
 block_piece None = Unclosed
 block_piece (Some n) = Space (n + 2)
@@ -66,11 +66,11 @@ pub record IsSignStart (byte : ℕ) : Type 0 where
 unfoldable pub fills : ℕ → List ℕ → Bool
 fills quote inside = is_quoted_rest quote false (inside ++ quote ∷ [])
 
--- how many bytes behind a quote are right
+-- how many bytes after a quote are right
 abbrev pub filled_length : ℕ → List ℕ → ℕ
 filled_length quote bytes = longest (fills quote) bytes
 
--- A quote is unclosed where the text ends behind what is right, or behind a `\` there. Else the next byte is bad.
+-- A quote is unclosed where the text ends after what is right, or after a `\` there. Else the next byte is bad.
 abbrev pub quote_fault : List ℕ → ℕ → Piece
 quote_fault bytes n = if is_end (drop n bytes) || bytes_eq (drop n bytes) (92 ∷ []) then Unclosed else Bad (n + 1)
 

@@ -96,7 +96,7 @@ token_name kind bytes = name_of (word_of kind bytes)
 
 -- ---- printing
 
--- between quotes, a quote and a `\` stand behind a `\`
+-- between quotes, a quote and a `\` stand after a `\`
 abbrev pub escaped_byte : ℕ → List ℕ
 escaped_byte b = if (b == 39) || (b == 92) then (92 ∷ b ∷ []) else (b ∷ [])
 

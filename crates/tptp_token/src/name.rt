@@ -17,7 +17,7 @@ pub fn unquoted(alloc: Global, word: &[u8]) -> Mem<Text>
     }
 }
 
-/// What stands up to the closing quote, with each escaping `\` left out.
+/// The text up to the closing quote, with each escaping `\` left out.
 fn unescaped_text(alloc: Global, inside: &[u8]) -> Mem<Text>
     ensures { IfOk result (λ name. name ≡ unescaped false inside.now) }
 {
@@ -39,7 +39,7 @@ fn unescaped_text(alloc: Global, inside: &[u8]) -> Mem<Text>
 }
 
 /// Adds a name at the end of a text: bare where it is a lower word, else between single quotes, with a `\` before a quote and
-/// a `\`. After want of memory nothing is added.
+/// a `\`. After an out-of-memory error nothing is added.
 pub fn push_name(page: &mut Vec<u8>, name: &[u8]) -> Mem<()>
     ensures added { IfOk result (λ _. page.new.items ≡ page.old.items ++ name_text name.now) }
     ensures unchanged { OnErr result (page.new.items ≡ page.old.items) }

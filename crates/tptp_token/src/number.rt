@@ -9,7 +9,7 @@ ghost use Rattle.tptp_token.specs.Kinds.{follows_digits};
 use crate::piece::starts_with_either;
 use crate::word::digit_count;
 
-/// How long a number is, by its first digit and the bytes behind it.
+/// How long a number is, by its first digit and the bytes after it.
 pub fn number_length(first: u8, rest: &[u8]) -> usize
     requires { digit first ≡ true }
     ensures length { result ≡ longest is_number (first ∷ rest.now) }
@@ -21,7 +21,7 @@ pub fn number_length(first: u8, rest: &[u8]) -> usize
     whole + 1 + part + exponent_length(&behind[part..])
 }
 
-/// How long a `.` or a `/` and the digits behind it are; 0 where no digit is there.
+/// How long a `.` or a `/` and the digits after it are; 0 where no digit is there.
 fn fraction_length(bytes: &[u8]) -> usize
     ensures within { result ≤ length bytes.now }
     ensures length { longest follows_digits bytes.now ≡ result + longest is_exponent (drop result bytes.now) }
@@ -33,7 +33,7 @@ fn fraction_length(bytes: &[u8]) -> usize
     }
 }
 
-/// How long an `E` or an `e`, a sign or none, and the digits behind it are; 0 where no digit is there.
+/// How long an `E` or an `e`, a sign or none, and the digits after it are; 0 where no digit is there.
 fn exponent_length(bytes: &[u8]) -> usize
     ensures length { result ≡ longest is_exponent bytes.now }
     ensures within { result ≤ length bytes.now }
@@ -49,7 +49,7 @@ fn exponent_length(bytes: &[u8]) -> usize
     }
 }
 
-/// So many bytes and the digits behind them; 0 where no digit is there.
+/// A count of bytes and the digits after them; 0 where no digit is there.
 fn counted(before: usize, bytes: &[u8]) -> usize
     requires { before ≤ 2 }
     ensures length { result ≡ behind before (prefix_len digit bytes.now) }

@@ -1,4 +1,4 @@
-// What stands at the beginning of a text.
+// The piece with which a text begins: a token, a blank, a comment or a fault.
 
 ghost use Rattle.std.specs.Prelude.{◌≡◌, ◌+◌, length};
 ghost use Rattle.tptp_token.specs.Pieces.{piece_of, plain_piece, StaysWithin, starts_with as begins_with, starts_with_either as begins_with_either, block_piece as piece_of_block, block_end as end_of_block};
@@ -17,7 +17,7 @@ pub enum Piece {
     Token(Kind, usize),
     /// A blank or a comment.
     Space(usize),
-    /// A bad byte, so many bytes behind the beginning.
+    /// A bad byte, and its distance in bytes from the beginning.
     Bad(usize),
     /// No end to what begins here.
     Unclosed,
@@ -57,7 +57,7 @@ pub fn starts_with_either(bytes: &[u8], one: u8, other: u8) -> bool
     }
 }
 
-/// A block comment, by what stands behind its `/*`.
+/// A block comment, by the text after its `/*`.
 fn block_at(inside: &[u8]) -> Piece
     ensures { result ≡ piece_of_block (end_of_block inside.now) }
 {

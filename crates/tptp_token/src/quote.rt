@@ -8,7 +8,7 @@ use crate::byte::is_printable;
 use crate::piece::{Piece, starts_with, starts_with_either};
 use crate::token::Kind;
 
-/// The piece of a quote, by its first byte and what stands behind it.
+/// The piece of a quote, by its first byte and the text after it.
 pub fn quote_piece(kind: Kind, quote: u8, inside: &[u8]) -> Piece
     requires { IsQuoteKind kind quote }
     ensures { result ≡ plain_piece quote inside.now }
@@ -28,7 +28,7 @@ pub fn quote_piece(kind: Kind, quote: u8, inside: &[u8]) -> Piece
     Piece::Token(kind, filled + 2)
 }
 
-/// Whether the text ends here, or behind a `\`.
+/// Whether the text ends here, or after a `\`.
 fn is_cut_off(left: &[u8]) -> bool
     ensures { result ≡ (is_end left.now || bytes_eq left.now (92 ∷ [])) }
 {

@@ -13,7 +13,7 @@ use std::alloc::Global;
 /// of the line, or from `/*` to the next `*/`. The longest token is taken.
 ///
 /// `BadByte` is the first byte that neither goes on with a token nor starts one: in a quoted word or a distinct object
-/// the first byte that can't stand there, a `\` where the next one can't stand behind it, and the second quote of an
+/// the first byte that can't stand there, a `\` where the next one can't stand after it, and the second quote of an
 /// empty quoted word; at a `$` without a lower word, the `$`. `Unclosed` is the first byte of a quoted word, a distinct
 /// object or a block comment that the text ends in. The time is linear in the bytes.
 pub fn tokens(alloc: Global, bytes: &[u8]) -> Mem<Lexed>

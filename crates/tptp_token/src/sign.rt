@@ -9,7 +9,7 @@ use crate::byte::{is_lone_connective, is_other_sign};
 use crate::piece::{Piece, starts_with, starts_with_either};
 use crate::token::Kind;
 
-/// The piece of a sign, by its first byte and the bytes behind it.
+/// The piece of a sign, by its first byte and the bytes after it.
 pub fn sign_piece(first: u8, rest: &[u8]) -> Piece
     requires { IsSignStart first }
     ensures { result ≡ plain_piece first rest.now }
@@ -32,7 +32,7 @@ fn connective(has_second: bool) -> Piece
     Piece::Token(Kind::Connective, if has_second { 2 } else { 1 })
 }
 
-/// `<=>`, `<~>`, `<=` or `<`, by what stands behind the `<`.
+/// `<=>`, `<~>`, `<=` or `<`, by the text after the `<`.
 fn arrow_piece(rest: &[u8]) -> Piece
     ensures { result ≡ plain_piece 60 rest.now }
 {

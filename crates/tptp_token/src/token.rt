@@ -25,7 +25,7 @@ pub enum Kind {
     Other,
 }
 
-/// A token by its kind, the place of its first byte and the place behind its last one.
+/// A token by its kind, the place of its first byte and the place after its last one.
 #[derive(Clone, Copy, Debug, PartialEq, Eq)]
 pub struct Token {
     pub kind: Kind,
@@ -36,7 +36,7 @@ pub struct Token {
 /// Tokens, in order.
 pub type Tokens = Sequence<Token>;
 
-/// What ends a list of tokens before the text does, at a place in bytes from 0.
+/// The fault that ends a list of tokens before the text does, at a place in bytes from 0.
 #[derive(Clone, Copy, Debug, PartialEq, Eq)]
 pub enum LexFault {
     /// A byte that neither goes on with a token nor begins one.

@@ -66,7 +66,7 @@ fn lower_word_length(bytes: &[u8]) -> usize
     }
 }
 
-/// The piece of a `$`, by what stands behind it.
+/// The piece of a `$`, by the text after it.
 pub fn dollar_piece(rest: &[u8]) -> Piece
     ensures { result ≡ plain_piece 36 rest.now }
 {

@@ -37,7 +37,7 @@ abbrev pub open_after : List Bracket → Lexeme → Option (List Bracket)
 open_after [] token = with_opened (opened token) (is_closing token) []
 open_after (b ∷ bs) token = if closes b token then Some bs else with_opened (opened token) (is_closing token) (b ∷ bs)
 
--- the brackets that are open behind a run of tokens
+-- the brackets that are open after a run of tokens
 abbrev pub open_behind : Option (List Bracket) → List Lexeme → Option (List Bracket)
 open_behind None tokens = None
 open_behind (Some unclosed) [] = Some unclosed

@@ -35,7 +35,7 @@ ClauseMeaning =
     (formula_then (negation (predicate (codes "p") (term_then (variable (codes "X")) no_terms)))
     (formula_then (equation false (variable (codes "X")) (application (codes "A b") no_terms)) no_formulas))
 
--- one literal is no disjunction, and brackets behind `~` say nothing
+-- one literal is no disjunction, and brackets after `~` say nothing
 abbrev pub OneLiteral : Type 0
 OneLiteral = clause_meant (literals (negated_in_brackets (plain_predicate (bare (codes "p")) no_phrases)) []) ≡ negation (predicate (codes "p") no_terms)
 

@@ -20,14 +20,14 @@ a = application (codes "a") no_terms
 
 -- ---- levels
 
--- an equation behind `~` is printed in parentheses, and may be written without
+-- an equation after `~` is printed in parentheses, and may be written without
 abbrev pub NegatedEquationLevels : Type 0
 NegatedEquationLevels = formula_levels (negation (equation true a a)) ≡ 2
 
 abbrev pub BareNegatedEquation : Type 0
 BareNegatedEquation = SpellsFormulaWithin 1 (codes "~a=a") (negation (equation true a a))
 
--- a quantifier behind `~` is printed in parentheses, and its variables stand in a bracket
+-- a quantifier after `~` is printed in parentheses, and its variables stand in a bracket
 abbrev pub NegatedQuantifierLevels : Type 0
 NegatedQuantifierLevels = formula_levels (negation (quantified for_all (codes "X" ∷ []) p)) ≡ 4
 

@@ -8,7 +8,7 @@ use Rattle.tptp_tree.specs.Entries.{Body}
 use Rattle.tptp_tree.specs.Causes.{Refusal, syntax, free_variable, role_not_taken, too_deep, left_out, body_causes}
 use Rattle.tptp_tree.specs.Levels.{formula_levels, body_levels, SpellsFormulaWithin, IsWrittenWithin}
 
--- What some text spells within a number of levels is spelled by its printed text within twice as many: behind `~` an equation and a
+-- What some text spells within a number of levels is spelled by its printed text within twice as many: after `~` an equation and a
 -- quantifier may stand bare, and are printed in parentheses.
 abbrev pub PrintingAtMostDoubles : Type 0
 PrintingAtMostDoubles =

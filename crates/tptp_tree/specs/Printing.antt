@@ -62,7 +62,7 @@ is_joined (disjunction fs) = true
 is_joined (connected c f g) = true
 is_joined (quantified q xs f) = false
 
--- what stands behind `~` without parentheses: an atom that is no equation, or a negation
+-- what stands after `~` without parentheses: an atom that is no equation, or a negation
 abbrev pub is_bare : FormulaTree → Bool
 is_bare truth = true
 is_bare falsity = true

@@ -64,7 +64,7 @@ fn same_formulas(left: &[Formula], right: &[Formula]) -> bool
     true
 }
 
-/// Whether two formulas behind `~` are the same.
+/// Whether two formulas after `~` are the same.
 #[cycle(same_formula)]
 fn same_negated(left: &FormulaBox, right: &FormulaBox) -> bool
     ensures { result ≡ same_terms (encoded_formulas (formulas_of (left.now ∷ []))) (encoded_formulas (formulas_of (right.now ∷ []))) }

@@ -41,7 +41,7 @@ impl FileName {
         })
     }
 
-    /// The same name. It takes no memory, and is refused only where as many share the name as a number can count.
+    /// Another owner of the name. It takes no memory, and is refused only where as many share the name as a number can count.
     pub fn share(&self) -> Mem<FileName>
         ensures { IfOk result (λ name. name ≡ self.now) }
     {

@@ -254,7 +254,7 @@ impl Formulas {
         self.items.is_empty()
     }
 
-    /// Adds a formula at the end. After want of memory the list is as before.
+    /// Adds a formula at the end. After an out-of-memory error the list is as before.
     pub fn push(&mut self, formula: Formula) -> Mem<()>
         ensures ok { IfOk result (λ _. self.new ≡ self.old ++ formula_of formula ∷ []) }
         ensures err { OnErr result (self.new ≡ self.old) }

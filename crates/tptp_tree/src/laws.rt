@@ -113,7 +113,7 @@ pub fn one_problem()
     ensures { (text : List ℕ) (es fs : List EntryTree) → SpellsEntries text es → SpellsEntries text fs → es ≡ fs }
 {}
 
-/// What some text spells within a number of levels is printed within at most twice as many.
+/// A formula that some text spells within a number of levels is printed within at most twice as many.
 pub fn printing_at_most_doubles()
     ensures texts { PrintingAtMostDoubles }
     ensures written { WrittenIsAtMostDoubled }

@@ -39,7 +39,7 @@ pub fn print_formula_name(alloc: Global, name: &Text) -> Mem<Text>
     Ok(Text::from_vec(page))
 }
 
-/// Adds a formula's name at the end of a text: digits alone stand bare, every other name as elsewhere. After want of memory
+/// Adds a formula's name at the end of a text: digits alone stand bare, every other name as elsewhere. After an out-of-memory error
 /// nothing is added.
 pub fn push_formula_name(page: &mut Vec<u8>, name: &[u8]) -> Mem<()>
     ensures added { IfOk result (λ _. page.new.items ≡ page.old.items ++ formula_name_text name.now) }
@@ -167,7 +167,7 @@ fn is_joined(formula: &Formula) -> bool
     }
 }
 
-/// Whether a formula stands behind `~` without parentheses.
+/// Whether a formula stands after `~` without parentheses.
 pub fn is_bare(formula: &Formula) -> bool
     ensures { result ≡ bare (formula_of formula.now) }
 {

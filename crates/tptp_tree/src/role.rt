@@ -3,7 +3,7 @@
 ghost use Rattle.std.specs.Prelude.{◌≡◌};
 ghost use Rattle.tptp_tree.specs.Entries.{role_word, is_conjecture as conjecture_is, role_of, role_among as first_among};
 
-/// What a formula of a problem is for (Sutcliffe 2017). The conjecture is to be proved, all others are taken as given.
+/// The purpose of a formula in a problem (Sutcliffe 2017). The conjecture is to be proved, all others are taken as given.
 #[derive(Clone, Copy, Debug, PartialEq, Eq)]
 pub enum Role {
     Axiom,

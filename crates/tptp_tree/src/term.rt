@@ -119,7 +119,7 @@ impl TreeTerms {
         self.items.is_empty()
     }
 
-    /// Adds a term at the end. After want of memory the list is as before.
+    /// Adds a term at the end. After an out-of-memory error the list is as before.
     pub fn push(&mut self, term: TreeTerm) -> Mem<()>
         ensures ok { IfOk result (λ _. self.new ≡ self.old ++ term_of term ∷ []) }
         ensures err { OnErr result (self.new ≡ self.old) }

@@ -1,4 +1,4 @@
-// What a state has to tell of itself.
+// The trait of states that have a history.
 
 ghost use Rattle.std.specs.Prelude.{◌≡◌, ℕ, List, length};
 
@@ -7,13 +7,13 @@ pub trait Historied {
     /// An entry of the history.
     type Entry;
 
-    /// What stays as it was when the lock was made.
+    /// The part of the state that stays as it was when the lock was made.
     type Origin;
 
     /// The entries, the oldest first.
     ghost history: { Self → List Self.Entry };
 
-    /// What stays.
+    /// The part that stays.
     ghost origin: { Self → Self.Origin };
 
     /// Entries that belong together have one key.

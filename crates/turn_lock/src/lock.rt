@@ -24,7 +24,7 @@ const GATE: usize = 0;
 
 const LENGTH: usize = 1;
 
-// What the gate word says.
+// The values of the gate word.
 const OPEN: u64 = 0;
 
 const CLOSED: u64 = 1;

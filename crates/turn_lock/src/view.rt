@@ -1,8 +1,8 @@
-// What a pass knows of its lock.
+// The knowledge that a pass has of its lock.
 
 use plain_types::{Numbers, Sequence};
 
-/// What a pass knows. It stands in proofs alone: no value of it is made.
+/// The knowledge of a pass. It stands in proofs alone: no value of it is made.
 pub struct View<E, O> {
     /// The history that was seen.
     pub seen: Sequence<E>,

@@ -5,7 +5,8 @@ use Rattle.std.specs.List.{list_all, list_any, position_or_len}
 use Rattle.std.proofs.lemmas.Bool.{and_parts, not-true, eq-eqb, true≢false}
 use Rattle.std.proofs.lemmas.Option.{none-some, same_Some, option_and_then_some}
 use Rattle.plain_types.specs.declared.sequence.NameLit.{NameLit}
-use Rattle.plain_types.specs.Names.{same_name}
+use Rattle.plain_types.specs.Names.{same_name, positive_of, negative_of}
+use Rattle.plain_types.proofs.NameLemmas.{same_name-true}
 use Rattle.fol_base.specs.Tree.{Tree}
 use Rattle.fol_base.specs.Clause.{TreeLiteral, TreeClause, literals_eq, names_eq, clause_eq}
 use Rattle.fol_base.specs.Ground.{is_ground_literal}
@@ -14,12 +15,11 @@ use Rattle.tptp_tree.specs.Formula.{negation}
 use Rattle.tptp_tree.specs.Entries.{AnnotatedTree, is_conjecture}
 use Rattle.signature.specs.Symbol.{predicate_symbol, has_symbol}
 use Rattle.kernel_steps.specs.Conclusion.{Verdict, binding_fault, rule_fault, concludes, empty_clause, verdict}
-use Rattle.kernel_steps.specs.Derivation.{negative_of, positive_of, complement, component_clause, line_parents, IsComponent, IsOpposite, ComesBy}
+use Rattle.kernel_steps.specs.Derivation.{complement, component_clause, line_parents, IsComponent, IsOpposite, ComesBy}
 use Rattle.kernel_steps.specs.Soundness.{binds_each}
 use Rattle.kernel_steps.specs.declared.step.Step.{Step}
 use Rattle.kernel_steps.specs.declared.step.Step.TheVariants as step
 use Rattle.kernel_steps.specs.declared.step.Line.{Line}
-use Rattle.kernel_steps.proofs.AboutNames.NameTruth.{same_name-says}
 use Rattle.kernel_steps.proofs.AboutSplits.SplitTests.{literals_eq-says}
 use Rattle.tptp_source.specs.Sources.{SourceTree, file_source, inference_source, component_source, opposite_source}
 use Rattle.clausal_form.specs.DerivationClause.{name_number}
@@ -38,7 +38,7 @@ names_eq-says [] [] h = refl
 names_eq-says [] (m ∷ ms) h = absurd (true≢false (sym h))
 names_eq-says (n ∷ ns) [] h = absurd (true≢false (sym h))
 names_eq-says (n ∷ ns) (m ∷ ms) h =
-    let parts = and_parts (same_name n m) (names_eq ns ms) h in ap₂ ◌∷◌ (same_name-says n m parts.0) (names_eq-says ns ms parts.1)
+    let parts = and_parts (same_name n m) (names_eq ns ms) h in ap₂ ◌∷◌ (same_name-true n m parts.0) (names_eq-says ns ms parts.1)
 
 pub clause_eq-says : (c d : TreeClause) → clause_eq c d ≡ true → c ≡ d
 clause_eq-says c d h =

@@ -46,7 +46,7 @@ pub fn changed_implication_examples()
 {}
 
 /// One implication, with other items on line 8: those with words that the row doesn't have are ignored, and those with its
-/// words have to be these, in order, behind the status.
+/// words have to be these, in order, after the status.
 pub fn item_examples()
     ensures ignored { example.implication_answer 7 (example.para_line (example.para_items (example.thm ∷ example.n1 ∷ example.from_item ∷ example.into_item ∷ example.call (codes "note") (example.n0 ∷ []) ∷ example.bind [] ∷ example.bind_a ∷ []))) ≡ accepted 11 }
     ensures before_status { example.implication_answer 7 (example.para_line (example.para_items (example.n1 ∷ example.thm ∷ example.from_item ∷ example.into_item ∷ example.bind [] ∷ example.bind_a ∷ []))) ≡ refused_line 8 rule }

@@ -5,7 +5,7 @@ ghost use Rattle.clausal_form.specs.DerivationCauses.{text, no_empty_clause};
 ghost use Rattle.clausal_form.specs.DerivationTexts.{IsAcceptedDerivation, IsRefusedDerivation, SpellsDerivation};
 ghost use Rattle.clausal_form.specs.DerivationExamples.{falsum, falsum_text, falsum_text_then_dot, falsum_lines};
 
-/// A text that spells two lines, the empty text, one that begins with no line, one that has none behind two, and one whose
+/// A text that spells two lines, the empty text, one that begins with no line, one that has none after two, and one whose
 /// first byte is at fault.
 pub fn text_examples()
     ensures spelled { SpellsDerivation falsum_text falsum_lines }

@@ -1,4 +1,4 @@
-// What derivations establish.
+// The laws of derivations: what an accepted one proves.
 
 ghost use Rattle.clausal_form.specs.DerivationLaws.{FormsHaveFunctions, TakenLinesAreSteps, AcceptedLinesRefute, TakenLinesAreGrounded, AcceptedDerivationsRefute, SpelledLinesAreAnswered, TextsHaveOneAnswer, TextsHaveSomeAnswer};
 

@@ -1,6 +1,7 @@
 // Worked examples of compatible terms, unifiers, matchers, subsumption, kinds of terms and well-formed literals.
 
 ghost use Rattle.std.specs.Prelude.{◌≡◌, [], ◌∷◌, true, false, IsTrue, IsFalse};
+ghost use Rattle.plain_types.specs.Names.{positive_of, negative_of};
 ghost use Rattle.fol_base.specs.Instance.{Substitution};
 ghost use Rattle.fol_base.specs.Compatible.{compatible, compatible_generalisation, compatible_instance};
 ghost use Rattle.fol_base.specs.Unifier.{IsUnifier, IsUnifierApart, IsMostGeneralUnifier, IsMostGeneralUnifierApart, IsMatcher};
@@ -12,7 +13,6 @@ ghost use Rattle.fol_base.specs.Tree.{true_tree};
 ghost use Rattle.fol_base.specs.GroundForm.{is_atom_literal, IsGroundForm, form_size};
 ghost use Rattle.fol_base.specs.Examples.{x, a, b, f, f₂, g, p, q, r, equation, clause, is_predicate, symbols, with_predicate, with_two_arities, use_of_symbols, all_a, all_b, first_is, even, odd, first_is_a};
 ghost use Rattle.fol_base.specs.Rules.{disequation};
-ghost use Rattle.plain_types.specs.Examples.{positive_name, negative_name};
 
 /// Entries that may unify with a query, generalise it or be instances of it.
 pub fn compatible_examples()
@@ -96,7 +96,7 @@ pub fn ground_form_examples()
 
 /// Subsumption.
 pub fn subsumption_examples()
-    ensures asserted { assertions (positive_name 1 ∷ negative_name 2 ∷ []) ≡ 2 ∷ [] }
+    ensures asserted { assertions (positive_of 1 ∷ negative_of 2 ∷ []) ≡ 2 ∷ [] }
     ensures not_among { IsFalse (is_among (1 ∷ 2 ∷ []) (2 ∷ 3 ∷ [])) }
     ensures in_other_order { Subsumes is_predicate (clause (p (x 0) ∷ q (x 0) ∷ [])) (clause (q a ∷ p a ∷ r ∷ [])) }
     ensures to_different_literals { Subsumes is_predicate (clause (p (x 0) ∷ p (x 1) ∷ [])) (clause (p a ∷ [])) → ⊥ }

@@ -1,5 +1,0 @@
-use Rattle.calculus.proofs.AboutCovering.CoverLemmas.{dropped_literals_covered}
-use Rattle.calculus.proofs.laws.coverage.dropped_literals_covered.Goals as goal
-
-pub returns : goal.returns
-returns c = dropped_literals_covered

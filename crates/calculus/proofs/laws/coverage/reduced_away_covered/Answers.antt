@@ -1,5 +1,0 @@
-use Rattle.calculus.proofs.AboutCovering.RewriteLemmas.{reduced_away_covered}
-use Rattle.calculus.proofs.laws.coverage.reduced_away_covered.Goals as goal
-
-pub returns : goal.returns
-returns c = reduced_away_covered

@@ -1,5 +1,0 @@
-use Rattle.calculus.proofs.AboutCovering.RewriteLemmas.{reductions_compose}
-use Rattle.calculus.proofs.laws.coverage.reductions_compose.Goals as goal
-
-pub returns : goal.returns
-returns c = reductions_compose

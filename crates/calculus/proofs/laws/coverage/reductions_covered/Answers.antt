@@ -1,5 +1,0 @@
-use Rattle.calculus.proofs.AboutCovering.RewriteLemmas.{reductions_covered}
-use Rattle.calculus.proofs.laws.coverage.reductions_covered.Goals as goal
-
-pub returns : goal.returns
-returns c = reductions_covered

@@ -1,5 +1,0 @@
-use Rattle.calculus.proofs.AboutCovering.CoverLemmas.{renamed_covered}
-use Rattle.calculus.proofs.laws.coverage.renamed_covered.Goals as goal
-
-pub returns : goal.returns
-returns c = renamed_covered

@@ -1,5 +1,0 @@
-use Rattle.calculus.proofs.WorkedExamples.ExampleLemmas.{subsumed_instances}
-use Rattle.calculus.proofs.laws.examples.covering_example.Goals as goal
-
-pub returns : goal.returns
-returns c = subsumed_instances

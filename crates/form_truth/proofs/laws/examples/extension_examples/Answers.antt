@@ -1,9 +1,0 @@
-use Rattle.form_truth.proofs.WorkedExamples.SmallExamples.{other_size, other_p, other_r}
-use Rattle.form_truth.proofs.laws.examples.extension_examples.Goals as goal
-
-pub returns : goal.returns
-returns c = record {
-  other_size = other_size;
-  other_p = other_p;
-  other_r = other_r;
-}

@@ -1,5 +1,0 @@
-use Rattle.form_truth.proofs.AboutForms.ConsequenceLemmas.{refuted_conjectures_follow}
-use Rattle.form_truth.proofs.laws.meaning.refuted_conjectures_follow.Goals as goal
-
-pub returns : goal.returns
-returns c = refuted_conjectures_follow

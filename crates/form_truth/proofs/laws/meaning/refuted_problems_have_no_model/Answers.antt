@@ -1,5 +1,0 @@
-use Rattle.form_truth.proofs.AboutForms.ConsequenceLemmas.{refuted_problems_have_no_model}
-use Rattle.form_truth.proofs.laws.meaning.refuted_problems_have_no_model.Goals as goal
-
-pub returns : goal.returns
-returns c = refuted_problems_have_no_model
