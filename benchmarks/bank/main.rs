@@ -5,8 +5,8 @@ ghost use Rattle.term_bank.specs.Table.{IsTableOf};
 
 use fol_base::Term;
 use plain_types::Mem;
-use sample_numbers::Random;
-use sample_terms::random_terms;
+use sample::Random;
+use sample::random_terms;
 use std::alloc::Global;
 use std::env;
 use std::process::ExitCode;

@@ -6,15 +6,15 @@
 use bank_clause::{BankClause, Member};
 use fol_base::{Clause, Literal, Literals, Term, canonical};
 use plain_types::{Mem, Names};
-use reduction::unreduced;
-use sample_numbers::Random;
-use sample_terms::{binary, constant, random_term};
+use reduced_clause::unreduced;
+use sample::Random;
+use sample::{binary, constant, random_term};
 use std::alloc::Global;
 use std::process::ExitCode;
 use std::sync::Wait;
 use std::time::Instant;
 use term_bank::Bank;
-use unit_index::UnitIndex;
+use unit_cutting::UnitIndex;
 
 const UNITS: u32 = 1_000;
 

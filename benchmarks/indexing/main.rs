@@ -1,13 +1,13 @@
 // Random terms of 5 to 20 symbols and variables in an index: how long insertions, the three queries and removals take, and how many bytes an
 // entry has. All is timed in short batches, and of each batch the best of so many rounds counts, since other processes interrupt the rest. As a
-// crate over disc_tree, fol_base, plain_types, sample_numbers and sample_terms it needs no proof file where it is built unproved.
+// crate over disc_tree, fol_base, plain_types, sample and sample it needs no proof file where it is built unproved.
 #![tactic(auto)]
 
 use disc_tree::DiscTree;
 use fol_base::Term;
 use plain_types::Mem;
-use sample_numbers::Random;
-use sample_terms::random_terms;
+use sample::Random;
+use sample::random_terms;
 use std::alloc::Global;
 use std::fs;
 use std::process::ExitCode;

@@ -4,7 +4,7 @@
 use fol_base::{Clause, LiteralRef, Term, Terms};
 use kbo_order::{COMPARED_SIZE_LIMIT, Cmp, compare, compare_clauses, compare_clauses_under, compare_literals};
 use plain_types::Mem;
-use sample_terms::{binary, clause, constant, unary};
+use sample::{binary, clause, constant, unary};
 use std::alloc::Global;
 use std::io;
 use std::time::Instant;

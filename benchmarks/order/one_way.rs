@@ -6,7 +6,7 @@
 use fol_base::{Literal, Term, Terms, instance_size};
 use kbo_order::{COMPARED_SIZE_LIMIT, Unbound, compare_under, greater_at_equal_sizes, greater_under};
 use plain_types::Mem;
-use sample_terms::clause;
+use sample::clause;
 use std::alloc::Global;
 use std::io;
 use std::time::Instant;

@@ -17,8 +17,8 @@ use fol_base::{
 use kbo_order::{Unbound, greater_under};
 use plain_types::{Mem, Names};
 use rewriting::{Rewriters, Units, is_unit};
-use sample_numbers::Random;
-use sample_terms::random_term;
+use sample::Random;
+use sample::random_term;
 use std::alloc::Global;
 use std::env;
 use std::process::ExitCode;

@@ -5,7 +5,7 @@
 
 use fol_base::{Clause, Literal, Literals, Term};
 use plain_types::{Mem, Names};
-use sample_terms::{binary, constant};
+use sample::{binary, constant};
 use split_parts::{NameTable, components};
 use std::alloc::Global;
 use std::process::ExitCode;

@@ -21,8 +21,8 @@ use fol_base::{
 };
 use literal_selection::Selection;
 use plain_types::{Mem, Names};
-use sample_numbers::Random;
-use sample_terms::random_term;
+use sample::Random;
+use sample::random_term;
 use std::alloc::Global;
 use std::process::ExitCode;
 use std::sync::Wait;

@@ -4,8 +4,8 @@
 
 use fol_base::{Term, Terms};
 use plain_types::Mem;
-use sample_numbers::Random;
-use sample_terms::{binary, constant, unary};
+use sample::Random;
+use sample::{binary, constant, unary};
 use std::alloc::Global;
 use std::io;
 use std::process::Abort;

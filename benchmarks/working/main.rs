@@ -5,7 +5,7 @@
 #![tactic(auto)]
 
 use bank_clause::{Member, Members};
-use cutting::{cut_unit, cuts, drop_trivial, is_tautology, merge_equal};
+use unit_cutting::{cut_unit, cuts, drop_trivial, is_tautology, merge_equal};
 use demodulate::normal_form;
 use eq_rules::{Inference, factorings, resolutions};
 use fol_base::{Clause, Clauses, Literal, Literals, Position, Side, Term, renumbered};
@@ -16,17 +16,17 @@ use plain_types::{Mem, Names, NoMemory};
 use pool_core::{
     Back, Batch, Change, Claimed, Entry, Fate, News, Options, Pool, Removal, Ticket, Work,
 };
-use reduction::unreduced;
+use reduced_clause::unreduced;
 use rewriting::{Units, is_unit, rewritable};
-use sample_numbers::Random;
-use sample_terms::{atom, binary, constant, unary};
+use sample::Random;
+use sample::{atom, binary, constant, unary};
 use std::alloc::Global;
 use std::process::ExitCode;
 use std::sync::Wait;
 use subsume::subsumes;
 use superpose::{between, within};
 use term_bank::Bank;
-use unit_index::has_one_literal;
+use unit_cutting::has_one_literal;
 
 const PROBLEMS: u64 = 1_000;
 
