@@ -1,6 +1,6 @@
 -- A pool that doesn't split meets no part: so its clauses have no names, and there is nothing to solve.
 use Rattle.std.proofs.Common.{◌≡◌, ℕ, ◌<◌, Bool, false, ◌&&◌, List, [], ◌∷◌, length, refl, ap, sym, ◌∙◌, subst, arith}
-use Rattle.std.specs.Prelude.{is_none, nat_lt, All, if◌then◌else◌}
+use Rattle.std.specs.Prelude.{is_none, nat_lt, fold, All, if◌then◌else◌}
 use Rattle.std.proofs.lemmas.Bool.{le-ltb}
 use Rattle.std.proofs.lemmas.List.Elements.{All-head}
 use Rattle.plain_types.specs.declared.sequence.NameLit.{NameLit}
@@ -12,11 +12,12 @@ use Rattle.pool_history.specs.Record.{PoolRecord, Registered, has_living}
 use Rattle.pool_history.specs.Lines.{with_lines}
 use Rattle.pool_history.specs.Registering.{registered_last, has_none, with_refutation, with_propositional, empty_comes, comes}
 use Rattle.pool_history.specs.Solving.{must_solve}
-use Rattle.pool_history.specs.Replay.{Origin, replay}
+use Rattle.pool_history.specs.Replay.{Origin, after, replay}
 use Rattle.pool_history.specs.Wholeness.{IsWhole}
+use Rattle.pool_history.specs.declared.options.Options.{Options}
 use Rattle.pool_history.specs.declared.event.Event.{Event}
 use Rattle.pool_history.proofs.AboutRecords.FrameLemmas.{by-if}
-use Rattle.pool_history.proofs.AboutRecords.WalkLemmas.{replay-holds}
+use Rattle.pool_history.proofs.AboutRecords.WalkLemmas.{history-holds, replay-holds}
 use Rattle.pool_history.proofs.AboutLines.PoolLineLemmas.{Sound}
 
 abbrev NoParts : PoolRecord → Type 0
@@ -30,6 +31,12 @@ comes-none split lines c r unsplit none = subst (λ b. NoParts (comes b lines c 
         by-if NoParts (has_none c.literals) (empty_comes c (with_lines r lines)) (if has_living r c then r else registered_last c (with_lines r lines))
         (by-if NoParts (has_none c.names) (with_refutation (registered_last c (with_lines r lines))) (with_propositional (line_names r.parts c.names) (with_lines r lines)) none none)
         (by-if NoParts (has_living r c) r (registered_last c (with_lines r lines)) none none)
+
+-- no event brings a part in
+pub unsplit-after : (options : Options) (history : List Event) (r : PoolRecord) → options.split ≡ false → r.parts ≡ [] → (fold (after options) r history).parts ≡ []
+unsplit-after options history r unsplit none =
+    history-holds options (λ (parts : List (List TreeLiteral)) (registered : List Registered). parts ≡ [])
+    (λ lines c s bare. comes-none options.split lines c s unsplit bare) history r none
 
 -- for every list of events, lawful or not
 pub unsplit-parts : (origin : Origin) (history : List Event) → origin.options.split ≡ false → (replay origin history).parts ≡ []
