@@ -53,7 +53,7 @@ has-stays parts part q there =
     by-if (λ cs. has_part q cs ≡ true) (has_part part parts) parts (parts ++ part ∷ []) there
     (list_any-append (literals_eq q) parts (part ∷ []) ∙ or_left (has_part q parts) (has_part q (part ∷ [])) there)
 
-abbrev AreThere : List (List TreeLiteral) → List (List TreeLiteral) → Type 0
+abbrev pub AreThere : List (List TreeLiteral) → List (List TreeLiteral) → Type 0
 AreThere parts ps = AllByRecursion (λ p. has_part p parts ≡ true) ps
 
 -- a clause with a literal has a component
@@ -61,6 +61,22 @@ some-component : (ls : List TreeLiteral) → (length ls ≡ 0 → ⊥) → compo
 some-component ls some none =
     let shared : share_out (length ls) [] ≡ true = ap (share_out (length ls)) (sym none) ∙ (computed-finest ls).shared_out in
     some (sym (eqb-true 0 (length ls) (and_parts (0 == length ls) (has_all_below (length ls) []) shared).0))
+
+-- a part that gets its tag is among the parts, and stays there
+pub tag-parts : (r : PoolRecord) (part : List TreeLiteral) → (with_tag r part).parts ≡ with_part r.parts part
+tag-parts r part =
+    by-test (λ (s : PoolRecord). s.parts ≡ with_part r.parts part) (has_part part r.parts) r (with_new_part part (with_part r.parts part) r)
+    (λ known. parts-same part r.parts known) (λ new. refl)
+
+tags-keep : (ps : List (List TreeLiteral)) (r : PoolRecord) (q : List TreeLiteral) → has_part q r.parts ≡ true → has_part q (fold with_tag r ps).parts ≡ true
+tags-keep [] r q there = there
+tags-keep (p ∷ ps) r q there =
+    tags-keep ps (with_tag r p) q (ap (has_part q) (tag-parts r p) ∙ has-stays r.parts p q there)
+
+pub tags-there : (ps : List (List TreeLiteral)) (r : PoolRecord) → AreThere (fold with_tag r ps).parts ps
+tags-there [] r = tt
+tags-there (p ∷ ps) r =
+    (tags-keep ps (with_tag r p) p (ap (has_part p) (tag-parts r p) ∙ met-there r.parts p), tags-there ps (with_tag r p))
 
 -- ---- the step of a split
 
@@ -135,21 +151,6 @@ module _ (usage : SymbolUse) (inputs : List TreeClause) where
         whole = whole-grown usage inputs r is.sound part new part_is c is.whole;
         line = line-grown usage inputs r is.sound part new part_is (record { clause = c; line = n }) is.whole is.line;
       })
-
-  tag-parts : (r : PoolRecord) (part : List TreeLiteral) → (with_tag r part).parts ≡ with_part r.parts part
-  tag-parts r part =
-      by-test (λ (s : PoolRecord). s.parts ≡ with_part r.parts part) (has_part part r.parts) r (with_new_part part (with_part r.parts part) r)
-      (λ known. parts-same part r.parts known) (λ new. refl)
-
-  tags-keep : (ps : List (List TreeLiteral)) (r : PoolRecord) (q : List TreeLiteral) → has_part q r.parts ≡ true → has_part q (fold with_tag r ps).parts ≡ true
-  tags-keep [] r q there = there
-  tags-keep (p ∷ ps) r q there =
-      tags-keep ps (with_tag r p) q (ap (has_part q) (tag-parts r p) ∙ has-stays r.parts p q there)
-
-  tags-there : (ps : List (List TreeLiteral)) (r : PoolRecord) → AreThere (fold with_tag r ps).parts ps
-  tags-there [] r = tt
-  tags-there (p ∷ ps) r =
-      (tags-keep ps (with_tag r p) p (ap (has_part p) (tag-parts r p) ∙ met-there r.parts p), tags-there ps (with_tag r p))
 
   tags-split :
       (c : TreeClause) (n : ℕ) (ps : List (List TreeLiteral)) (r : PoolRecord) → AllByRecursion (IsPart usage inputs) ps → Splits c n r

@@ -33,7 +33,7 @@ use Rattle.pool_history.proofs.AboutRecords.FrameLemmas.{by-if}
 module _
     (options : Options) (P : List (List TreeLiteral) → List Registered → Type 0)
     (keeps : (lines : List Line) (c : TreeClause) (r : PoolRecord) → P r.parts r.registered → P (comes options.split lines c r).parts (comes options.split lines c r).registered) where
-  abbrev Holds : PoolRecord → Type 0
+  abbrev pub Holds : PoolRecord → Type 0
   Holds r = P r.parts r.registered
 
   comes-holds : (lines : List Line) (c : TreeClause) (r : PoolRecord) → Holds r → Holds (comes options.split lines c r)
@@ -62,13 +62,13 @@ module _
   spends-holds None r holds = holds
   spends-holds (Some lines) r holds = result-holds lines r holds
 
-  counts-holds : (keys : List Key) (results : List (List Line)) (r : PoolRecord) → Holds r → Holds (counts options keys results r)
+  pub counts-holds : (keys : List Key) (results : List (List Line)) (r : PoolRecord) → Holds r → Holds (counts options keys results r)
   counts-holds keys results r holds =
       let s : PoolRecord = record r { counted = r.counted ++ keys } in
       by-if Holds (nat_le options.inferences (length s.counted)) (spends options.split (find refutes results) s) (fold (result_comes options.split) s results)
       (spends-holds (find refutes results) s holds) (results-holds results s holds)
 
-  removed-holds : (m : Removal) (r : PoolRecord) → Holds r → Holds (removed options m r)
+  pub removed-holds : (m : Removal) (r : PoolRecord) → Holds r → Holds (removed options m r)
   removed-holds m r holds = by m.fate
     where
       by : (fate : Fate) → Holds (replaced options m.victim fate (dies m.victim m.justifiers r))
@@ -76,7 +76,7 @@ module _
       by (Dropped redundancy) = holds
       by Heavy = holds
 
-  all-proposed-holds : (ms : List Removal) (r : PoolRecord) → Holds r → Holds (fold (proposed options) r ms)
+  pub all-proposed-holds : (ms : List Removal) (r : PoolRecord) → Holds r → Holds (fold (proposed options) r ms)
   all-proposed-holds [] r holds = holds
   all-proposed-holds (m ∷ ms) r holds =
       all-proposed-holds ms (proposed options r m) (by-if Holds (takes_effect r m) (removed options m r) r (removed-holds m r holds) holds)
