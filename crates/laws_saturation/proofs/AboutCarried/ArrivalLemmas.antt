@@ -27,7 +27,7 @@ use Rattle.pool_history.proofs.AboutLines.SoundLemmas.{open-is}
 use Rattle.laws_saturation.proofs.AboutCarried.VictimLemmas.{Victims, victims-keep}
 use Rattle.laws_calculus.specs.Coverage.{CoversEach}
 use Rattle.laws_calculus.proofs.AboutCovering.EachLemmas.{each-held}
-use Rattle.laws_saturation.proofs.AboutCarried.AwakeLemmas.{Choice, awake}
+use Rattle.laws_saturation.proofs.AboutCarried.AwakeLemmas.{NameChoice, awake}
 use Rattle.laws_saturation.proofs.AboutCarried.CarriedLemmas.{HeldBy, Open, lived, registered-carried, due-carried}
 use Rattle.laws_saturation.proofs.AboutCarried.DivideLemmas.{split-open}
 use Rattle.laws_saturation.proofs.AboutCarried.FitLemmas.{Fits, comes-has-parts, comes-fits, last-true, not-awake}
@@ -87,7 +87,7 @@ spends-ends split results r = by (find refutes results) refl
 
 -- ---- results
 
-module _ {is_predicate : ℕ → Bool} (choice : Choice) (functions : FunctionSymbols is_predicate) (mode : SelectionMode) (inputs : List TreeClause) where
+module _ {is_predicate : ℕ → Bool} (choice : NameChoice) (functions : FunctionSymbols is_predicate) (mode : SelectionMode) (inputs : List TreeClause) where
   -- while the pool is open and the choice fits
   abbrev pub Opens : List TreeClause → PoolRecord → Type 0
   Opens due r = Fits choice r → Open choice functions mode inputs r due

@@ -1,6 +1,6 @@
 -- Clauses that are awake under a choice of true names: each clause that is used on an awake clause is awake, what moves lead to is as awake as
 -- before, and an inference from awake premises concludes an awake clause.
-use Rattle.std.proofs.Common.{◌≡◌, ℕ, Bool, true, false, ◌&&◌, ◌||◌, List, [], ◌∷◌, ◌++◌, refl, ap, ap₂, sym, ◌∙◌, ⊎_elim, if◌then◌else◌}
+use Rattle.std.proofs.Common.{◌≡◌, ℕ, Bool, true, false, ◌&&◌, ◌||◌, List, [], ◌∷◌, ◌++◌, refl, ap, sym, ◌∙◌, ⊎_elim, if◌then◌else◌}
 use Rattle.std.specs.Prelude.{Option, None, Some, unwrap_or}
 use Rattle.std.specs.List.{list_all, cons_option}
 use Rattle.std.proofs.lemmas.Bool.{and_parts, and_from}
@@ -11,7 +11,7 @@ use Rattle.fol_base.specs.Selection.{SelectionMode}
 use Rattle.fol_base.specs.Subsumption.{assertions, is_among, Subsumes}
 use Rattle.kernel_steps.specs.Conclusion.{empty_clause}
 use Rattle.kernel_steps.specs.Moves.{Move, IsMove, AreMoves, end_of_moves, units_of}
-use Rattle.kernel_steps.specs.Named.{OfOne, IsInference}
+use Rattle.kernel_steps.specs.Named.{IsInference}
 use Rattle.kernel_steps.specs.Names.{sorted_names}
 use Rattle.kernel_steps.specs.declared.key.Key.{Key}
 use Rattle.kernel_steps.specs.declared.key.Key.TheVariants.{Para, Refl, Factor, Replaced}
@@ -23,11 +23,11 @@ use Rattle.pool_history.proofs.AboutCounting.DeathLemmas.{among-pass}
 use Rattle.pool_history.proofs.AboutLines.AssertionLemmas.{all-sorted}
 
 -- truth values of the names, and the parts whose tags clauses assert: a history's last ones
-pub record Choice : Type 0 where
+pub record NameChoice : Type 0 where
   pub truth : Valuation
   pub parts : List (List TreeLiteral)
 
-module _ (choice : Choice) where
+module _ (choice : NameChoice) where
   -- the tag's signed name is true
   abbrev pub holds : ℕ → Bool
   holds tag = literal_true choice.truth (name_of_tag choice.parts tag)

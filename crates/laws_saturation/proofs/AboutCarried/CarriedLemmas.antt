@@ -23,7 +23,7 @@ use Rattle.pool_history.proofs.AboutRecords.ItemLemmas.{clauses-equal, clause-nu
 use Rattle.laws_calculus.specs.Coverage.{CoversEach}
 use Rattle.laws_calculus.proofs.AboutCovering.ClauseLemmas.{In-either}
 use Rattle.laws_calculus.proofs.AboutCovering.EachLemmas.{each-held, each-across}
-use Rattle.laws_saturation.proofs.AboutCarried.AwakeLemmas.{Choice, awake}
+use Rattle.laws_saturation.proofs.AboutCarried.AwakeLemmas.{NameChoice, awake}
 use Rattle.laws_saturation.proofs.AboutCarried.VictimLemmas.{VictimsRegistered}
 
 -- ---- what is held
@@ -37,12 +37,12 @@ pub record Living (registered : List Registered) (deaths : List Death) (c : Tree
   pub there : Lookup registered number ≡ Some c
 
 -- it lives, or is due; and it is awake
-abbrev pub HeldBy : Choice → List Registered → List Death → List TreeClause → TreeClause → Type 0
+abbrev pub HeldBy : NameChoice → List Registered → List Death → List TreeClause → TreeClause → Type 0
 HeldBy choice registered deaths due c = (Living registered deaths c ⊎ In c due) × (awake choice c ≡ true)
 
 -- more is due
 pub held-due :
-    (choice : Choice) (registered : List Registered) (deaths : List Death) (few many : List TreeClause) (c : TreeClause)
+    (choice : NameChoice) (registered : List Registered) (deaths : List Death) (few many : List TreeClause) (c : TreeClause)
     → (In c few → In c many) → HeldBy choice registered deaths few c → HeldBy choice registered deaths many c
 held-due choice registered deaths few many c more held =
     (⊎_elim (λ (living : Living registered deaths c). inl living) (λ (waiting : In c few). inr (more waiting)) held.0, held.1)
@@ -139,7 +139,7 @@ module _ (is_predicate : ℕ → Bool) (mode : SelectionMode) (few many : ℕ �
 
 -- ---- what is carried
 
-module _ {is_predicate : ℕ → Bool} (choice : Choice) (functions : FunctionSymbols is_predicate) (mode : SelectionMode) (inputs : List TreeClause) where
+module _ {is_predicate : ℕ → Bool} (choice : NameChoice) (functions : FunctionSymbols is_predicate) (mode : SelectionMode) (inputs : List TreeClause) where
   -- where it is awake
   abbrev pub CoversAwake : (TreeClause → Type 0) → TreeClause → Type 0
   CoversAwake Holds c = awake choice c ≡ true → CoversEach functions Holds c

@@ -1,10 +1,9 @@
 -- A clause that falls into parts is due no more: where it is awake, one of its parts is, which is registered or lives; and a part covers the clause.
-use Rattle.std.proofs.Common.{◌≡◌, ℕ, ◌+◌, ◌-◌, ◌<◌, Bool, true, false, not, ◌&&◌, ◌||◌, ◌==◌, ◌⊎◌, List, [], ◌∷◌, ◌++◌, map, length, refl, ap, sym, ◌∙◌, subst, inl, inr, ⊎_elim, arith}
-use Rattle.std.specs.Prelude.{fold, flat_map, Contains, slice_index_or, nat_lt}
+use Rattle.std.proofs.Common.{◌≡◌, ℕ, ◌+◌, ◌-◌, ◌<◌, Bool, true, false, not, ◌||◌, ◌==◌, List, [], ◌∷◌, map, length, refl, ap, sym, ◌∙◌, subst, inl, inr, ⊎_elim, arith}
+use Rattle.std.specs.Prelude.{fold, flat_map, Contains, nat_lt}
 use Rattle.std.specs.List.{list_any, list_all}
-use Rattle.std.proofs.lemmas.Bool.{true≢false, and_parts, and_from, or_left, or_right, ne_eqb, not_from_false, eqb-true, false_from_ne_true, ltb-true}
+use Rattle.std.proofs.lemmas.Bool.{and_parts, and_from, or_left, or_right, ne_eqb, not_from_false, ltb-true}
 use Rattle.std.proofs.lemmas.List.Folds.{list_any-append}
-use Rattle.plain_types.specs.declared.sequence.NameLit.{NameLit}
 use Rattle.plain_types.specs.Names.{negative_of}
 use Rattle.fol_base.specs.Clause.{TreeLiteral, TreeClause}
 use Rattle.fol_base.specs.Canonical.{canonical_clause}
@@ -22,8 +21,7 @@ use Rattle.laws_calculus.specs.Coverage.{CoversEach}
 use Rattle.laws_calculus.proofs.AboutCovering.CoverLemmas.{parts_cover}
 use Rattle.laws_calculus.proofs.AboutCovering.EachLemmas.{each-more}
 use Rattle.pool_history.specs.Components.{components_of, parts_of}
-use Rattle.pool_history.specs.Tags.{name_of_tag}
-use Rattle.pool_history.specs.Record.{PoolRecord, Registered, Death, has_living}
+use Rattle.pool_history.specs.Record.{PoolRecord, Registered, has_living}
 use Rattle.pool_history.specs.Lines.{definition_of}
 use Rattle.pool_history.specs.Registering.{registered_by, with_new_part, with_tag, with_part_clause, split_up, has_none}
 use Rattle.pool_history.proofs.AboutRecords.FrameLemmas.{by-if}
@@ -33,10 +31,10 @@ use Rattle.pool_history.proofs.AboutLines.JoinedLemmas.{by-test}
 use Rattle.pool_history.proofs.AboutLines.NameTableLemmas.{at-tag}
 use Rattle.pool_history.proofs.AboutLines.PartLemmas.{some-literals, places-inside}
 use Rattle.pool_history.proofs.AboutLines.SplitSoundLemmas.{AreThere, tags-there}
-use Rattle.laws_saturation.proofs.AboutCarried.AwakeLemmas.{Choice, holds, awake}
+use Rattle.laws_saturation.proofs.AboutCarried.AwakeLemmas.{NameChoice, holds, awake}
 use Rattle.laws_saturation.proofs.AboutCarried.CarriedLemmas.{Living, HeldBy, Open, lived, living-more, living-last, within-more, beside-carried, due-carried}
 use Rattle.laws_saturation.proofs.AboutCarried.FitLemmas.{IsFit, Fits, tagged, part_names, split_names, divided, tags-grown, clauses-parts, clauses-propositional, last-true, split-true}
-use Rattle.laws_saturation.proofs.AboutCarried.VictimLemmas.{VictimsRegistered, Victims}
+use Rattle.laws_saturation.proofs.AboutCarried.VictimLemmas.{Victims}
 
 -- ---- parts
 
@@ -99,7 +97,7 @@ part_clause parts part = under_names part (negative_of (tag_of parts part) ∷ [
 
 -- ---- records
 
-module _ {is_predicate : ℕ → Bool} (choice : Choice) (functions : FunctionSymbols is_predicate) (mode : SelectionMode) (inputs : List TreeClause) where
+module _ {is_predicate : ℕ → Bool} (choice : NameChoice) (functions : FunctionSymbols is_predicate) (mode : SelectionMode) (inputs : List TreeClause) where
   abbrev Opened : PoolRecord → List TreeClause → Type 0
   Opened r due = Open choice functions mode inputs r due
 

@@ -2,14 +2,14 @@
 -- which is due; or the inference is set aside.
 use Rattle.std.proofs.Common.{◌≡◌, ℕ, Bool, true, false, List, [], ◌∷◌, map, refl, ap, sym, ◌∙◌, subst, inl, inr, ⊎_elim}
 use Rattle.std.specs.Prelude.{Option, None, Some, cond}
-use Rattle.std.specs.List.{list_all, cons_option, AllByRecursion}
+use Rattle.std.specs.List.{cons_option, AllByRecursion}
 use Rattle.fol_base.specs.Clause.{TreeClause}
 use Rattle.fol_base.specs.Literal.{clause_of}
 use Rattle.fol_base.specs.Symbols.{FunctionSymbols}
 use Rattle.fol_base.specs.Selection.{SelectionMode}
 use Rattle.fol_base.specs.WellFormed.{SymbolUse}
 use Rattle.kbo_order.proofs.AboutMultisets.MemberLemmas.{In}
-use Rattle.kernel_steps.specs.Moves.{end_of_moves, units_of}
+use Rattle.kernel_steps.specs.Moves.{end_of_moves}
 use Rattle.kernel_steps.specs.Named.{IsInference}
 use Rattle.kernel_steps.specs.Sized.{IsSizedInference}
 use Rattle.kernel_steps.specs.declared.key.Key.{Key}
@@ -39,7 +39,7 @@ use Rattle.laws_calculus.proofs.AboutCovering.EachLemmas.{each-held, each-more, 
 use Rattle.laws_calculus.proofs.AboutCovering.MoveLemmas.{moves-reached, subsumed-covered, away-covered}
 use Rattle.laws_saturation.proofs.AboutCarried.CarriedLemmas.{HeldBy, held-due, IsCarried, IsSettled, inference-more}
 use Rattle.laws_saturation.proofs.AboutCarried.ArrivalLemmas.{LeadsBelow, results_due}
-use Rattle.laws_saturation.proofs.AboutCarried.AwakeLemmas.{Choice, awake, awake_at, subsumer-awake, moves-awake}
+use Rattle.laws_saturation.proofs.AboutCarried.AwakeLemmas.{NameChoice, awake, awake_at, subsumer-awake, moves-awake}
 use Rattle.laws_saturation.proofs.AboutCarried.RemovalLemmas.{among-parts, lines-below}
 
 -- ---- inferences without their sizes
@@ -65,7 +65,7 @@ In-option x (Some y) xs there = inr there
 
 module _
     (usage : SymbolUse) (functions : FunctionSymbols usage.is_predicate) (inputs : List TreeClause)
-    (choice : Choice) (options : Options) (count : ℕ)
+    (choice : NameChoice) (options : Options) (count : ℕ)
     (registered : List Registered) (symbols : (n : ℕ) (c : TreeClause) → Lookup registered n ≡ Some c → HasSymbolsOf functions c)
     (formed : (n : ℕ) (c : TreeClause) → Lookup registered n ≡ Some c → IsFormed usage count c) (j : GivenJob) where
   abbrev the_mode : SelectionMode

@@ -1,6 +1,6 @@
 -- A choice of true names fits a record where it makes the propositional clauses true, over the tags that were given. Each clause that comes brings
 -- tags and propositional clauses in alone: so a choice that fits a record fits each earlier one.
-use Rattle.std.proofs.Common.{◌≡◌, ℕ, ◌+◌, ◌<◌, ◌≤◌, ◌⊎◌, Bool, true, false, not, ◌&&◌, ◌||◌, List, [], ◌∷◌, ◌++◌, map, length, refl, ap, sym, ◌∙◌, subst, inl, inr, ⊎_elim, arith, if◌then◌else◌}
+use Rattle.std.proofs.Common.{◌≡◌, ℕ, ◌<◌, ◌≤◌, Bool, true, false, not, List, [], ◌∷◌, ◌++◌, map, length, refl, ap, sym, ◌∙◌, subst, ⊎_elim, arith, if◌then◌else◌}
 use Rattle.std.specs.Prelude.{nat_lt, fold}
 use mathlib.Core.Bool.{beq}
 use Rattle.std.specs.List.{list_any, list_all}
@@ -27,7 +27,7 @@ use Rattle.pool_history.specs.Registering.{registered_by, registered_last, with_
 use Rattle.pool_history.proofs.AboutRecords.FrameLemmas.{by-if, comes-registers}
 use Rattle.pool_history.proofs.AboutLines.AssertionLemmas.{is_assertion_below, tag_name-stays}
 use Rattle.pool_history.proofs.AboutLines.SplitSoundLemmas.{tag-parts}
-use Rattle.laws_saturation.proofs.AboutCarried.AwakeLemmas.{Choice, holds, awake}
+use Rattle.laws_saturation.proofs.AboutCarried.AwakeLemmas.{NameChoice, holds, awake}
 
 -- ---- parts that were met
 
@@ -122,11 +122,11 @@ comes-has-parts count split lines c r few = let grown = (comes-grown split lines
 
 -- ---- choices that fit
 
-pub record IsFit (choice : Choice) (parts : List (List TreeLiteral)) (propositional : List PropositionalClause) : Type 0 where
+pub record IsFit (choice : NameChoice) (parts : List (List TreeLiteral)) (propositional : List PropositionalClause) : Type 0 where
   pub agrees : (tag : ℕ) → tag < length parts → name_of_tag choice.parts tag ≡ name_of_tag parts tag
   pub model : clauses_true choice.truth (map (λ (p : PropositionalClause). p.names) propositional) ≡ true
 
-module _ (choice : Choice) where
+module _ (choice : NameChoice) where
   abbrev pub Fits : PoolRecord → Type 0
   Fits r = IsFit choice r.parts r.propositional
 

@@ -1,5 +1,5 @@
 -- Each event of a lawful history keeps the state of an open pool, and what is covered. The inputs that are registered first make both.
-use Rattle.std.proofs.Common.{◌≡◌, ℕ, suc, ◌+◌, Bool, true, false, List, [], ◌∷◌, ◌++◌, map, length, append-nil, append_assoc, refl, ap, sym, ◌∙◌, subst, inr, ⊎_elim}
+use Rattle.std.proofs.Common.{◌≡◌, ℕ, suc, ◌+◌, Bool, true, List, [], ◌∷◌, ◌++◌, map, length, append-nil, append_assoc, refl, ap, sym, ◌∙◌, subst, inr, ⊎_elim}
 use Rattle.std.specs.Prelude.{Option, None, Some, is_none, fold}
 use Rattle.std.specs.List.{list_all, AllByRecursion}
 use Rattle.std.proofs.lemmas.Bool.{true≢false}
@@ -39,7 +39,7 @@ use Rattle.laws_saturation.specs.Found.{Find, event_finds, finds_from}
 use Rattle.laws_calculus.proofs.AboutCovering.EachLemmas.{each-held}
 use Rattle.laws_saturation.proofs.AboutCarried.CarriedLemmas.{HeldBy, Open}
 use Rattle.laws_saturation.proofs.AboutCarried.ArrivalLemmas.{OpenWith, is-closed, comes-open}
-use Rattle.laws_saturation.proofs.AboutCarried.AwakeLemmas.{Choice, holds, awake}
+use Rattle.laws_saturation.proofs.AboutCarried.AwakeLemmas.{NameChoice, holds, awake}
 use Rattle.laws_saturation.proofs.AboutCarried.VictimLemmas.{Victims, none-registered, victims-keep}
 use Rattle.laws_saturation.proofs.AboutCarried.MeetingLemmas.{IsToldRight, HaveMet}
 use Rattle.laws_saturation.proofs.AboutCarried.StateLemmas.{WasFound, IsState, HasState, same-state, without-state, retold-told, claimed-state}
@@ -149,7 +149,7 @@ module _ (usage : SymbolUse) (inputs : List TreeClause) (options : Options) wher
   -- ---- coverage
 
   module _
-      (choice : Choice) (functions : FunctionSymbols usage.is_predicate)
+      (choice : NameChoice) (functions : FunctionSymbols usage.is_predicate)
       (inputs_pass : list_all (clause_symbols_pass (is_allowed functions)) inputs ≡ true) where
     abbrev Carries : PoolRecord → Type 0
     Carries r = OpenWith choice functions (mode_of options.select) inputs [] r

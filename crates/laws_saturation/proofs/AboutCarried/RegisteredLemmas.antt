@@ -1,10 +1,8 @@
 -- Registered clauses of a pool whose lines are a derivation: they have the inputs' symbols, are well-formed, and assert parts that were met.
-use Rattle.std.proofs.Common.{◌≡◌, ℕ, Bool, true, false, not, ◌&&◌, List, [], ◌∷◌, length, refl, ap, sym, ◌∙◌, subst}
+use Rattle.std.proofs.Common.{◌≡◌, ℕ, true, List, length, refl, subst}
 use Rattle.std.specs.Prelude.{Some, slice_get}
 use Rattle.std.specs.List.{list_all}
-use Rattle.std.proofs.lemmas.Bool.{true≢false, and_parts}
-use Rattle.plain_types.specs.declared.sequence.NameLit.{NameLit}
-use Rattle.fol_base.specs.Clause.{TreeLiteral, TreeClause}
+use Rattle.fol_base.specs.Clause.{TreeClause}
 use Rattle.fol_base.specs.Literal.{clause_of}
 use Rattle.fol_base.specs.Symbols.{FunctionSymbols}
 use Rattle.fol_base.specs.WellFormed.{SymbolUse}
@@ -15,7 +13,7 @@ use Rattle.laws_calculus.specs.Symbols.{is_allowed, HasSymbolsOf}
 use Rattle.pool_history.specs.Record.{PoolRecord, Registered}
 use Rattle.pool_history.specs.Wholeness.{IsWhole}
 use Rattle.pool_history.proofs.AboutCounting.CountedRecords.{Lookup}
-use Rattle.pool_history.proofs.AboutLines.AssertionLemmas.{is_assertion_below, below-from}
+use Rattle.pool_history.proofs.AboutLines.AssertionLemmas.{below-from}
 use Rattle.pool_history.proofs.AboutLines.FormedLemmas.{IsFormed}
 use Rattle.pool_history.proofs.AboutLines.PoolLineLemmas.{Sound}
 use Rattle.pool_history.proofs.AboutRecords.ItemLemmas.{all-at}

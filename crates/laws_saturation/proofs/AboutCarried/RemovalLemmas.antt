@@ -42,7 +42,7 @@ use Rattle.laws_calculus.proofs.AboutCovering.MoveLemmas.{moves-reached, subsume
 use Rattle.laws_saturation.proofs.AboutCarried.CarriedLemmas.{alive, Living, HeldBy, Open, alive-on, dead-carried, keys-carried}
 use Rattle.laws_saturation.proofs.AboutCarried.VictimLemmas.{Victims, victims-die, effect-parts, living-registered, proposed-victims}
 use Rattle.laws_saturation.proofs.AboutCarried.ArrivalLemmas.{LeadsBelow, Opens, OpenWith, counts-open}
-use Rattle.laws_saturation.proofs.AboutCarried.AwakeLemmas.{Choice, awake, awake_at, subsumer-awake, moves-awake}
+use Rattle.laws_saturation.proofs.AboutCarried.AwakeLemmas.{NameChoice, awake, awake_at, subsumer-awake, moves-awake}
 use Rattle.laws_saturation.proofs.AboutCarried.FitLemmas.{Fits, HasParts, comes-has-parts}
 
 -- ---- clauses that are looked up
@@ -58,7 +58,7 @@ among-parts test clauses n c there = by (test n) refl there
 
 module _
     (usage : SymbolUse) (functions : FunctionSymbols usage.is_predicate) (inputs : List TreeClause)
-    (choice : Choice) (options : Options) (count : ℕ)
+    (choice : NameChoice) (options : Options) (count : ℕ)
     (told : List Registered) (symbols : (n : ℕ) (c : TreeClause) → Lookup told n ≡ Some c → HasSymbolsOf functions c)
     (formed : (n : ℕ) (c : TreeClause) → Lookup told n ≡ Some c → IsFormed usage count c) (j : GivenJob) where
   abbrev the_mode : SelectionMode

@@ -34,7 +34,7 @@ use Rattle.pool_history.proofs.AboutLines.SoundLemmas.{open-is}
 use Rattle.laws_saturation.proofs.AboutCarried.VictimLemmas.{Victims, victims-keep}
 use Rattle.laws_saturation.proofs.AboutCarried.CarriedLemmas.{HeldBy, held-due, carried-more, counted-carried}
 use Rattle.laws_saturation.proofs.AboutCarried.ArrivalLemmas.{results_due, Opens, OpenWith, is-closed, counts-open}
-use Rattle.laws_saturation.proofs.AboutCarried.AwakeLemmas.{Choice}
+use Rattle.laws_saturation.proofs.AboutCarried.AwakeLemmas.{NameChoice}
 use Rattle.laws_saturation.proofs.AboutCarried.FitLemmas.{HasParts, comes-has-parts}
 use Rattle.laws_saturation.proofs.AboutCarried.RemovalLemmas.{removed-open, all-proposed-held}
 use Rattle.laws_saturation.proofs.AboutCarried.EntryLemmas.{entries-settled, entries-below}
@@ -42,7 +42,7 @@ use Rattle.laws_saturation.proofs.AboutCarried.RegisteredLemmas.{registered-pass
 
 module _
     (usage : SymbolUse) (functions : FunctionSymbols usage.is_predicate) (inputs : List TreeClause)
-    (inputs_pass : list_all (clause_symbols_pass (is_allowed functions)) inputs ≡ true) (choice : Choice) (options : Options) where
+    (inputs_pass : list_all (clause_symbols_pass (is_allowed functions)) inputs ≡ true) (choice : NameChoice) (options : Options) where
   abbrev the_mode : SelectionMode
   the_mode = mode_of options.select
 

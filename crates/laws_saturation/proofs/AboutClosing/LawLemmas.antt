@@ -1,5 +1,5 @@
 -- The laws, over whole histories.
-use Rattle.std.proofs.Common.{◌≡◌, ℕ, Bool, true, false, List, [], subst, ◌⊎◌, ⊎_elim}
+use Rattle.std.proofs.Common.{◌≡◌, ℕ, Bool, true, List, [], refl, subst, ◌⊎◌, ⊎_elim}
 use Rattle.std.specs.Prelude.{None, All, Contains}
 use Rattle.std.specs.List.{list_all}
 use Rattle.std.proofs.lemmas.List.Elements.{recursion_from_All, All-contains}
@@ -34,7 +34,7 @@ use Rattle.laws_calculus.proofs.AboutCovering.EachLemmas.{each-more}
 use Rattle.laws_saturation.proofs.AboutClosing.RenamingLemmas.{variant-covers}
 use Rattle.laws_saturation.proofs.AboutCarried.CarriedLemmas.{Living, HeldBy, Open, CoversAwake}
 use Rattle.laws_saturation.proofs.AboutCarried.ArrivalLemmas.{OpenWith}
-use Rattle.laws_saturation.proofs.AboutCarried.AwakeLemmas.{Choice, inference-awake}
+use Rattle.laws_saturation.proofs.AboutCarried.AwakeLemmas.{NameChoice, inference-awake}
 use Rattle.laws_saturation.proofs.AboutCarried.FixedLemmas.{fixed_are_refuted_or_spent}
 use Rattle.laws_saturation.proofs.AboutCarried.HistoryLemmas.{Reaches, history-reaches, started-state, history-covered, started-covered}
 use Rattle.laws_saturation.proofs.AboutClosing.OutcomeLemmas.{members-counted, members-saturated}
@@ -65,7 +65,7 @@ module _
   replay-reaches : Reaches usage origin.inputs origin.options (finds_of origin history) r
   replay-reaches = history-reaches usage origin.inputs origin.options [] history (start origin) lawful start-reaches
 
-  module _ (choice : Choice) (functions : FunctionSymbols usage.is_predicate) (symbols : All (HasSymbolsOf functions) origin.inputs) where
+  module _ (choice : NameChoice) (functions : FunctionSymbols usage.is_predicate) (symbols : All (HasSymbolsOf functions) origin.inputs) where
     replay-covered : OpenWith choice functions the_mode origin.inputs [] r
     replay-covered =
         history-covered usage origin.inputs origin.options choice functions (all-pass functions origin.inputs symbols) [] history (start origin) lawful
@@ -78,7 +78,7 @@ module _
   module _
       (functions : FunctionSymbols usage.is_predicate) (symbols : All (HasSymbolsOf functions) origin.inputs) (truth : Valuation) (is_open : r.ended ≡ None)
       (model : clauses_true truth (propositional_clauses r) ≡ true) where
-    abbrev chosen : Choice
+    abbrev chosen : NameChoice
     chosen = record { truth = truth; parts = r.parts }
 
     carried : Open chosen functions the_mode origin.inputs r []
@@ -97,17 +97,17 @@ module _
     key-covered :
         ConclusionsAreVariants → (key : Key) (c : TreeClause) → Contains r.counted key → (Contains r.set_aside key → ⊥)
         → has_awake_premises truth r key ≡ true → IsInference usage.is_predicate the_mode (clauses_of r) key c → CoversEach functions (IsHeld truth r) c
-    key-covered variants key c counted not_aside awaken inferred =
+    key-covered variants key c counted not_aside awake inferred =
         ⊎_elim
         (λ (aside : In key r.set_aside). absurd (not_aside (In-contains key r.set_aside aside)))
-        (λ (rest : ((n : ℕ) × (key ≡ Replaced n)) ⊎ ((e : TreeClause) × IsInference usage.is_predicate the_mode (Lookup r.registered) key e × CoversAwake chosen functions (HeldBy chosen r.registered r.deaths []) e)).
+        (λ (rest : ((n : ℕ) × (key ≡ Replaced n)) ⊎ ((e : TreeClause) × IsInference usage.is_predicate the_mode (Lookup r.registered) key e × CoversAwake chosen functions the_mode origin.inputs (HeldBy chosen r.registered r.deaths []) e)).
         ⊎_elim
         (λ (replaced : (n : ℕ) × (key ≡ Replaced n)). absurd (subst (λ k. IsInference usage.is_predicate the_mode (clauses_of r) k c) replaced.1 inferred))
-        (λ (concluded : (e : TreeClause) × IsInference usage.is_predicate the_mode (Lookup r.registered) key e × CoversAwake chosen functions (HeldBy chosen r.registered r.deaths []) e).
+        (λ (concluded : (e : TreeClause) × IsInference usage.is_predicate the_mode (Lookup r.registered) key e × CoversAwake chosen functions the_mode origin.inputs (HeldBy chosen r.registered r.deaths []) e).
         by-held c
         (variant-covers functions (HeldBy chosen r.registered r.deaths []) concluded.0 c
         (variants usage.is_predicate the_mode (clauses_of r) key concluded.0 c concluded.1 inferred)
-        (concluded.2 (inference-awake chosen usage.is_predicate the_mode (clauses_of r) key concluded.0 concluded.1 awaken))))
+        (concluded.2 (inference-awake chosen usage.is_predicate the_mode (clauses_of r) key concluded.0 concluded.1 awake))))
         rest)
         (carried.keys_settled key (contains-In key r.counted counted))
 
@@ -118,9 +118,9 @@ carried_through variants usage functions origin history truth inputs used symbol
     record {
       inputs_covered =
           All-In (CoversEach functions (IsHeld truth (replay origin history))) origin.inputs (λ c there. covers c (whole.inputs_covered c there));
-      registered_covered = λ n c there awaken. covers c (whole.clauses_covered n c there awaken);
-      counted_covered = λ key c counted not_aside awaken inferred.
-          key-covered usage origin history inputs used lawful functions symbols truth is_open model variants key c counted not_aside awaken inferred;
+      registered_covered = λ n c there awake. covers c (whole.clauses_covered n c there awake);
+      counted_covered = λ key c counted not_aside awake inferred.
+          key-covered usage origin history inputs used lawful functions symbols truth is_open model variants key c counted not_aside awake inferred;
     }
 
 pub saturated_is_saturated : SaturatedIsSaturated

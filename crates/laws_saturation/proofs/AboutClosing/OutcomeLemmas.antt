@@ -6,12 +6,11 @@ use Rattle.std.specs.List.{list_all, list_any, range_with_len}
 use Rattle.std.proofs.lemmas.Bool.{true≢false, and_parts, and_from, or_left, or_right, not-true, not_from_false, eqb-true, eq-eqb, ltb-true, cond-true, le-leb, or_cases}
 use Rattle.std.proofs.lemmas.List.Quantifiers.{position-Some}
 use Rattle.std.proofs.lemmas.Option.{none-some, cond_some}
-use Rattle.fol_base.specs.Clause.{TreeLiteral, TreeClause}
+use Rattle.fol_base.specs.Clause.{TreeClause}
 use Rattle.fol_base.specs.Symbols.{FunctionSymbols}
 use Rattle.fol_base.specs.Ground.{GroundClause}
 use Rattle.fol_base.specs.Selection.{SelectionMode}
 use Rattle.fol_base.specs.GroundInference.{GroundConclusion, GroundSuperposition, GroundResolution, GroundFactoring}
-use Rattle.fol_base.specs.Subsumption.{assertions}
 use Rattle.fol_base.specs.WellFormed.{SymbolUse}
 use Rattle.kbo_order.proofs.AboutMultisets.MemberLemmas.{In, In-contains, contains-In, In-map, map-In, In-all, none-In}
 use Rattle.kernel_steps.specs.Named.{IsInference}
@@ -32,7 +31,6 @@ use Rattle.pool_history.specs.Laws.{IsHeavyAmong}
 use Rattle.pool_history.specs.Replay.{replay}
 use Rattle.pool_history.specs.Outcomes.{premises, is_of_living, heavy_or_saturated, is_at_rest, outcome_by, outcome_of}
 use Rattle.pool_history.specs.Saturated.{IsSaturated, members_of}
-use Rattle.pool_history.specs.Tags.{name_of_tag}
 use Rattle.pool_history.specs.declared.options.Options.{Options}
 use Rattle.pool_history.specs.declared.outcome.Outcome.{Outcome}
 use Rattle.pool_history.specs.declared.outcome.Outcome.TheVariants.{Refuted, Saturated, Spent, Heavy}
@@ -48,7 +46,7 @@ use Rattle.laws_calculus.proofs.AboutCovering.ClauseLemmas.{All-In}
 use Rattle.laws_calculus.proofs.AboutCovering.ClosureLemmas.{ground_conclusions_covered}
 use Rattle.laws_calculus.proofs.AboutCovering.EachLemmas.{each-more}
 use Rattle.laws_saturation.proofs.AboutCarried.CarriedLemmas.{Living, HeldBy, Open, CoversAwake, inference-more}
-use Rattle.laws_saturation.proofs.AboutCarried.AwakeLemmas.{Choice, inference-awake}
+use Rattle.laws_saturation.proofs.AboutCarried.AwakeLemmas.{NameChoice, inference-awake}
 use Rattle.laws_saturation.proofs.AboutCarried.RemovalLemmas.{among-parts}
 use Rattle.laws_saturation.proofs.AboutCarried.MeetingLemmas.{front, front-lower, in-order, number-passes, all-numbered}
 use Rattle.laws_saturation.proofs.AboutCarried.StateLemmas.{WasFound, IsState}
@@ -285,7 +283,7 @@ module _
 
   -- the job of each member is done
   active : (n : ℕ) → lives r n ≡ true → is_awake r n ≡ true → has_number n r.active ≡ true
-  active n alive awaken = by (has_number n r.active) refl
+  active n alive awake = by (has_number n r.active) refl
     where
       by : (b : Bool) → has_number n r.active ≡ b → b ≡ true
       by true is = refl
@@ -299,7 +297,7 @@ module _
           absurd
           (subst (In n) done.none_ready
           (in-kept (λ k. waits r k && is_awake r k) n (numbers_of r) (numbered n (within n alive))
-          (and_from (waits r n) (is_awake r n) waiting awaken)))
+          (and_from (waits r n) (is_awake r n) waiting awake)))
 
   -- ---- what is named among members was counted, and not set aside
 
@@ -363,7 +361,7 @@ module _
   -- ---- what members cover
 
   -- the model that the pool ends with
-  abbrev pub final : Choice
+  abbrev pub final : NameChoice
   final = record { truth = valuation_of r.model; parts = r.parts }
 
   module _
@@ -414,10 +412,10 @@ module _
     conclusions key d is =
         ⊎_elim
         (λ (aside : In key r.set_aside). absurd (not-aside key d is aside))
-        (λ (rest : ((n : ℕ) × (key ≡ Replaced n)) ⊎ ((e : TreeClause) × IsInference usage.is_predicate the_mode (Lookup r.registered) key e × CoversAwake final functions Held e)).
+        (λ (rest : ((n : ℕ) × (key ≡ Replaced n)) ⊎ ((e : TreeClause) × IsInference usage.is_predicate the_mode (Lookup r.registered) key e × CoversAwake final functions the_mode inputs Held e)).
         ⊎_elim
         (λ (replaced : (n : ℕ) × (key ≡ Replaced n)). absurd (subst (λ k. AmongMembers k d) replaced.1 is))
-        (λ (concluded : (e : TreeClause) × IsInference usage.is_predicate the_mode (Lookup r.registered) key e × CoversAwake final functions Held e). (
+        (λ (concluded : (e : TreeClause) × IsInference usage.is_predicate the_mode (Lookup r.registered) key e × CoversAwake final functions the_mode inputs Held e). (
           concluded.0,
           by-members concluded.0 (concluded.2 (inference-awake final usage.is_predicate the_mode (clauses_of r) key concluded.0 concluded.1 (awake-premises key d is))),
           concluded.1,
