@@ -134,6 +134,13 @@ OutcomesStay =
     → IsLawful is_predicate origin (history ++ later) → outcome_of (replay origin history) ≡ Some outcome
     → outcome_of (replay origin (history ++ later)) ≡ Some outcome
 
+-- An outcome that stands though no event fixed it comes by rest: nothing is to be done and no job is out. So no event follows it.
+abbrev pub NothingFollowsRest : Type 0
+NothingFollowsRest =
+    (is_predicate : ℕ → Bool) (origin : Origin) (history later : List Event) (outcome : Outcome)
+    → IsLawful is_predicate origin (history ++ later)
+    → (replay origin history).ended ≡ None → outcome_of (replay origin history) ≡ Some outcome → later ≡ []
+
 -- ---- the count
 
 -- Spent carries the length of the counted list, which has reached the limit: so for every list of events, lawful or not.

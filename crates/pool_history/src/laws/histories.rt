@@ -1,7 +1,7 @@
 // Laws of lawful histories: each is the contract of a function without arguments and with an empty body.
 
 ghost use Rattle.pool_history.specs.Derived.{LinesAreDerived, NamesRise, RefutedIsRefutation};
-ghost use Rattle.pool_history.specs.Laws.{BatchesStayRight, ClaimedInTime, CountedOnce, DeathsAreJustified, EndedJobsAreGone, GivenJobsStayOut, HeavyOrNot, JobsAreCounted, JobsWereGiven, NumbersFit, OutcomesStay, PicksAreChosen, PositionsStay, ReplacedWereReduced, SetAsideAreHeavy, SolverJobsStayOut, SpentIsTheCount};
+ghost use Rattle.pool_history.specs.Laws.{BatchesStayRight, ClaimedInTime, CountedOnce, DeathsAreJustified, EndedJobsAreGone, GivenJobsStayOut, HeavyOrNot, JobsAreCounted, JobsWereGiven, NothingFollowsRest, NumbersFit, OutcomesStay, PicksAreChosen, PositionsStay, ReplacedWereReduced, SetAsideAreHeavy, SolverJobsStayOut, SpentIsTheCount};
 ghost use Rattle.pool_history.specs.Wholeness.{ClausesStay, PositionsAreRegistered, RegisteredAreOnePart, RegisteredAreWhole, ToldHavePositions};
 
 /// A clause that stays awake and alive, with m older ones, is claimed within 6(m + 1) given claims, while no job is given up.
@@ -27,6 +27,11 @@ pub fn picks_are_chosen()
 /// Once an outcome stands it stays.
 pub fn outcomes_stay()
     ensures { OutcomesStay }
+{}
+
+/// An outcome that comes by rest is the end: no event follows it.
+pub fn nothing_follows_rest()
+    ensures { NothingFollowsRest }
 {}
 
 /// A key that was set aside was counted, and names a heavy inference of registered clauses.
