@@ -246,6 +246,13 @@ falling_by justifier =
     ∷ []))
     ∷ []
 
+-- p(X0) removes p(a) while the job on q(a) is out, whose batch is refused then; and the clause goes by p(X0)
+abbrev pub refused_split : List Event
+refused_split = Claim 1 ∷ Claim 2 ∷ Claim 3 ∷ return 2 (Met [] (removal 0 (1 ∷ []) (Dropped (Subsumed 1)) ∷ [])) ∷ Stale 3 0 ∷ []
+
+abbrev pub split_again : List Event
+split_again = refused_split ++ return 3 (Gone (removal 2 (1 ∷ []) (leaves (clause (p (x 0) ∷ q (x 1) ∷ []))))) ∷ []
+
 -- ---- signed names: the four clauses of two atoms
 
 abbrev pub signed : Origin

@@ -9,11 +9,11 @@ ghost use Rattle.kernel_steps.specs.declared.step.Step.TheVariants as step;
 ghost use Rattle.pool_history.specs.Claiming.{ready};
 ghost use Rattle.kernel_steps.specs.FromTrees.{line_of};
 ghost use Rattle.pool_history.specs.Outcomes.{outcome_of};
-ghost use Rattle.pool_history.specs.Record.{Registered, is_awake, jobs_out, propositional_clauses};
+ghost use Rattle.pool_history.specs.Record.{GivenJob, Registered, is_awake, jobs_out, propositional_clauses};
 ghost use Rattle.pool_history.specs.Replay.{start, replay};
 ghost use Rattle.pool_history.specs.Tags.{name_count};
 ghost use Rattle.pool_history.specs.Solving.{must_solve};
-ghost use Rattle.laws_pool_examples.specs.Examples.{split, first_denied, both_denied, split_history, late_model, parted, parted_history, sharing, four_units, falling_by, signed, signed_history};
+ghost use Rattle.laws_pool_examples.specs.Examples.{split, first_denied, both_denied, split_history, late_model, parted, parted_history, sharing, four_units, falling_by, refused_split, split_again, signed, signed_history};
 ghost use Rattle.pool_history.specs.declared.outcome.Outcome.TheVariants.{Refuted, Saturated};
 ghost use Rattle.pool_history.specs.declared.event.Event.TheVariants as event;
 ghost use Rattle.pool_history.specs.Saturated.{members_of};
@@ -63,6 +63,13 @@ pub fn tags_in_order()
     ensures all { (replay four_units (falling_by 1)).parts
         ≡ (p (x 0) ∷ []) ∷ (q (x 0) ∷ []) ∷ (r ∷ []) ∷ (not_p (x 0) ∷ []) ∷ [] }
     ensures one_left_out { (replay four_units (falling_by 0)).parts ≡ (r ∷ []) ∷ (not_p (x 0) ∷ []) ∷ [] }
+{}
+
+/// A batch that is refused brings no parts; the next one for the job does.
+pub fn refused_parts()
+    ensures none { (replay four_units refused_split).parts ≡ [] }
+    ensures job_out { map (λ (j : GivenJob). j.job) (replay four_units refused_split).given ≡ 1 ∷ 3 ∷ [] }
+    ensures again { (replay four_units split_again).parts ≡ (p (x 0) ∷ []) ∷ (q (x 0) ∷ []) ∷ [] }
 {}
 
 /// The four clauses of two atoms and their complements need two names. Their refutation ends the pool without a given claim.
