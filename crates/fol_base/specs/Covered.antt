@@ -37,7 +37,7 @@ CoversMore =
     (is_predicate : ℕ → Bool) (functions : FunctionSymbols is_predicate) (cs ds : List TreeClause) (c : GroundClause)
     → All (Contains ds) cs → Covers functions cs c → Covers functions ds c
 
--- what is covered by clauses whose ground instances are covered is covered
+-- a list covers each clause that is covered by clauses whose ground instances the list covers
 abbrev pub CoversAcross : Type 0
 CoversAcross =
     (is_predicate : ℕ → Bool) (functions : FunctionSymbols is_predicate) (cs ds : List TreeClause) (c : GroundClause)

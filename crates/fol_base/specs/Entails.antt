@@ -25,13 +25,13 @@ EntailsMonotone =
     (is_predicate : ℕ → Bool) (cs ds : List GroundClause) (c : GroundClause)
     → All (Contains ds) cs → Entails is_predicate cs c → Entails is_predicate ds c
 
--- what is entailed by entailed clauses is entailed
+-- a clause that entailed clauses entail is entailed
 abbrev pub EntailsCut : Type 0
 EntailsCut =
     (is_predicate : ℕ → Bool) (cs ds : List GroundClause) (c : GroundClause)
     → All (Entails is_predicate cs) ds → Entails is_predicate ds c → Entails is_predicate cs c
 
--- the empty clause is entailed exactly by what is refuted
+-- a list entails the empty clause exactly where it is refuted
 abbrev pub EmptyClauseEntailed : Type 0
 EmptyClauseEntailed =
     (is_predicate : ℕ → Bool) (cs : List GroundClause) → Entails is_predicate cs [] ↔ IsRefuted is_predicate cs
