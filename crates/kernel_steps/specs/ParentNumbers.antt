@@ -1,4 +1,4 @@
--- The numbers of a step's parents: how an iterator over them goes on, and how a step is with other numbers.
+-- The numbers of a step's parents: those that an iterator over them has left, and a step with other numbers in their place.
 use Rattle.std.specs.Prelude.{◌≡◌, ℕ, List, [], ◌∷◌, ◌++◌, map, Option, None, Some}
 use Rattle.kernel_steps.specs.Lines.{step_parents}
 use Rattle.kernel_steps.specs.Soundness.{bindings_of}

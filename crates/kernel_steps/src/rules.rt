@@ -120,7 +120,7 @@ pub fn factor<L: LendsLiterals, S: LendsTerms>(
     Ok(Some(Literals::from_vec(made)))
 }
 
-/// Merging: the literals without the second of two different ones that are the same, sides in either order.
+/// Merging: the literals without the second of two at different places that are equal, sides in either order.
 /// None where the condition of the rule fails.
 pub fn merge<L: LendsLiterals, S: LendsTerms>(
     alloc: Global,
@@ -196,7 +196,7 @@ fn can_factor<S: LendsTerms>(
         && same_instance(chosen, bind, second.side(second_side), bind)
 }
 
-/// Whether the instances of two literals have the same sign and the same sides, in either order.
+/// Whether the instances of two literals have equal signs, and equal sides in either order.
 fn equivalent_instances<S: LendsTerms>(
     left: LiteralRef<'_>,
     right: LiteralRef<'_>,
