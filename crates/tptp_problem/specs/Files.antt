@@ -9,8 +9,7 @@ use Rattle.outside.specs.Library.{Holdings, HoldsExactly}
 abbrev pub folder_of : List ℕ → List ℕ
 folder_of path = take (length path - suffix_len (λ byte. not (byte == 47)) path) path
 
--- the folder in which included files lie: the root (of `--tptp`) if one is given, else the folder of the first
--- file
+-- the folder in which included files lie: the root (of `--tptp`) if one is given, else the folder of the first file
 abbrev pub base_of : Option (List ℕ) → List ℕ → List ℕ
 base_of None file = folder_of file
 base_of (Some root) file = root ++ codes "/"

@@ -73,8 +73,7 @@ pub record IsFormulaStep (source : LoadedFile) (first : ℕ) (progress : Progres
   pub progress_is : step.progress ≡ with_formula source.around (placed_in source.name read.annotated) progress
   pub next_is : step.next ≡ read.next
 
--- a relation for the reading of the file of a name, within selections: from the progress before it to its formulas and the
--- progress after it
+-- a relation for the reading of the file of a name, within selections: from the progress before it to its formulas and the progress after it
 abbrev pub Reads : Type 1
 Reads = List ℕ → List (List (List ℕ)) → Progress → List Placed → Progress → Type 0
 

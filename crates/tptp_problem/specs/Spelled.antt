@@ -25,8 +25,7 @@ abbrev pub taken : Option (List (List ℕ)) → List FromFile → List FromFile
 taken None formulas = formulas
 taken (Some names) formulas = filter (λ (f : FromFile). selects names f.tree.name) formulas
 
--- The formulas that an entry of a file gives. An annotated formula gives itself; an include gives those that it takes from
--- its file.
+-- The formulas that an entry of a file gives. An annotated formula gives itself; an include gives those that it takes from its file.
 abbrev pub EntryGives : List ℕ → Gives → List ℕ → EntryTree → List FromFile → Type 0
 EntryGives base gives file (annotated_tree tree) formulas = formulas ≡ record { tree = tree; file = file } ∷ []
 EntryGives base gives file (include_tree word names) formulas =
@@ -47,8 +46,7 @@ pub record FileGives (told : Option Holdings) (base : List ℕ) (gives : Gives) 
   pub spelled : SpellsEntries bytes entries
   pub given : EntriesGive base gives name entries formulas
 
--- The formulas that the file of a name gives, if files are nested at most `depth` deep, itself counted. At depth 0 no file
--- gives any list.
+-- The formulas that the file of a name gives, if files are nested at most `depth` deep, itself counted. At depth 0 no file gives any list.
 abbrev pub NamedGives : Option Holdings → List ℕ → ℕ → Gives
 NamedGives told base zero = λ name formulas. ⊥
 NamedGives told base (suc depth) = FileGives told base (NamedGives told base depth)

@@ -262,8 +262,7 @@ abbrev pub after_token : ℕ → List Symbol → Lexeme → Run
 after_token place [] token = over place
 after_token place (s ∷ ss) token = stepped place ss (step s token) (after_token place ss token)
 
--- the end of a reading: all that was to come stands before the token of that place; the token of that place is refused; or
--- the tokens run out
+-- the end of a reading: all that was to come stands before the token of that place; the token of that place is refused; or the tokens run out
 pub data Verdict : Type 0 where
   read_up_to : ℕ → Verdict
   refused_at : ℕ → Refusal → Verdict

@@ -2,8 +2,7 @@
 use Rattle.std.specs.Prelude.{ℕ, ◌+◌, List, [], ◌∷◌}
 use Rattle.tptp_source.specs.declared.sign.NumberSign.{NumberSign}
 
--- A general term, and a list of general terms: for example `file('a.p',ax)`, `[X,~q]`,
--- `bind(X,f(Y)):-1`.
+-- A general term, and a list of general terms: for example `file('a.p',ax)`, `[X,~q]`, `bind(X,f(Y)):-1`.
 mutual
   pub data GeneralTree : Type 0 where
     variable : List ℕ → GeneralTree

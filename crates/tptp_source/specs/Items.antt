@@ -1,5 +1,4 @@
--- The items of an inference, read from general terms: terms of formulas, numbers, sides and signed
--- names.
+-- The items of an inference, read from general terms: terms of formulas, numbers, sides and signed names.
 use Rattle.std.specs.Prelude.{ℕ, ◌+◌, ◌-◌, ◌*◌, ◌^◌, Bool, true, false, not, ◌&&◌, ◌==◌, nat_lt, List, [], ◌∷◌, codes, bytes_eq, Option, None, Some, if◌then◌else◌}
 use Rattle.std.specs.Option.{option_map}
 use Rattle.std.specs.List.{list_all}
@@ -41,8 +40,7 @@ abbrev pub positive_by : List ℕ → GeneralTrees → Option SignedName
 positive_by f no_trees = Some (true, f)
 positive_by f (tree_then t ts) = None
 
--- the signed name that a general term is: a word without arguments, as `spl0`, or one after `~`, as
--- `~spl0`
+-- the signed name that a general term is: a word without arguments, as `spl0`, or one after `~`, as `~spl0`
 abbrev pub signed_name_in : GeneralTree → Option SignedName
 signed_name_in (variable x) = None
 signed_name_in (word f ts) = positive_by f ts
@@ -110,8 +108,7 @@ term_before None ts = None
 term_before (Some t) None = None
 term_before (Some t) (Some ts) = Some (term_then t ts)
 
--- The term of a formula that a general term is: a variable, or a word with such terms as arguments,
--- as `f(X,a)`.
+-- The term of a formula that a general term is: a variable, or a word with such terms as arguments, as `f(X,a)`.
 abbrev mutual
   pub term_in : GeneralTree → Option TermTree
   term_in (variable x) = Some (variable_term x)
