@@ -24,10 +24,12 @@ literals_of falsity = []
 literals_of (disjunction fs) = list_of_formulas fs
 literals_of f = f ∷ []
 
+-- whether a literal has no `~`
 abbrev pub is_positive : FormulaTree → Bool
 is_positive (negation f) = false
 is_positive f = true
 
+-- the atom of a literal, without its `~`
 abbrev pub atom_of : FormulaTree → FormulaTree
 atom_of (negation f) = f
 atom_of f = f
@@ -39,6 +41,7 @@ is_atom (predicate p ts) = true
 is_atom (equation positive s t) = true
 is_atom f = false
 
+-- whether a formula is a literal: an atom or the negation of one
 abbrev pub is_literal : FormulaTree → Bool
 is_literal l = is_atom (atom_of l)
 
@@ -48,6 +51,7 @@ is_literal l = is_atom (atom_of l)
 abbrev pub name_number : List (List ℕ) → List ℕ → Option ℕ
 name_number names p = position (bytes_eq p) names
 
+-- the number of the introduced name that an atom is, if it is one
 abbrev pub atom_name : List (List ℕ) → FormulaTree → Option ℕ
 atom_name names (predicate p no_terms) = name_number names p
 atom_name names f = None
@@ -56,9 +60,11 @@ atom_name names f = None
 abbrev pub literal_name : List (List ℕ) → FormulaTree → Option NameLit
 literal_name names l = option_map (signed (is_positive l)) (atom_name names (atom_of l))
 
+-- the literals of a `cnf` formula that are no introduced names
 abbrev pub ordinary_literals : List (List ℕ) → FormulaTree → List FormulaTree
 ordinary_literals names f = filter (λ l. is_none (literal_name names l)) (literals_of f)
 
+-- the signed introduced names in a `cnf` formula
 abbrev pub clause_names : List (List ℕ) → FormulaTree → List NameLit
 clause_names names f = filter_map (literal_name names) (literals_of f)
 
@@ -81,26 +87,28 @@ abbrev pub numbered_from : ℕ → List (List ℕ) → Environment
 numbered_from n [] = []
 numbered_from n (x ∷ xs) = (x, variable n) ∷ numbered_from (n + 1) xs
 
--- the symbols of literals, and then of what is bound, with repetitions
+-- the symbols of literals, and then of the terms of bindings, with repetitions
 abbrev pub symbols_in : List FormulaTree → List TermTree → List Symbol
 symbols_in literals bound = flat_map formula_symbols literals ++ flat_map term_symbols bound
 
--- and the names of their variables
+-- the variables' names of literals, and then of the terms of bindings, with repetitions
 abbrev pub variables_in : List FormulaTree → List TermTree → List (List ℕ)
 variables_in literals bound = flat_map free_names literals ++ flat_map term_names bound
 
--- How a line's symbols and variables are numbered, both by their first occurrences. Symbols of the form keep their numbers, and new ones
--- come after them, each once; variables are numbered from 0.
+-- The numbers of a line's symbols and variables, both by first occurrence. Symbols of the form keep their numbers, and new ones come
+-- after them, each once; variables are numbered from 0.
 pub record Numbering : Type 0 where
   pub symbols : List Symbol
   pub variables : Environment
 
+-- The numbering of a line with these literals and bound terms. The literals come first, so its clause is canonical.
 abbrev pub numbering : List Symbol → List FormulaTree → List TermTree → Numbering
 numbering known literals bound = record {
   symbols = fold with_symbol known (symbols_in literals bound);
   variables = numbered_from 0 (different_names (variables_in literals bound));
 }
 
+-- the tree of a term under a numbering
 abbrev pub term_by : Numbering → TermTree → Tree
 term_by n t = term_under n.symbols n.variables t
 
@@ -111,8 +119,10 @@ atom_by n positive (predicate p ts) =
 atom_by n positive (equation equal s t) = record { positive = beq equal positive; left = term_by n s; right = term_by n t }
 atom_by n positive f = atom_literal positive true_tree
 
+-- the literal of a written literal under a numbering
 abbrev pub literal_by : Numbering → FormulaTree → TreeLiteral
 literal_by n l = atom_by n (is_positive l) (atom_of l)
 
+-- the clause of a `cnf` formula under a numbering: its ordinary literals in order, and its names
 abbrev pub clause_by : Numbering → List (List ℕ) → FormulaTree → TreeClause
 clause_by n names f = record { literals = map (literal_by n) (ordinary_literals names f); names = clause_names names f }

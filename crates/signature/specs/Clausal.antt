@@ -84,6 +84,7 @@ abbrev pub makes_variables : Quantifier → Bool → Bool
 makes_variables for_all sign = sign
 makes_variables exists_some sign = not sign
 
+-- The scope of a quantifier's body. Its variables become new variables if `new` holds, else Skolem terms over the body's free variables.
 abbrev pub scope_of : SymbolNumbers → Bool → List (List ℕ) → FormulaTree → Environment → Made → Scope
 scope_of n new xs body env m = if new then with_variables xs env m else with_skolem_terms n (free_names body) xs env m
 
@@ -93,13 +94,16 @@ scope_of n new xs body env m = if new then with_variables xs env m else with_sko
 abbrev pub all_pairs : List Literals → List Literals → List Literals
 all_pairs first second = flat_map (λ c. map (λ d. c ++ d) second) first
 
--- A product of lists of so many clauses is named: each has at least 2, and the product would have over 64.
+-- Whether the product of two lists of these lengths is large, so that one of them is named: each has at least 2 clauses, and the product
+-- would have over 64.
 abbrev pub is_large_count : ℕ → ℕ → Bool
 is_large_count first second = nat_le 2 first && (nat_le 2 second && nat_lt 64 (first * second))
 
+-- whether the product of two lists of clauses is large by their lengths
 abbrev pub is_large : List Literals → List Literals → Bool
 is_large first second = is_large_count (length first) (length second)
 
+-- an atom as a literal under a sign: the equation of the atom with `$true`, or its inequation
 abbrev pub atom_literal : Bool → Tree → TreeLiteral
 atom_literal sign atom = record { positive = sign; left = atom; right = true_tree }
 
@@ -130,7 +134,7 @@ product n began first second m =
 
 -- ---- the recursion
 
--- what is worked from what was made before
+-- the work on a formula: from the state before it, its clauses and the state after it
 abbrev pub Work : Type 0
 Work = Made → Worked
 
@@ -146,6 +150,7 @@ abbrev pub truth_value : Bool → Work
 truth_value true m = record { clauses = []; made = m }
 truth_value false m = record { clauses = [] ∷ []; made = m }
 
+-- the unit clause of a literal; nothing is made
 abbrev pub one_literal : TreeLiteral → Work
 one_literal l m = record { clauses = (l ∷ []) ∷ []; made = m }
 
@@ -211,6 +216,7 @@ pub record Formed : Type 0 where
   pub origins : List ℕ
   pub made : Made
 
+-- the clause of a list of literals, its variables numbered from 0 by first occurrence
 abbrev pub canonical_literals : Literals → TreeClause
 canonical_literals c = canonical_clause (record { literals = c; names = [] })
 

@@ -20,6 +20,7 @@ abbrev mutual
   terms_names no_terms = []
   terms_names (term_then t ts) = term_names t ++ terms_names ts
 
+-- the names of a list that are not bound, in their order
 abbrev pub without_names : List (List ℕ) → List (List ℕ) → List (List ℕ)
 without_names bound xs = filter (λ x. not (list_any (bytes_eq x) bound)) xs
 

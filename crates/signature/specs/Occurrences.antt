@@ -39,6 +39,7 @@ abbrev mutual
   formulas_symbols no_formulas = []
   formulas_symbols (formula_then f fs) = formula_symbols f ++ formulas_symbols fs
 
+-- the symbols of an entry's formula, with repetitions
 abbrev pub annotated_symbols : Annotated → List Symbol
 annotated_symbols a = formula_symbols (formula_of a.formula)
 
