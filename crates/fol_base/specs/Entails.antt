@@ -19,7 +19,7 @@ IsRefuted is_predicate cs = (i : Interpretation) → IsInterpretation is_predica
 abbrev pub EntailsMembers : Type 0
 EntailsMembers = (is_predicate : ℕ → Bool) (cs : List GroundClause) (c : GroundClause) → Contains cs c → Entails is_predicate cs c
 
--- a list that has all members of another entails what the other does
+-- a list that has all members of another entails each clause that the other entails
 abbrev pub EntailsMonotone : Type 0
 EntailsMonotone =
     (is_predicate : ℕ → Bool) (cs ds : List GroundClause) (c : GroundClause)

@@ -39,7 +39,7 @@ abbrev pub ClauseInstancesOfInstances : Type 0
 ClauseInstancesOfInstances =
     (σ τ : Substitution) (c : TreeClause) → clause_instance σ (clause_instance τ c) ≡ clause_instance (after σ τ) c
 
--- a ground instance of an instance is one of the clause, where what was put in for its variables is over the list
+-- a ground instance of an instance is one of the clause, where the trees put in for its variables are over the list
 abbrev pub GroundInstancesOfInstances : Type 0
 GroundInstancesOfInstances =
     (is_predicate : ℕ → Bool) (functions : FunctionSymbols is_predicate) (τ : Substitution) (c : TreeClause) (g : GroundClause)

@@ -8,7 +8,7 @@ use Rattle.fol_base.specs.Place.{subterm, replaced}
 use Rattle.fol_base.specs.Clause.{TreeLiteral, TreeClause}
 use Rattle.fol_base.specs.Ground.{GroundClause, is_ground_clause, literals_instance}
 
--- one entry of a table: what the symbol gives at these arguments
+-- one entry of a table: the value of the symbol at these arguments
 pub record Row : Type 0 where
   pub symbol : ℕ
   pub arguments : List ℕ
@@ -106,7 +106,7 @@ ValuesOfInstances =
     (i : Interpretation) (ρ : Assignment) (σ : Substitution) (t : Tree)
     → tree_value i ρ (instance σ t) ≡ tree_value i (λ v. tree_value i ρ (σ v)) t
 
--- so is the truth of literals
+-- the truth of an instance's literals is that of the literals, where each variable has the value of the tree put in for it
 abbrev pub TruthOfInstances : Type 0
 TruthOfInstances =
     (i : Interpretation) (ρ : Assignment) (σ : Substitution) (ls : List TreeLiteral)

@@ -104,7 +104,7 @@ ClauseGreater c d = MultisetGreater equivalent_literals literal_greater c d
 abbrev pub TreeEqualityDecided : Type 0
 TreeEqualityDecided = (t u : Tree) → Decides (tree_eq t u) (t ≡ u)
 
--- each test says what the type does
+-- each test agrees with its type
 abbrev pub TreeGreaterDecided : Type 0
 TreeGreaterDecided = (s t : Tree) → Decides (tree_greater s t) (TreeGreater s t)
 
@@ -140,7 +140,7 @@ LiteralsTotallyOrdered = IsTotalOrderOn equivalent_literals literal_greater (λ 
 abbrev pub ClausesTotallyOrdered : Type 0
 ClausesTotallyOrdered = IsTotalOrderOn equivalent_clauses clause_greater (λ c. IsTrue (is_ground_clause c))
 
--- so "not greater" is transitive on them
+-- "not greater" is transitive on ground clauses
 abbrev pub NotGreaterIsTransitive : Type 0
 NotGreaterIsTransitive =
     (b c d : GroundClause)

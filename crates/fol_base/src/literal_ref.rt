@@ -1,4 +1,4 @@
-// Borrowed literals: what looks at a literal takes its sign and its two sides, wherever they stand.
+// Borrowed literals: a sign and two borrowed sides, of a clause of trees or of a clause of the bank.
 
 ghost use mathlib.Core.Bool.{beq};
 ghost use Rattle.std.specs.Prelude.{◌≡◌, ◌≤◌, ◌-◌, ◌^◌, min, IfOk};

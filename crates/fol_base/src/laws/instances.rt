@@ -58,7 +58,7 @@ pub fn replaced_where_there()
     ensures { ReplacedWhereThere }
 {}
 
-/// A ground instance of an instance is one of the clause, where what was put in for its variables is over the function symbols.
+/// A ground instance of an instance is one of the clause, where the trees put in for its variables are over the function symbols.
 pub fn ground_instances_of_instances()
     ensures { GroundInstancesOfInstances }
 {}

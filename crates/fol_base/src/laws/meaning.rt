@@ -49,7 +49,7 @@ pub fn entailment_of_more()
     ensures { EntailsMonotone }
 {}
 
-/// What is entailed by entailed clauses is entailed.
+/// A clause that entailed clauses entail is entailed.
 pub fn entailment_cuts()
     ensures { EntailsCut }
 {}
