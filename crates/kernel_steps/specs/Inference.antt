@@ -41,8 +41,8 @@ other_side_not_above σ side l =
 -- ---- the generating rules
 
 -- Superposition of literal i of the first clause, s = t, into literal j of the second, u = v or its negation, at a place of u that is no
--- variable. The variables of the two clauses are different ones, so each has a substitution of its own. What the rule itself asks,
--- that s = t is positive and s isn't `$true`, is not said again.
+-- variable. The variables of the two clauses are different ones, so each has a substitution of its own. The rule's own conditions, that
+-- s = t is positive and s isn't `$true`, are not repeated.
 pub record NamedSuperposition
     (is_predicate : ℕ → Bool) (mode : SelectionMode) (first : TreeClause) (i : ℕ) (from_side : Side)
     (second : TreeClause) (j : ℕ) (into_side : Side) (place : List ℕ) (conclusion : TreeClause) : Type 0 where

@@ -26,7 +26,7 @@ with_parents to (Split parent definitions parts) = Split (to parent) (map to def
 with_parents to (Chain numbers pivots) = Chain (map to numbers) pivots
 with_parents to step = step
 
--- the parents of a step with other numbers for them are these numbers, and what it binds is as before
+-- the parents of a step with other numbers for them are these numbers, and its bindings are as before
 pub record MapsParents : Type 0 where
   pub parents : (to : ℕ → ℕ) (step : Step) → step_parents (with_parents to step) ≡ map to (step_parents step)
   pub bindings : (to : ℕ → ℕ) (step : Step) → bindings_of (with_parents to step) ≡ bindings_of step

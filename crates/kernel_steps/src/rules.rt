@@ -1,4 +1,4 @@
-// The rules on literals under bindings. They borrow the literals, and build what a rule gives and nothing else.
+// The rules on literals under bindings. They borrow the literals, and build a rule's conclusion and nothing else.
 
 ghost use Rattle.std.specs.Prelude.{◌≡◌, ◌≤◌, ◌<◌, ◌-◌, ◌++◌, ◌&&◌, map, length, drop, take, IfOk, remove, slice_set};
 ghost use Rattle.std.specs.Option.{option_map};
@@ -19,7 +19,7 @@ use fol_base::{
 use plain_types::Mem;
 use std::alloc::Global;
 
-/// Literals and what their variables stand for, lent.
+/// Literals and the terms that their variables stand for, lent.
 #[derive(Drop)]
 pub struct Bound<'a, L, S> {
     pub literals: &'a L,
