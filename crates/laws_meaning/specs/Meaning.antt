@@ -24,7 +24,7 @@ InterpretsProblem fs i = IsInterpretation (is_predicate_in (problem_symbols fs))
 abbrev pub InterpretsForm : List Annotated → Interpretation → Type 0
 InterpretsForm fs j = IsInterpretation (is_predicate_in (clausal_form fs).symbols) j
 
--- the same values, and the same value of each of the problem's symbols
+-- an extension of an interpretation: it has the same values, and gives each symbol of the problem the same value
 pub record Extends (fs : List Annotated) (i j : Interpretation) : Type 0 where
   pub size : j.size ≡ i.size
   pub kept : (f : ℕ) → f < length (problem_symbols fs) → (vs : List ℕ) → symbol_value j f vs ≡ symbol_value i f vs
