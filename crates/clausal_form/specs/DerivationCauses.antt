@@ -54,8 +54,8 @@ pub data Given : Type 0 where
   gives_formula : Step → FormulaTree → Given
   gives_clause : Step → TreeClause → Given
 
--- Input: a formula of the problem with that name and the line's role, kind and formula, the first of them. The name of the file is any
--- word.
+-- Input: the entry that the line cites, with the name in its source and the line's role, kind and formula. It has to be one of the
+-- problem's; the name of the file is any word.
 abbrev pub cited : LineTree → List ℕ → AnnotatedTree
 cited t name = record { name = name; role = (t.entry).role; is_clause = (t.entry).is_clause; formula = (t.entry).formula }
 
@@ -88,7 +88,7 @@ given_by_negate s e t =
     (fault rule)
 
 -- Clausify: the clause with the number is that of the form, and the parent is the line of the formula that it comes from: an input
--- line, or for the conjecture a negate line. Formulas that are equal in name, role, kind and formula are one.
+-- line, or for the conjecture a negate line. Two places of formulas fit each other if these are equal in name, role, kind and formula.
 abbrev pub fits : Setting → ℕ → ℕ → Bool
 fits s place other = unwrap_or (option_and_then (λ a. option_map (same_entry a) (entry_at s other)) (entry_at s place)) false
 
@@ -120,7 +120,7 @@ given_by_clausify s e t =
     (option_and_then (λ i. if is_clausified s e t i then Some (gives_clause (Clausify i) (line_clause s e t)) else None) (index_in t))
     (fault clausification)
 
--- Component: the clause has at least one ordinary literal, and the one name, negated, which has the next number.
+-- Component: the clause has at least one ordinary literal, and exactly one name, the line's own, negated.
 abbrev pub given_by_component : Setting → Taken → LineTree → List ℕ → Given
 given_by_component s e t name =
     let n : ℕ = position_or_len (bytes_eq name) e.introduced in
@@ -192,16 +192,16 @@ is_formula_kind input_kind = true
 is_formula_kind negate_kind = true
 is_formula_kind kind = false
 
--- a clause line is written with `cnf`, as a clause is
+-- whether a line is written as its kind asks: a clause line with `cnf`, as a clause is
 abbrev pub is_written : Taken → LineTree → Bool
 is_written e t =
     is_formula_kind (line_kind t) || ((t.entry).is_clause && is_written_clause (line_names e t) (t.entry).formula)
 
--- a symbol of the clause, or of a binding, isn't one of the form
+-- whether some symbol of the clause, or of a binding, isn't one of the form
 abbrev pub has_new_symbol : Setting → Taken → LineTree → Bool
 has_new_symbol s e t = not (list_all (λ x. has_symbol x (s.form).symbols) (symbols_in (line_literals e t) (all_bound t)))
 
--- the name of a component line is a predicate of the form without arguments, or was introduced before
+-- whether the name of a component line is no new one: it is a predicate of the form without arguments, or was introduced before
 abbrev pub is_old_name : Setting → Taken → LineKind → Bool
 is_old_name s e (component_kind name) = has_symbol (predicate_symbol name 0) (s.form).symbols || list_any (bytes_eq name) e.introduced
 is_old_name s e kind = false

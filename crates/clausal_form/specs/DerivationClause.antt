@@ -34,7 +34,7 @@ abbrev pub atom_of : FormulaTree → FormulaTree
 atom_of (negation f) = f
 atom_of f = f
 
--- an atom or the negation of one, where `$false` is none
+-- whether a formula is an atom: `$true`, a predicate, or an equation, `s != t` included; `$false` is none
 abbrev pub is_atom : FormulaTree → Bool
 is_atom truth = true
 is_atom (predicate p ts) = true
@@ -68,21 +68,21 @@ ordinary_literals names f = filter (λ l. is_none (literal_name names l)) (liter
 abbrev pub clause_names : List (List ℕ) → FormulaTree → List NameLit
 clause_names names f = filter_map (literal_name names) (literals_of f)
 
--- from the first name on there are names alone
+-- whether after the first name in a list of literals there are names alone
 abbrev pub names_come_last : List (List ℕ) → List FormulaTree → Bool
 names_come_last names [] = true
 names_come_last names (l ∷ ls) =
     if is_some (literal_name names l) then list_all (λ k. is_some (literal_name names k)) ls else names_come_last names ls
 
--- `$false` stands only alone; the names stand after the ordinary literals, by rising number, of one name the negative one before the
--- positive one, each once
+-- Whether a `cnf` formula is written as a clause is. `$false` stands only alone. The names stand after the ordinary literals, by
+-- rising number, each once, of one name the negative one before the positive one.
 abbrev pub is_written_clause : List (List ℕ) → FormulaTree → Bool
 is_written_clause names f =
     list_all is_literal (literals_of f) && (names_come_last names (literals_of f) && are_sorted (clause_names names f))
 
 -- ---- numbers
 
--- variables by their places from that number on
+-- variables with numbers from n on, by their places in a list of names
 abbrev pub numbered_from : ℕ → List (List ℕ) → Environment
 numbered_from n [] = []
 numbered_from n (x ∷ xs) = (x, variable n) ∷ numbered_from (n + 1) xs
@@ -112,7 +112,7 @@ numbering known literals bound = record {
 abbrev pub term_by : Numbering → TermTree → Tree
 term_by n t = term_under n.symbols n.variables t
 
--- the literal with an atom; `$true` is the atom that isn't another
+-- the literal of an atom under a sign and a numbering; `$true` is the atom that is neither a predicate nor an equation
 abbrev pub atom_by : Numbering → Bool → FormulaTree → TreeLiteral
 atom_by n positive (predicate p ts) =
     atom_literal positive (application (number_of n.symbols (predicate_symbol p (terms_count ts))) (terms_under n.symbols n.variables ts))

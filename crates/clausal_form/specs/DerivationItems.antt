@@ -26,7 +26,7 @@ abbrev pub has_word : List ℕ → GeneralTree → Bool
 has_word w (word v ts) = bytes_eq w v
 has_word w t = false
 
--- a word without arguments
+-- the word that an item is, if it has no arguments
 abbrev pub plain_word : GeneralTree → Option (List ℕ)
 plain_word (word w no_trees) = Some w
 plain_word t = None
@@ -70,12 +70,12 @@ only_one xs = None
 abbrev pub items_with : List (List ℕ) → List GeneralTree → List GeneralTree
 items_with words items = filter (λ t. list_any (λ w. has_word w t) words) items
 
--- one word without arguments
+-- whether a list of items is one word alone, without arguments
 abbrev pub is_one_word : List ℕ → List GeneralTree → Bool
 is_one_word w (t ∷ []) = is_plain w t
 is_one_word w ts = false
 
--- the first item of all is `status` with that word
+-- whether the first item of all is `status` with that word, as `status(thm)`
 abbrev pub has_status : List ℕ → List GeneralTree → Bool
 has_status status [] = false
 has_status status (t ∷ ts) = has_word (codes "status") t && is_one_word status (arguments t)

@@ -10,7 +10,7 @@ use Rattle.clausal_form.specs.DerivationLine.{LineTree, NamedLine, Taken, nothin
 use Rattle.clausal_form.specs.DerivationParts.{Setting, setting_of}
 use Rattle.clausal_form.specs.DerivationCauses.{Cause, no_empty_clause, LineVerdict, refused, taken, line_verdict}
 
--- all lines are taken, or one is the first that isn't; lines count from 1
+-- The verdict on lines: all are taken, or the first that isn't is refused for a cause. Lines count from 1.
 pub data LinesVerdict : Type 0 where
   all_taken : Taken → LinesVerdict
   refused_at : ℕ → Cause → LinesVerdict
@@ -36,7 +36,7 @@ lines_verdict s ts = lines_verdict_from s (all_taken nothing_taken) ts
 
 -- ---- the end
 
--- a clause line with the empty clause
+-- whether a line is a clause line with the empty clause
 abbrev pub is_empty_clause_line : Line → Bool
 is_empty_clause_line l = is_clause_step l.step && clause_eq (clause_of l.clause) empty_clause
 

@@ -61,11 +61,11 @@ parent_places e t = map (line_place e) (parent_names t.source)
 abbrev pub parents_of : Taken → LineTree → List ℕ
 parents_of e t = filter_map (λ o. o) (parent_places e t)
 
--- the clause lines as parents
+-- the clauses of earlier lines, by their places, as the kernel looks up parents; a formula line is no parent
 abbrev pub parent_lines : Taken → Parents
 parent_lines e = line_parents (kernel_lines e)
 
--- the step of the only parent
+-- the step of the parent, if there is one alone
 abbrev pub only_parent_step : Taken → LineTree → Option Step
 only_parent_step e t = option_and_then (λ n. option_map (λ (l : NamedLine). (l.line).step) (slice_get e.lines n)) (only_one (parents_of e t))
 

@@ -9,7 +9,7 @@ use Rattle.tptp_source.specs.Sources.{SourceTree, file_source, inference_source,
 use Rattle.tptp_source.specs.Items.{number_in}
 use Rattle.clausal_form.specs.DerivationItems.{is_plain, side_of, list_in, numbers_in, introduced_in, only_one, row_arguments}
 
--- the kinds of lines, by their sources
+-- The kinds of lines, by their sources. A component or opposite line has the name that it introduces or speaks of.
 pub data LineKind : Type 0 where
   input_kind : LineKind
   negate_kind : LineKind
@@ -120,7 +120,8 @@ chain_step names parents (pivots ∷ []) =
     option_map (λ ps. Chain parents ps) (option_and_then (list_in (introduced_in names)) (only_one pivots))
 chain_step names parents row = None
 
--- Each row: the word of its status, its items, and its step.
+-- The step of a rule with parents, a row each: the word of its status, its items, and its step. There is none if the items aren't
+-- those of the row.
 abbrev pub rule_step : LineKind → List (List ℕ) → List GeneralTree → List ℕ → List (List Tree) → Option Step
 rule_step para_kind names items parents binds =
     option_and_then (para_step parents binds)

@@ -24,7 +24,7 @@ FormsReturn =
     (fs : List Annotated) (j : Interpretation)
     → IsTrue (are_closed fs) → InterpretsForm fs j → FormTrue fs j → IsTrue (is_model_of_problem j fs)
 
--- So what is refuted by finitely many ground instances of its form has no finite model,
+-- A problem that is refuted by finitely many ground instances of its form has no finite model,
 abbrev pub RefutedProblemsHaveNoModel : Type 0
 RefutedProblemsHaveNoModel =
     (fs : List Annotated) (i : Interpretation)
@@ -39,7 +39,7 @@ abbrev pub RefutedAxiomsAreUnsatisfiable : Type 0
 RefutedAxiomsAreUnsatisfiable =
     (fs : List Annotated) → IsTrue (are_closed fs) → IsFalse (has_conjecture fs) → IsHerbrandRefuted fs → AxiomsUnsatisfiable fs
 
--- What has an accepted derivation is refuted so.
+-- A problem that has an accepted derivation is refuted so.
 abbrev pub AcceptedDerivationsProve : Type 0
 AcceptedDerivationsProve =
     (fs : List Annotated) (bytes : List ℕ) (count : ℕ) → IsTrue (are_closed fs) → IsAcceptedDerivation fs bytes count → ConjectureFollows fs

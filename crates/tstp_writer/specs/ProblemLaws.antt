@@ -1,4 +1,4 @@
--- What a problem that was read is printed as: each of its formulas can be printed as a line, and so can the negation of its conjecture.
+-- A problem that was read can be printed: each of its formulas as a line, and so the negation of its conjecture.
 use Rattle.std.specs.Prelude.{◌≡◌, ℕ, ◌*◌, ◌≤◌, true, false, ◌&&◌, List, map, filter_map, Option, IfSome}
 use Rattle.std.specs.List.{AllByRecursion}
 use Rattle.outside.specs.Library.{Holdings}
@@ -64,7 +64,7 @@ abbrev pub ProblemLinesArePrintable : Type 0
 ProblemLinesArePrintable =
     (formulas : List Annotated) → ArePrintableEntries formulas → AllByRecursion (λ (a : Annotated). HasPrintableLines (entry_of a)) formulas
 
--- the same by places, where the file's name is shown
+-- the formulas of a script can be printed by their places, where the file's name is shown
 abbrev pub ScriptFormulasArePrintable : Type 0
 ScriptFormulasArePrintable =
     (formulas : List Annotated) → ArePrintableEntries formulas → (name : List ℕ) → IsShown name → HasPrintableFormulas (script_of name formulas)
