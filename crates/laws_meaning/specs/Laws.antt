@@ -39,7 +39,7 @@ abbrev pub RefutedAxiomsAreUnsatisfiable : Type 0
 RefutedAxiomsAreUnsatisfiable =
     (fs : List Annotated) → IsTrue (are_closed fs) → IsFalse (has_conjecture fs) → IsHerbrandRefuted fs → AxiomsUnsatisfiable fs
 
--- A problem that has an accepted derivation is refuted so.
+-- The conjecture of a problem with an accepted derivation follows from its axioms.
 abbrev pub AcceptedDerivationsProve : Type 0
 AcceptedDerivationsProve =
     (fs : List Annotated) (bytes : List ℕ) (count : ℕ) → IsTrue (are_closed fs) → IsAcceptedDerivation fs bytes count → ConjectureFollows fs

@@ -1,4 +1,4 @@
--- Laws of answers: the bytes that a library tells decide them where the input has a fault.
+-- Laws of answers: the bytes that a library tells decide them where something is wrong with the input.
 use Rattle.std.specs.Prelude.{◌≡◌, ◌==◌, ◌||◌, ℕ, true, Bool, List}
 use Rattle.tptp_tree.specs.declared.problem.Annotated.{Annotated}
 use Rattle.pool_history.specs.declared.options.Options.{Options}
