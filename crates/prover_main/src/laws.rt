@@ -23,7 +23,7 @@ ghost use Rattle.prover_main.specs.Reports.{status_of, read_status, read_status_
 ghost use Rattle.prover_main.specs.Outside.{IsTold};
 ghost use Rattle.prover_main.specs.Laws.{is_exact, ChecksHaveOneAnswer, FaultsAreTheOnlyAnswer, FormedIsValid};
 ghost use Rattle.prover_main.specs.Examples.{counting, formula_in, hiding_with, holding_nothing, taking, proving_row, AreWritesBy, DeliversInPiecesBy};
-ghost use Rattle.prover_main.specs.Rows.{UsageRow, TheoremRow, MemoryOutRow, LoadFaultRow};
+ghost use Rattle.prover_main.specs.Rows.{UsageRow, TheoremRow, SaturatedRow, GaveUpRow, ReadFaultRow, FormFaultRow, LoadFaultRow, LostOutputRow, MemoryOutRow, CheckedRow};
 ghost use Rattle.prover_main.specs.Run.{IsDue};
 ghost use Rattle.prover_main.specs.declared.status.TheConstants.{SINK_FAILED, USAGE_SHOWN, MEMORY_OUT};
 
@@ -216,6 +216,12 @@ pub fn row_examples()
     ensures memory_out { MemoryOutRow proving_row (taking (memory_out_report (codes "r1.p"))) 7 }
     ensures nothing_told { ¬ MemoryOutRow proving_row (taking []) 7 }
     ensures no_fault { ¬ LoadFaultRow proving_row (holding_nothing 3 3) (taking []) 4 }
+    ensures no_saturation { ¬ SaturatedRow [] (holding_nothing 3 3) (taking []) 1 }
+    ensures nothing_given_up { ¬ GaveUpRow [] (holding_nothing 3 3) (taking []) 2 }
+    ensures no_form_fault { ¬ FormFaultRow [] (holding_nothing 3 3) (taking []) 3 }
+    ensures nothing_lost { ¬ LostOutputRow [] (holding_nothing 3 3) (taking []) 5 }
+    ensures no_read_fault { ¬ ReadFaultRow [] (holding_nothing 3 3) (taking []) 8 }
+    ensures nothing_refused { ¬ CheckedRow [] (holding_nothing 3 3) (taking []) 9 }
 {}
 
 /// Deliveries of a text in pieces: of two, as only out of memory is told, and of two of
