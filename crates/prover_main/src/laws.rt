@@ -21,7 +21,7 @@ ghost use Rattle.laws_meaning.specs.Examples.{hiding_alone, every_p, some_p, con
 ghost use Rattle.prover_main.specs.Meaning.{FormMeans, IsTheorem};
 ghost use Rattle.prover_main.specs.Reports.{status_of, read_status, read_status_word, report_of, memory_out_report, usage_report, read_word, form_word, limit_word, cause_word};
 ghost use Rattle.prover_main.specs.Outside.{IsTold};
-ghost use Rattle.prover_main.specs.Laws.{is_exact, ChecksHaveOneAnswer, FaultsAreTheOnlyAnswer, FormedIsValid};
+ghost use Rattle.prover_main.specs.Laws.{is_exact, ChecksHaveOneAnswer, FaultsAreTheOnlyAnswer, FormedIsValid, ReadProblemsAreClosed, ReadProblemsArePrintable};
 ghost use Rattle.prover_main.specs.Examples.{counting, formula_in, hiding_with, holding_nothing, taking, proving_row, AreWritesBy, DeliversInPiecesBy};
 ghost use Rattle.prover_main.specs.Rows.{UsageRow, TheoremRow, SaturatedRow, GaveUpRow, ReadFaultRow, FormFaultRow, LoadFaultRow, LostOutputRow, MemoryOutRow, CheckedRow};
 ghost use Rattle.prover_main.specs.Run.{IsDue};
@@ -37,6 +37,12 @@ pub fn one_answer()
 {
     texts_have_one_answer();
 }
+
+/// No formula of a problem that is read has a free variable, and each can be printed, with at most twice the levels that a text may have.
+pub fn read_problems_are_admissible()
+    ensures closed { ReadProblemsAreClosed }
+    ensures printable { ReadProblemsArePrintable }
+{}
 
 /// The formulas of a problem within the limits show that nothing is wrong with it: completeness speaks of such problems.
 pub fn formed_problems_are_valid()
