@@ -1,8 +1,8 @@
 // Laws of lawful histories: each is the contract of a function without arguments and with an empty body.
 
 ghost use Rattle.pool_history.specs.Derived.{LinesAreDerived, NamesRise, RefutedIsRefutation};
-ghost use Rattle.pool_history.specs.Laws.{BatchesStayRight, ClaimedInTime, CountedOnce, DeathsAreJustified, GivenJobsStayOut, HeavyOrNot, JobsAreCounted, JobsWereGiven, NumbersFit, OutcomesStay, PicksAreChosen, PositionsStay, ReplacedWereReduced, SetAsideAreHeavy, SolverJobsStayOut, SpentIsTheCount};
-ghost use Rattle.pool_history.specs.Wholeness.{PositionsAreRegistered, RegisteredAreOnePart, RegisteredAreWhole, ToldHavePositions};
+ghost use Rattle.pool_history.specs.Laws.{BatchesStayRight, ClaimedInTime, CountedOnce, DeathsAreJustified, EndedJobsAreGone, GivenJobsStayOut, HeavyOrNot, JobsAreCounted, JobsWereGiven, NumbersFit, OutcomesStay, PicksAreChosen, PositionsStay, ReplacedWereReduced, SetAsideAreHeavy, SolverJobsStayOut, SpentIsTheCount};
+ghost use Rattle.pool_history.specs.Wholeness.{ClausesStay, PositionsAreRegistered, RegisteredAreOnePart, RegisteredAreWhole, ToldHavePositions};
 
 /// A clause that stays awake and alive, with m older ones, is claimed within 6(m + 1) given claims, while no job is given up.
 pub fn claimed_in_time()
@@ -79,7 +79,7 @@ pub fn counted_once()
     ensures { CountedOnce }
 {}
 
-/// A clause was counted as replaced only where it died with a reduced result.
+/// A clause was counted as replaced exactly where it died with a reduced result.
 pub fn replaced_were_reduced()
     ensures { ReplacedWereReduced }
 {}
@@ -90,9 +90,19 @@ pub fn jobs_stay_out()
     ensures solver { SolverJobsStayOut }
 {}
 
+/// A job that an event ended is out no more, and no later job has its number.
+pub fn ended_jobs_are_gone()
+    ensures { EndedJobsAreGone }
+{}
+
 /// The jobs that are given out have the numbers 1, 2, 3 and so on, in order.
 pub fn jobs_are_counted()
     ensures { JobsAreCounted }
+{}
+
+/// A registered clause keeps its number, and a dead one stays dead.
+pub fn clauses_stay()
+    ensures { ClausesStay }
 {}
 
 /// A position that was given stays.
