@@ -4,7 +4,7 @@ use Rattle.std.specs.Prelude.{◌⊎◌, slice_get, nat_lt, option_and_then, if�
 use Rattle.std.specs.List.{list_all}
 use Rattle.std.proofs.lemmas.Bool.{cond-true, cond-false, cases_Bool, eqb-true, lt-ltb, le-ltb, ltb-true, ltb-false, and_parts, true≢false}
 use Rattle.std.proofs.lemmas.List.{take-append-le}
-use Rattle.std.proofs.lemmas.Option.{option_and_then_some}
+use Rattle.std.proofs.lemmas.Option.{none-some, option_and_then_some}
 use Rattle.std.proofs.Math.Seq.{take-append-add}
 use Rattle.fol_base.specs.Clause.{TreeClause}
 use Rattle.fol_base.specs.Literal.{clause_of}
@@ -20,9 +20,13 @@ use Rattle.kernel_steps.specs.declared.step.Line.{Line}
 use Rattle.reduced_clause.specs.Reduced.{last_clause}
 use Rattle.reduced_clause.specs.Extending.{last_number, parents_with}
 use Rattle.reduced_clause.proofs.VerdictLemmas.{conclusion-onward}
-use Rattle.list_lemmas.proofs.Places.{get-front}
 
 -- ---- items of two lists
+
+pub slice_get-append_left : {X : Type 0} (xs ys : List X) (n : ℕ) (x : X) → slice_get xs n ≡ Some x → slice_get (xs ++ ys) n ≡ Some x
+slice_get-append_left [] ys n x h = absurd (none-some x h)
+slice_get-append_left (z ∷ xs) ys zero x h = h
+slice_get-append_left (z ∷ xs) ys (suc n) x h = slice_get-append_left xs ys n x h
 
 pub slice_get-append_right : {X : Type 0} (xs ys : List X) (n : ℕ) → slice_get (xs ++ ys) (length xs + n) ≡ slice_get ys n
 slice_get-append_right [] ys n = let e : 0 + n ≡ n = omega arith in ap (slice_get ys) e
@@ -107,7 +111,7 @@ module _ (outer : Parents) (c : TreeClause) where
       (lines more : List Line) (n : ℕ) (p : Parent) → line_parents lines n ≡ Some p → line_parents (lines ++ more) n ≡ Some p
   line_parents-onward lines more n p h =
       option_and_then_some line_parent (slice_get lines n) p h λ line line_is step.
-      ap (option_and_then line_parent) (get-front lines more n line line_is) ∙ step
+      ap (option_and_then line_parent) (slice_get-append_left lines more n line line_is) ∙ step
 
   continued-onward :
       (lines more : List Line) (n : ℕ) (p : Parent)
