@@ -1,6 +1,11 @@
--- Laws of answers: the bytes that a library tells decide them where something is wrong with the input.
-use Rattle.std.specs.Prelude.{◌≡◌, ◌==◌, ◌||◌, ℕ, true, Bool, List}
+-- Laws of answers: the bytes that a library tells decide them where something is wrong with the input. And laws of problems that are read.
+use Rattle.std.specs.Prelude.{◌≡◌, ◌==◌, ◌||◌, ℕ, true, Bool, List, map, Option, IsTrue}
+use Rattle.outside.specs.Library.{Holdings}
 use Rattle.tptp_tree.specs.declared.problem.Annotated.{Annotated}
+use Rattle.tptp_problem.specs.Formulas.{placed}
+use Rattle.tptp_problem.specs.Problem.{IsProblem}
+use Rattle.laws_meaning.specs.Meaning.{are_closed}
+use Rattle.tstp_writer.specs.ProblemLaws.{ArePrintableEntries}
 use Rattle.pool_history.specs.declared.options.Options.{Options}
 use Rattle.prover_main.specs.Outside.{Outside, IsTold}
 use Rattle.prover_main.specs.declared.answer.Answer.{Answer}
@@ -8,7 +13,7 @@ use Rattle.prover_main.specs.Answer.{Source, IsFormed, IsReadProveAnswer, IsRead
 use Rattle.prover_main.specs.Reports.{status_of}
 use Rattle.prover_main.specs.Rows.{IsValid}
 
--- 3, 8 and 9 tell what is wrong with what is handed in
+-- 3, 8 and 9 are the statuses of a fault of the input
 abbrev pub is_exact : ℕ → Bool
 is_exact status = status == 3 || status == 8 || status == 9
 
@@ -18,15 +23,27 @@ ChecksHaveOneAnswer =
     (outside : Outside) (source : Source) (derivation : List ℕ) (a b : Answer)
     → IsTold outside → IsReadCheckAnswer outside source derivation a → IsReadCheckAnswer outside source derivation b → a ≡ b
 
--- and what `prove` answers where something is wrong with the problem.
+-- and what `prove` answers where the problem has a fault.
 abbrev pub FaultsAreTheOnlyAnswer : Type 0
 FaultsAreTheOnlyAnswer =
     (outside : Outside) (source : Source) (options : Options) (a b : Answer)
     → IsTold outside → is_exact (status_of a) ≡ true → IsReadProveAnswer outside source options a → IsReadProveAnswer outside source options b
     → a ≡ b
 
--- The formulas of a problem within the limits show that nothing is wrong with it.
+-- The formulas of a problem within the limits show that it has no fault.
 abbrev pub FormedIsValid : Type 0
 FormedIsValid =
     (outside : Outside) (source : Source) (formulas : List Annotated) → IsTold outside → IsFormed (IsRead outside source) formulas
     → IsValid outside source
+
+-- A problem that is read has no formula with a free variable,
+abbrev pub ReadProblemsAreClosed : Type 0
+ReadProblemsAreClosed =
+    (told : Option Holdings) (file : List ℕ) (root : Option (List ℕ)) (formulas : List Annotated)
+    → IsProblem told file root (map placed formulas) → IsTrue (are_closed formulas)
+
+-- and its formulas can be printed.
+abbrev pub ReadProblemsArePrintable : Type 0
+ReadProblemsArePrintable =
+    (told : Option Holdings) (file : List ℕ) (root : Option (List ℕ)) (formulas : List Annotated)
+    → IsProblem told file root (map placed formulas) → ArePrintableEntries formulas

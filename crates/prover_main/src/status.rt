@@ -6,5 +6,5 @@ pub(crate) const SINK_FAILED: u8 = 5;
 /// The words of the command line are usage.
 pub(crate) const USAGE_SHOWN: u8 = 6;
 
-/// Memory was wanted.
+/// The program is out of memory.
 pub(crate) const MEMORY_OUT: u8 = 7;
