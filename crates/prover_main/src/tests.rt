@@ -1,5 +1,6 @@
 // What no clause says: that runs end with the report that they should, over memory.
 mod cases;
+mod made;
 
 use super::*;
 use crate::memory_out::deliver_memory_out;
@@ -68,9 +69,9 @@ fn failures_end_the_run(rt: HostRuntime) {
     }
 }
 
-// What is printed where memory is wanted, in pieces, and where the sink fails in the third of them.
+// What is printed out of memory, in pieces, and where the sink fails in the third of them.
 #[test]
-fn want_of_memory_is_told_in_pieces(rt: HostRuntime) {
+fn out_of_memory_is_told_in_pieces(rt: HostRuntime) {
     let alloc = rt.alloc();
     let mut sink = MemSink::new(alloc, 64, 1000, Numbers::new(alloc)).expect(&rt, "memory");
     assert!(rt; deliver_memory_out(&mut sink, "dir/\x01r1.p").is_ok());
