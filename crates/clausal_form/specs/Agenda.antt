@@ -1,4 +1,5 @@
--- What the program still has to write of a matrix: the clauses of the matrices that are left, each with the literals that are there.
+-- The agenda of the program's writing of a matrix: the clauses of the matrices that are left, each with the literals that were
+-- written before.
 use Rattle.std.specs.Prelude.{ℕ, ◌+◌, List, [], ◌∷◌, ◌++◌}
 use denote.Ref.{Bor}
 use Rattle.fol_base.specs.Clause.{TreeLiteral, TreeClause}
@@ -23,7 +24,7 @@ abbrev pub agenda_size : List (Bor Matrix) → ℕ
 agenda_size [] = 0
 agenda_size (m ∷ ms) = matrix_size (matrix_tree m.now) + agenda_size ms
 
--- the canonical clause of the literals that are there and further ones
+-- the canonical clause of the literals that were written before and further ones
 abbrev pub canonical_after : Literals → Literals → TreeClause
 canonical_after before c = canonical_literals (before ++ c)
 

@@ -1,4 +1,4 @@
--- What holds of derivations: a text has at most one answer, and what is accepted refutes the problem.
+-- Laws of derivations: a text has at most one answer, and an accepted text refutes the problem.
 use Rattle.std.specs.Prelude.{◌≡◌, ℕ, List, Some, slice_get, IsTrue}
 use Rattle.fol_base.specs.Literal.{clause_of}
 use Rattle.tptp_tree.specs.declared.problem.Annotated.{Annotated}

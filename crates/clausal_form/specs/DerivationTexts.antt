@@ -22,6 +22,7 @@ pub record IsLineOf (p : AnnotatedPhrase) (t : LineTree) : Type 0 where
   pub entry : IsAnnotatedOf p t.entry
   pub source : SpellsSource p.notes t.source
 
+-- phrases of annotated formulas are those of lines, one for one
 abbrev pub AreLinesOf : List AnnotatedPhrase → List LineTree → Type 0
 AreLinesOf [] [] = ⊤
 AreLinesOf [] (t ∷ ts) = ⊥
@@ -33,7 +34,7 @@ abbrev pub phrases_lexemes : List AnnotatedPhrase → List Lexeme → List Lexem
 phrases_lexemes [] rest = rest
 phrases_lexemes (p ∷ ps) rest = annotated_lexemes p (phrases_lexemes ps rest)
 
--- the tokens are those of the lines and the rest
+-- the tokens spell the lines, and the rest follows
 pub record SpellsLines (tokens : List Lexeme) (ts : List LineTree) (rest : List Lexeme) : Type 0 where
   pub phrases : List AnnotatedPhrase
   pub spelled : tokens ≡ phrases_lexemes phrases rest
@@ -62,18 +63,18 @@ abbrev pub IsAcceptedDerivation : List Annotated → List ℕ → ℕ → Type 0
 IsAcceptedDerivation problem bytes count =
     (ts : List LineTree) × SpellsDerivation bytes ts × (verdict_on_lines problem ts ≡ accepted count)
 
--- ---- what is wrong after lines that are taken, and at which line
+-- ---- the fault after lines that are taken, and its line
 
 -- the text ends, without the empty clause
 abbrev pub EndsEarly : List Annotated → List ℕ → List LineTree → List Lexeme → ℕ → Cause → Type 0
 EndsEarly problem bytes before rest number cause = IsEnd bytes rest × (verdict_on_lines problem before ≡ refused_line number cause)
 
--- it goes on, and no line can be read
+-- the text goes on, and no line can be read
 abbrev pub IsUnread : List ℕ → List LineTree → List Lexeme → ℕ → Cause → Type 0
 IsUnread bytes before rest number cause =
     (IsEnd bytes rest → ⊥) × NoLineBegins rest × (number ≡ length before + 1) × (cause ≡ text)
 
--- or a line can be read, and is refused
+-- a further line can be read, and is refused
 abbrev pub IsRefusedLine : List Annotated → List LineTree → List Lexeme → ℕ → Cause → Type 0
 IsRefusedLine problem before rest number cause =
     (t : LineTree) × (more : List Lexeme) × SpellsLines rest (t ∷ []) more
@@ -91,6 +92,7 @@ pub record IsRefusedDerivation (problem : List Annotated) (bytes : List ℕ) (nu
       EndsEarly problem bytes before rest number cause
       ⊎ (IsUnread bytes before rest number cause ⊎ IsRefusedLine problem before rest number cause)
 
+-- the answer on a text: accepted with its number of lines, or refused at a line, counted from 1, for a cause
 abbrev pub IsAnswerOn : List Annotated → List ℕ → Answer → Type 0
 IsAnswerOn problem bytes (accepted count) = IsAcceptedDerivation problem bytes count
 IsAnswerOn problem bytes (refused_line number cause) = IsRefusedDerivation problem bytes number cause

@@ -1,4 +1,4 @@
--- The matrices of the worked examples, and what was made before a formula.
+-- The matrices of the worked examples, and the state before a formula.
 use Rattle.std.specs.Prelude.{ℕ, true, List, [], ◌∷◌, map}
 use Rattle.fol_base.specs.Tree.{application, no_trees}
 use Rattle.fol_base.specs.Clause.{TreeLiteral}

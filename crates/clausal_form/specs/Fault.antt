@@ -22,14 +22,14 @@ limit_fault size total =
 abbrev pub counted_in : List Literals → ℕ
 counted_in cs = length cs + symbols_in cs
 
--- The fault of a formula, where so many clauses and symbols came before it.
+-- the fault of a formula, after `counted` clauses and symbols of the formulas before it
 abbrev pub formula_fault : SymbolNumbers → Annotated → ℕ → Made → Option FormCause
 formula_fault n a counted m =
     let w : Worked = annotated_clauses n a m in
     if nat_lt MOST_EXPANDED (expanded_count (formula_of a.formula)) then Some Expansion
     else limit_fault (largest w.clauses) (counted + counted_in w.clauses + length w.made.skolem_arities)
 
--- a formula's fault with its name, or else what comes after it
+-- a formula's fault with its name, or else the fault of the formulas after it
 abbrev pub fault_or : Option FormCause → List ℕ → Option (FormCause × List ℕ) → Option (FormCause × List ℕ)
 fault_or None name rest = rest
 fault_or (Some cause) name rest = Some (cause, name)

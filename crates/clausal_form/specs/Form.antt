@@ -1,4 +1,4 @@
--- The clausal form that a value is.
+-- The clausal form that a value of the program stands for.
 use Rattle.std.specs.Prelude.{map}
 use Rattle.fol_base.specs.Literal.{clause_of}
 use Rattle.signature.specs.Form.{ClausalForm}

@@ -1,4 +1,4 @@
--- What holds of the clauses of a problem's clausal form.
+-- Laws of the clauses of a problem's clausal form.
 use Rattle.std.specs.Prelude.{◌≡◌, ◌≤◌, ℕ, ◌+◌, List, [], length, sum_by, None, option_map, unwrap_or, slice_get}
 use Rattle.std.specs.List.{AllByRecursion}
 use Rattle.tptp_tree.specs.declared.problem.Annotated.{Annotated}
@@ -30,7 +30,7 @@ FormsAreSmall =
 
 -- ---- symbols
 
--- how many arguments the symbol with a number takes
+-- the number of arguments of the symbol with a number
 abbrev pub arity_in : List Symbol → ℕ → ℕ
 arity_in symbols n = unwrap_or (option_map (λ (s : Symbol). s.arity) (slice_get symbols n)) 0
 

@@ -21,7 +21,7 @@ use Rattle.clausal_form.specs.declared.naming.Definition.{Definition}
 abbrev pub form_by_itself : List Symbol → Annotated → Skolemized
 form_by_itself known a = skolemized_form known (normal_form (closed a) (not (is_conjecture a.role)))
 
--- The clauses of a matrix with those that define names pass that limit, whatever was counted before.
+-- The clauses of a matrix, with those that define names, pass that limit, whatever was counted before.
 abbrev pub Passes : FormCause → MatrixTree → Type 0
 Passes cause x =
     (n : SymbolNumbers) (m : Made) (before after : ℕ) (cs : List Literals)

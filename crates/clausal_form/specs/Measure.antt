@@ -1,4 +1,4 @@
--- How many clauses a list has, and how large they are, in occurrences of symbols and variables.
+-- The number of clauses in a list, and their sizes in occurrences of symbols and variables.
 use Rattle.std.specs.Prelude.{ℕ, zero, suc, ◌+◌, ◌*◌, max, List, [], ◌∷◌, length, sum_by}
 use Rattle.fol_base.specs.Clause.{literal_size}
 use Rattle.signature.specs.Clausal.{Literals}
@@ -32,7 +32,7 @@ abbrev pub sum_measure : ClauseMeasure → ClauseMeasure → ClauseMeasure
 sum_measure a b =
     record { clauses = a.clauses + b.clauses; symbols = a.symbols + b.symbols; largest = max a.largest b.largest }
 
--- the largest clause of a product of that many clauses
+-- the size of the largest clause of a product, which is 0 if the product has no clauses
 abbrev pub product_largest : ℕ → ℕ → ℕ
 product_largest zero largest = 0
 product_largest (suc n) largest = largest
@@ -54,6 +54,6 @@ capped_measure a = record { clauses = a.clauses; symbols = capped a.symbols; lar
 abbrev pub measure_of : Measure → ClauseMeasure
 measure_of a = record { clauses = a.clauses; symbols = a.symbols; largest = a.largest }
 
--- what a program's measure says of clauses
+-- the program's measure of a list of clauses
 abbrev pub capped_measured : List Literals → ClauseMeasure
 capped_measured cs = capped_measure (measured cs)

@@ -1,4 +1,4 @@
--- What the program's naming is: the names that were made, and the matrices for which they stand.
+-- The state of the program's naming: the names that were made, and the matrices for which they stand.
 use Rattle.std.specs.Prelude.{◌≡◌, ⊤, ℕ, ◌<◌, List, [], ◌∷◌, map, flat_map}
 use Rattle.fol_base.specs.declared.limits.TheConstants.{MOST_SYMBOLS}
 use Rattle.signature.specs.Clausal.{SymbolNumbers, Made, Worked, Literals}
@@ -28,14 +28,14 @@ naming_numbers first = record { symbols = []; first_skolem = 0; first_naming = f
 abbrev pub IsMeasured : Measure → List Literals → Type 0
 IsMeasured a cs = measure_of a ≡ capped_measured cs
 
--- The program's clauses are those of a work from what was made before, and are measured; so are the defining ones.
+-- The program's clauses are those of the work on a formula, and are measured; so are the defining clauses.
 pub record IsWork (s : Naming) (w : Worked) (cs : List Literals) (a : Measure) : Type 0 where
   pub clauses : cs ≡ w.clauses
   pub made : naming_made s ≡ w.made
   pub measured : IsMeasured a cs
   pub defining : IsMeasured s.measure (defining_clauses s)
 
--- why naming ended before it had all of the clauses that define names: out of memory, or one of them is over the limit
+-- the cause for which naming ended before it had all clauses that define names: out of memory, or one of them is over the limit
 abbrev pub IsEnd : NamingEnd → List Literals → Type 0
 IsEnd NoMemory defining = ⊤
 IsEnd TooHeavy defining = MOST_SYMBOLS < largest defining

@@ -1,4 +1,4 @@
--- What the program has of a form after some formulas.
+-- The state of the program's work on a clausal form after some formulas.
 use Rattle.std.specs.Prelude.{◌≡◌, ⊤, ℕ, ◌+◌, nat_lt, min, List, [], ◌∷◌, ◌++◌, length, map, None, Some, if◌then◌else◌}
 use Rattle.signature.specs.declared.symbol.Symbol.{Symbol}
 use Rattle.signature.specs.Symbol.{function_symbol}
@@ -18,7 +18,7 @@ use Rattle.clausal_form.specs.declared.form.FormSoFar.{FormSoFar}
 use Rattle.fol_base.specs.declared.limits.TheConstants.{MOST_FORM_SYMBOLS}
 use Rattle.clausal_form.specs.declared.fault.TheConstants.{MOST_EXPANDED}
 
--- What was made so far: the Skolem symbols stand after the problem's, and the names are counted.
+-- The state has the symbols that were made so far: the Skolem symbols stand after the problem's, and the names are counted.
 pub record HasMade (n : SymbolNumbers) (prefix : List ℕ) (m : Made) (f : FormSoFar) : Type 0 where
   pub signature : f.signature ≡ n.symbols ++ numbered_symbols function_symbol prefix 0 m.skolem_arities
   pub skolem : n.first_skolem ≡ length n.symbols
@@ -65,7 +65,7 @@ expandable (a ∷ fs) = if nat_lt MOST_EXPANDED (expanded_count (formula_of a.fo
 abbrev pub counted_skolem : List Annotated → ℕ
 counted_skolem fs = min (problem_skolem_count (expandable fs)) MOST_FORM_SYMBOLS
 
--- those symbols, and then so many Skolem symbols
+-- the numbers of symbols with `skolem` Skolem symbols after them
 abbrev pub numbers_with : List Symbol → ℕ → SymbolNumbers
 numbers_with symbols skolem = record { symbols = symbols; first_skolem = length symbols; first_naming = length symbols + skolem }
 

@@ -22,10 +22,11 @@ renaming order v = variable (unwrap_or (place_of v order) v)
 abbrev pub canonical_renaming : TreeClause → Substitution
 canonical_renaming c = renaming (distinct (clause_variables c))
 
+-- the clause with its variables renumbered 0, 1, 2, .. by first occurrence: p(X5, X2) becomes p(X0, X1)
 abbrev pub canonical_clause : TreeClause → TreeClause
 canonical_clause c = clause_instance (canonical_renaming c) c
 
--- the numbers from the first on, that many
+-- n numbers in order: first, first + 1, ..
 abbrev pub numbers_from : ℕ → ℕ → List ℕ
 numbers_from first zero = []
 numbers_from first (suc n) = first ∷ numbers_from (suc first) n

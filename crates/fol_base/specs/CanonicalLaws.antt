@@ -11,6 +11,6 @@ CanonicalIsOwnForm = (c : TreeClause) → IsCanonical c ↔ (canonical_clause c 
 abbrev pub CanonicalFormsAreCanonical : Type 0
 CanonicalFormsAreCanonical = (c : TreeClause) → IsCanonical (canonical_clause c)
 
--- and of the same size
+-- the canonical form of a clause has the clause's size
 abbrev pub CanonicalFormsKeepSizes : Type 0
 CanonicalFormsKeepSizes = (c : TreeClause) → clause_size (canonical_clause c) ≡ clause_size c

@@ -17,48 +17,56 @@ pub record TreeClause : Type 0 where
   pub literals : List TreeLiteral
   pub names : List NameLit
 
+-- the literal with the substitution applied to both sides
 abbrev pub literal_instance : Substitution → TreeLiteral → TreeLiteral
 literal_instance σ l = record { positive = l.positive; left = instance σ l.left; right = instance σ l.right }
 
--- the names stay
+-- the clause with the substitution applied to each literal; its names stay
 abbrev pub clause_instance : Substitution → TreeClause → TreeClause
 clause_instance σ c = record { literals = map (literal_instance σ) c.literals; names = c.names }
 
--- the same sign and the same sides
+-- equal signs, equal left sides and equal right sides
 abbrev pub literal_eq : TreeLiteral → TreeLiteral → Bool
 literal_eq l k = beq l.positive k.positive && tree_eq l.left k.left && tree_eq l.right k.right
 
+-- two lists of equal length with equal literals at equal places
 abbrev pub literals_eq : List TreeLiteral → List TreeLiteral → Bool
 literals_eq [] [] = true
 literals_eq [] (k ∷ ks) = false
 literals_eq (l ∷ ls) [] = false
 literals_eq (l ∷ ls) (k ∷ ks) = literal_eq l k && literals_eq ls ks
 
+-- two lists of equal length with equal signed names at equal places
 abbrev pub names_eq : List NameLit → List NameLit → Bool
 names_eq [] [] = true
 names_eq [] (m ∷ ms) = false
 names_eq (n ∷ ns) [] = false
 names_eq (n ∷ ns) (m ∷ ms) = same_name n m && names_eq ns ms
 
--- the same literals and the same names, in the same order
+-- equal literals and equal names, each in order
 abbrev pub clause_eq : TreeClause → TreeClause → Bool
 clause_eq c d = literals_eq c.literals d.literals && names_eq c.names d.names
 
+-- the occurrences of symbols and variables in both sides: f(X0) = a has size 3
 abbrev pub literal_size : TreeLiteral → ℕ
 literal_size l = tree_size l.left + tree_size l.right
 
--- names count nothing
+-- the sizes of all literals together; names count nothing
 abbrev pub clause_size : TreeClause → ℕ
 clause_size c = sum_by literal_size c.literals
 
+-- the variables of the left side, then those of the right side, with repetitions
 abbrev pub literal_variables : TreeLiteral → List ℕ
 literal_variables l = tree_variables l.left ++ tree_variables l.right
 
+-- the variables of all literals in order, with repetitions
 abbrev pub clause_variables : TreeClause → List ℕ
 clause_variables c = flat_map literal_variables c.literals
 
+-- each variable of both sides has a number below n
 abbrev pub LiteralVariablesBelow : ℕ → TreeLiteral → Type 0
 LiteralVariablesBelow n l = VariablesBelow n l.left × VariablesBelow n l.right
 
+-- each variable of all literals has a number below n
 abbrev pub ClauseVariablesBelow : ℕ → TreeClause → Type 0
 ClauseVariablesBelow n c = All (LiteralVariablesBelow n) c.literals

@@ -1,4 +1,4 @@
--- Compatible trees: what an index that looks at heads alone can tell of unifiable trees, generalisations and instances (McCune 1992).
+-- Compatible trees: those that an index by heads alone can't tell from unifiable trees, generalisations and instances (McCune 1992).
 use Rattle.std.specs.Prelude.{Bool, true, false, ◌&&◌, ◌||◌, ◌==◌}
 use Rattle.fol_base.specs.Tree.{Tree, variable, application, Trees, no_trees, tree_then}
 

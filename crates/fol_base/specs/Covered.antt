@@ -1,4 +1,4 @@
--- Coverage: redundancy of ground clauses (Bachmair and Ganzinger 1994), with the clause itself as the bound of what covers it.
+-- Coverage: redundancy of ground clauses (Bachmair and Ganzinger 1994), where the covering instances may be as great as the clause.
 use Rattle.std.specs.Prelude.{◌≡◌, ℕ, Bool, false, List, All, Contains, IsTrue}
 use Rattle.fol_base.specs.Clause.{TreeClause}
 use Rattle.fol_base.specs.Ground.{GroundClause, GroundInstance, is_ground_clause}
@@ -19,7 +19,7 @@ pub record Covered {is_predicate : ℕ → Bool} (functions : FunctionSymbols is
   pub none_greater : All (λ g. clause_greater g c ≡ false) by
   pub entailed : Entails is_predicate by c
 
--- by the clauses of a list
+-- a ground clause is covered by the clauses of a list
 abbrev pub Covers : {is_predicate : ℕ → Bool} → FunctionSymbols is_predicate → List TreeClause → GroundClause → Type 0
 Covers functions cs c = Covered functions (Contains cs) c
 
@@ -31,13 +31,13 @@ CoversInstances =
     (is_predicate : ℕ → Bool) (functions : FunctionSymbols is_predicate) (cs : List TreeClause) (c : TreeClause) (g : GroundClause)
     → Contains cs c → GroundInstance functions c g → Covers functions cs g
 
--- a list that has all members of another covers what the other does
+-- a list that has all members of another covers each clause that the other covers
 abbrev pub CoversMore : Type 0
 CoversMore =
     (is_predicate : ℕ → Bool) (functions : FunctionSymbols is_predicate) (cs ds : List TreeClause) (c : GroundClause)
     → All (Contains ds) cs → Covers functions cs c → Covers functions ds c
 
--- what is covered by clauses whose ground instances are covered is covered
+-- a list covers each clause that is covered by clauses whose ground instances the list covers
 abbrev pub CoversAcross : Type 0
 CoversAcross =
     (is_predicate : ℕ → Bool) (functions : FunctionSymbols is_predicate) (cs ds : List TreeClause) (c : GroundClause)

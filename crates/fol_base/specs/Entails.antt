@@ -19,19 +19,19 @@ IsRefuted is_predicate cs = (i : Interpretation) → IsInterpretation is_predica
 abbrev pub EntailsMembers : Type 0
 EntailsMembers = (is_predicate : ℕ → Bool) (cs : List GroundClause) (c : GroundClause) → Contains cs c → Entails is_predicate cs c
 
--- a list that has all members of another entails what the other does
+-- a list that has all members of another entails each clause that the other entails
 abbrev pub EntailsMonotone : Type 0
 EntailsMonotone =
     (is_predicate : ℕ → Bool) (cs ds : List GroundClause) (c : GroundClause)
     → All (Contains ds) cs → Entails is_predicate cs c → Entails is_predicate ds c
 
--- what is entailed by entailed clauses is entailed
+-- a clause that entailed clauses entail is entailed
 abbrev pub EntailsCut : Type 0
 EntailsCut =
     (is_predicate : ℕ → Bool) (cs ds : List GroundClause) (c : GroundClause)
     → All (Entails is_predicate cs) ds → Entails is_predicate ds c → Entails is_predicate cs c
 
--- the empty clause is entailed exactly by what is refuted
+-- a list entails the empty clause exactly where it is refuted
 abbrev pub EmptyClauseEntailed : Type 0
 EmptyClauseEntailed =
     (is_predicate : ℕ → Bool) (cs : List GroundClause) → Entails is_predicate cs [] ↔ IsRefuted is_predicate cs

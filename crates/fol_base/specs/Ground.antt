@@ -10,7 +10,7 @@ use Rattle.fol_base.specs.Clause.{TreeLiteral, TreeClause, literal_instance}
 abbrev pub has_symbol : List FunctionSymbol → ℕ → ℕ → Bool
 has_symbol functions f arity = list_any (λ s. (s.number == f) && (s.arity == arity)) functions
 
--- no variables
+-- the tree, or each tree of the list, has no variables
 abbrev mutual
   pub is_ground : Tree → Bool
   is_ground (variable v) = false
@@ -30,6 +30,7 @@ abbrev mutual
   are_over functions no_trees = true
   are_over functions (tree_then t ts) = is_over functions t && are_over functions ts
 
+-- a ground tree of the list's symbols alone: a member of the Herbrand universe over them
 abbrev pub ground_over : List FunctionSymbol → Tree → Bool
 ground_over functions t = is_ground t && is_over functions t
 
@@ -41,9 +42,11 @@ IsGroundOver functions σ = (v : ℕ) → IsTrue (ground_over functions.symbols 
 abbrev pub GroundClause : Type 0
 GroundClause = List TreeLiteral
 
+-- neither side has variables
 abbrev pub is_ground_literal : TreeLiteral → Bool
 is_ground_literal l = is_ground l.left && is_ground l.right
 
+-- no literal has variables
 abbrev pub is_ground_clause : GroundClause → Bool
 is_ground_clause c = list_all is_ground_literal c
 

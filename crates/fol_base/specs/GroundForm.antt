@@ -14,10 +14,11 @@ is_ground_atom (application f ts) = not (f == true_symbol) && are_ground ts
 abbrev pub is_atom_literal : TreeLiteral → Bool
 is_atom_literal l = is_ground_atom l.left && is_truth l.right
 
--- ground literals of predicates alone, and no names
+-- ground literals of predicates alone, and no names of split-off parts
 abbrev pub IsGroundClause : TreeClause → Type 0
 IsGroundClause c = (c.names ≡ []) × IsTrue (list_all is_atom_literal c.literals)
 
+-- each clause of the list is such a clause
 abbrev pub IsGroundForm : List TreeClause → Type 0
 IsGroundForm cs = All IsGroundClause cs
 

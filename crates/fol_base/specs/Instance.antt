@@ -2,10 +2,11 @@
 use Rattle.std.specs.Prelude.{ℕ, List, slice_index_or}
 use Rattle.fol_base.specs.Tree.{Tree, variable, application, Trees, no_trees, tree_then}
 
--- what stands for each variable
+-- the tree that stands for each variable, by the variable's number
 abbrev pub Substitution : Type 0
 Substitution = ℕ → Tree
 
+-- the tree, or each tree of the list, with every variable replaced by its tree under σ
 abbrev mutual
   pub instance : Substitution → Tree → Tree
   instance σ (variable v) = σ v

@@ -39,14 +39,14 @@ abbrev pub ClauseInstancesOfInstances : Type 0
 ClauseInstancesOfInstances =
     (σ τ : Substitution) (c : TreeClause) → clause_instance σ (clause_instance τ c) ≡ clause_instance (after σ τ) c
 
--- a ground instance of an instance is one of the clause, where what was put in for its variables is over the list
+-- a ground instance of an instance is one of the clause, where the trees put in for its variables are over the list
 abbrev pub GroundInstancesOfInstances : Type 0
 GroundInstancesOfInstances =
     (is_predicate : ℕ → Bool) (functions : FunctionSymbols is_predicate) (τ : Substitution) (c : TreeClause) (g : GroundClause)
     → All (λ v. IsTrue (is_over functions.symbols (τ v))) (clause_variables c)
     → GroundInstance functions (clause_instance τ c) g → GroundInstance functions c g
 
--- what is put in for other variables doesn't count
+-- two substitutions that agree on the variables of a tree give it one instance
 abbrev pub InstancesAgree : Type 0
 InstancesAgree =
     (σ τ : Substitution) (t : Tree) → All (λ v. σ v ≡ τ v) (tree_variables t) → instance σ t ≡ instance τ t
@@ -56,7 +56,7 @@ InstancesAgreeBelow =
     (n : ℕ) (σ τ : Substitution) (t : Tree)
     → VariablesBelow n t → ((v : ℕ) → v < n → σ v ≡ τ v) → instance σ t ≡ instance τ t
 
--- the size of an instance: the symbols, and for each occurrence of a variable the size of what is put in
+-- the size of an instance: the symbols, and for each occurrence of a variable the size of the tree put in
 abbrev pub SizesOfInstances : Type 0
 SizesOfInstances =
     (σ : Substitution) (t : Tree) → tree_size (instance σ t) ≡ tree_symbols t + sum_by (λ v. tree_size (σ v)) (tree_variables t)
@@ -66,7 +66,7 @@ SizesOfClauseInstances =
     (σ : Substitution) (c : TreeClause)
     → clause_size (clause_instance σ c) ≡ clause_symbols c + sum_by (λ v. tree_size (σ v)) (clause_variables c)
 
--- the variables of an instance are those of what is put in, in order, and so are their counts
+-- the variables of an instance are those of the trees put in, in order, and so are their counts
 abbrev pub VariablesOfInstances : Type 0
 VariablesOfInstances =
     (σ : Substitution) (t : Tree) → tree_variables (instance σ t) ≡ flat_map (λ v. tree_variables (σ v)) (tree_variables t)
@@ -88,8 +88,8 @@ ReplacementsInInstances =
     (σ : Substitution) (place : List ℕ) (new t made : Tree)
     → replaced place new t ≡ Some made → replaced place (instance σ new) (instance σ t) ≡ Some (instance σ made)
 
--- A place of an instance is one of the term, with the instance of what stands there; or it is at a variable's place, or below one,
--- and goes on in what is put in for the variable.
+-- A place of an instance is a place of the tree, with the instance of the subterm there; or it is at a variable's place, or below
+-- one, and goes on in the tree put in for the variable.
 pub record BelowVariable (σ : Substitution) (place : List ℕ) (t : Tree) (u : Tree) : Type 0 where
   pub above : List ℕ
   pub below : List ℕ

@@ -8,7 +8,7 @@ use Rattle.fol_base.specs.Place.{subterm, replaced}
 use Rattle.fol_base.specs.Clause.{TreeLiteral, TreeClause}
 use Rattle.fol_base.specs.Ground.{GroundClause, is_ground_clause, literals_instance}
 
--- one entry of a table: what the symbol gives at these arguments
+-- one entry of a table: the value of the symbol at these arguments
 pub record Row : Type 0 where
   pub symbol : ℕ
   pub arguments : List ℕ
@@ -28,6 +28,7 @@ pub record IsInterpretation (is_predicate : ℕ → Bool) (i : Interpretation) :
   pub has_value : 1 ≤ i.size
   pub rows_in_range : IsTrue (list_all (row_in_range is_predicate i.size) i.rows)
 
+-- whether the row is the table's entry for the symbol f at these argument values
 abbrev pub is_row_of : ℕ → List ℕ → Row → Bool
 is_row_of f values r = (r.symbol == f) && pointwise ◌==◌ r.arguments values
 
@@ -44,6 +45,7 @@ symbol_value i f values = if f == true_symbol then 1 else table_value i.rows f v
 abbrev pub Assignment : Type 0
 Assignment = ℕ → ℕ
 
+-- the value of a tree, or the values of a list of trees, where the variables have the values of ρ
 abbrev mutual
   pub tree_value : Interpretation → Assignment → Tree → ℕ
   tree_value i ρ (variable v) = ρ v
@@ -57,10 +59,11 @@ abbrev mutual
 abbrev pub sides_true : Bool → ℕ → ℕ → Bool
 sides_true positive v w = if positive then v == w else not (v == w)
 
+-- the truth of a literal where its variables have the values of ρ
 abbrev pub literal_true_under : Interpretation → Assignment → TreeLiteral → Bool
 literal_true_under i ρ l = sides_true l.positive (tree_value i ρ l.left) (tree_value i ρ l.right)
 
--- a clause is true where one of its literals is
+-- the truth of a clause where its variables have the values of ρ: one of its literals is true
 abbrev pub literals_true_under : Interpretation → Assignment → List TreeLiteral → Bool
 literals_true_under i ρ ls = list_any (literal_true_under i ρ) ls
 
@@ -72,13 +75,15 @@ HasValues i ρ = (v : ℕ) → ρ v < i.size
 abbrev pub HoldsIn : Interpretation → TreeClause → Type 0
 HoldsIn i c = (ρ : Assignment) → HasValues i ρ → IsTrue (literals_true_under i ρ c.literals)
 
--- ground literals and clauses have no variables, so they need no values for them
+-- the assignment used for ground literals and clauses: they have no variables, so any would do
 abbrev pub no_values : Assignment
 no_values v = 0
 
+-- the truth of a ground literal
 abbrev pub literal_true : Interpretation → TreeLiteral → Bool
 literal_true i l = literal_true_under i no_values l
 
+-- the truth of a ground clause: one of its literals is true
 abbrev pub clause_true : Interpretation → GroundClause → Bool
 clause_true i c = literals_true_under i no_values c
 
@@ -95,13 +100,13 @@ CongruenceOfValues =
     → subterm place whole ≡ Some old → replaced place new whole ≡ Some made → tree_value i ρ new ≡ tree_value i ρ old
     → tree_value i ρ made ≡ tree_value i ρ whole
 
--- the value of an instance is that of the tree, where each variable has the value of what is put in
+-- the value of an instance is that of the tree, where each variable has the value of the tree put in for it
 abbrev pub ValuesOfInstances : Type 0
 ValuesOfInstances =
     (i : Interpretation) (ρ : Assignment) (σ : Substitution) (t : Tree)
     → tree_value i ρ (instance σ t) ≡ tree_value i (λ v. tree_value i ρ (σ v)) t
 
--- so is the truth of literals
+-- the truth of an instance's literals is that of the literals, where each variable has the value of the tree put in for it
 abbrev pub TruthOfInstances : Type 0
 TruthOfInstances =
     (i : Interpretation) (ρ : Assignment) (σ : Substitution) (ls : List TreeLiteral)

@@ -3,14 +3,14 @@ use Rattle.std.specs.Prelude.{◌≡◌, ℕ, ◌<◌, ◌≤◌, Bool, not, ◌
 use Rattle.std.specs.Cmp.{IsEquivalence}
 use Rattle.std.specs.List.{list_any, list_all}
 
--- what two things are to each other
+-- the outcomes of a comparison in a partial order
 pub data Comparison : Type 0 where
   greater : Comparison
   less : Comparison
   equal : Comparison
   unordered : Comparison
 
--- by a test of sameness and a test of being greater
+-- the outcome for x and y, by a test of equality and a test of being greater
 abbrev pub compared : {X : Type 0} → (X → X → Bool) → (X → X → Bool) → X → X → Comparison
 compared same exceeds x y =
     if same x y then equal else (if exceeds x y then greater else (if exceeds y x then less else unordered))
@@ -35,7 +35,7 @@ outdone same exceeds xs ys y = not (more_often same ys xs y) || list_any (λ x. 
 abbrev pub multiset_greater : {X : Type 0} → (X → X → Bool) → (X → X → Bool) → List X → List X → Bool
 multiset_greater same exceeds xs ys = not (same_multiset same xs ys) && list_all (outdone same exceeds xs ys) ys
 
--- ---- the same as types, for proofs
+-- ---- these tests as types, for proofs
 
 abbrev pub SameMultiset : {X : Type 0} → (X → X → Bool) → List X → List X → Type 0
 SameMultiset same xs ys = All (λ z. times same z xs ≡ times same z ys) (xs ++ ys)
@@ -53,7 +53,7 @@ pub record MultisetGreater {X : Type 0} (same : X → X → Bool) (exceeds : X �
 
 -- ---- total orders
 
--- Exceeding is a total order, up to sameness, on the elements within.
+-- `exceeds` is a total order, up to the equality `same`, on the elements that satisfy `Within`.
 pub record IsTotalOrderOn {X : Type 0} (same : X → X → Bool) (exceeds : X → X → Bool) (Within : X → Type 0) : Type 0 where
   pub is_equivalence : IsEquivalence same
   pub same_left : (x y z : X) → Within x → Within y → Within z → IsTrue (same x y) → IsTrue (exceeds x z) → IsTrue (exceeds y z)

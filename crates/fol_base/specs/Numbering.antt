@@ -11,7 +11,7 @@ use Rattle.fol_base.specs.declared.numbering.TheConstants.{SCANNED}
 abbrev pub with_variable : List ℕ → ℕ → List ℕ
 with_variable order v = if is_some (place_of v order) then order else order ++ v ∷ []
 
--- and several, one after another
+-- the list after several variables were met, one after another
 abbrev pub with_variables : List ℕ → List ℕ → List ℕ
 with_variables order vs = fold with_variable order vs
 

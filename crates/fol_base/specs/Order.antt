@@ -18,7 +18,7 @@ occurrences v t = times ◌==◌ v (tree_variables t)
 abbrev pub has_variables_of : Tree → Tree → Bool
 has_variables_of s t = list_all (λ v. nat_le (occurrences v t) (occurrences v s)) (tree_variables t)
 
--- the variable condition, and the greater size or, at equal sizes, what decides then
+-- s exceeds t: the variable condition holds, and s has the greater size, or the sizes are equal and the tie is decided for s
 abbrev pub exceeds_by_size : Tree → Tree → Bool → Bool
 exceeds_by_size s t tie =
     has_variables_of s t && (nat_lt (tree_size t) (tree_size s) || ((tree_size s == tree_size t) && tie))
@@ -37,6 +37,7 @@ abbrev mutual
   trees_greater (tree_then t ts) no_trees = false
   trees_greater (tree_then t ts) (tree_then u us) = tree_greater t u || (tree_eq t u && trees_greater ts us)
 
+-- two trees compared by the order
 abbrev pub compare_trees : Tree → Tree → Comparison
 compare_trees s t = compared tree_eq tree_greater s t
 
@@ -45,29 +46,33 @@ abbrev pub sides_multiset : TreeLiteral → List Tree
 sides_multiset l =
     if l.positive then (l.left ∷ l.right ∷ []) else (l.left ∷ l.left ∷ l.right ∷ l.right ∷ [])
 
--- the same sign, and the same sides in either order
+-- equal signs, and equal sides in either order
 abbrev pub equivalent_literals : TreeLiteral → TreeLiteral → Bool
 equivalent_literals l m =
     beq l.positive m.positive
     && ((tree_eq l.left m.left && tree_eq l.right m.right) || (tree_eq l.left m.right && tree_eq l.right m.left))
 
+-- the order on literals: the multiset extension of the order on trees, on the multisets of their sides
 abbrev pub literal_greater : TreeLiteral → TreeLiteral → Bool
 literal_greater l m = multiset_greater tree_eq tree_greater (sides_multiset l) (sides_multiset m)
 
+-- two literals compared by the order
 abbrev pub compare_literals : TreeLiteral → TreeLiteral → Comparison
 compare_literals l m = compared equivalent_literals literal_greater l m
 
--- a clause is the multiset of its literals
+-- two clauses that are equal as multisets of literals
 abbrev pub equivalent_clauses : List TreeLiteral → List TreeLiteral → Bool
 equivalent_clauses c d = same_multiset equivalent_literals c d
 
+-- the order on clauses: the multiset extension of the order on literals
 abbrev pub clause_greater : List TreeLiteral → List TreeLiteral → Bool
 clause_greater c d = multiset_greater equivalent_literals literal_greater c d
 
+-- two clauses compared by the order
 abbrev pub compare_clauses : List TreeLiteral → List TreeLiteral → Comparison
 compare_clauses c d = compared equivalent_clauses clause_greater c d
 
--- ---- the same as types, for proofs
+-- ---- these tests as types, for proofs
 
 abbrev pub HasVariablesOf : Tree → Tree → Type 0
 HasVariablesOf s t = (v : ℕ) → occurrences v t ≤ occurrences v s
@@ -99,7 +104,7 @@ ClauseGreater c d = MultisetGreater equivalent_literals literal_greater c d
 abbrev pub TreeEqualityDecided : Type 0
 TreeEqualityDecided = (t u : Tree) → Decides (tree_eq t u) (t ≡ u)
 
--- each test says what the type does
+-- each test agrees with its type
 abbrev pub TreeGreaterDecided : Type 0
 TreeGreaterDecided = (s t : Tree) → Decides (tree_greater s t) (TreeGreater s t)
 
@@ -109,7 +114,7 @@ LiteralGreaterDecided = (l m : TreeLiteral) → Decides (literal_greater l m) (L
 abbrev pub ClauseGreaterDecided : Type 0
 ClauseGreaterDecided = (c d : List TreeLiteral) → Decides (clause_greater c d) (ClauseGreater c d)
 
--- trees, literals and clauses that are the same for the order
+-- to be equal in the order is an equivalence of trees, of literals and of clauses
 abbrev pub TreesEquivalence : Type 0
 TreesEquivalence = IsEquivalence tree_eq
 
@@ -119,7 +124,7 @@ LiteralsEquivalence = IsEquivalence equivalent_literals
 abbrev pub ClausesEquivalence : Type 0
 ClausesEquivalence = IsEquivalence equivalent_clauses
 
--- clauses are the same exactly where each literal, listed or not, stands in both equally often
+-- clauses are equal in the order exactly where each literal, listed or not, stands in both equally often
 abbrev pub ClausesCounted : Type 0
 ClausesCounted =
     (c d : List TreeLiteral)
@@ -135,7 +140,7 @@ LiteralsTotallyOrdered = IsTotalOrderOn equivalent_literals literal_greater (λ 
 abbrev pub ClausesTotallyOrdered : Type 0
 ClausesTotallyOrdered = IsTotalOrderOn equivalent_clauses clause_greater (λ c. IsTrue (is_ground_clause c))
 
--- so "not greater" is transitive on them
+-- "not greater" is transitive on ground clauses
 abbrev pub NotGreaterIsTransitive : Type 0
 NotGreaterIsTransitive =
     (b c d : GroundClause)

@@ -2,12 +2,12 @@
 use Rattle.std.specs.Prelude.{ℕ, Option, None, Some, List, [], ◌∷◌, slice_get, slice_set, option_and_then, option_map}
 use Rattle.fol_base.specs.Tree.{Tree, variable, application, list_of, trees_of}
 
--- the argument with that number
+-- the argument number i of a tree, from 0; none where it has no such argument
 abbrev pub argument : ℕ → Tree → Option Tree
 argument i (variable v) = None
 argument i (application f ts) = slice_get (list_of ts) i
 
--- the tree with that argument exchanged
+-- the tree with its argument number i replaced
 abbrev pub with_argument : ℕ → Tree → Tree → Tree
 with_argument i new (variable v) = variable v
 with_argument i new (application f ts) = application f (trees_of (slice_set (list_of ts) i new))

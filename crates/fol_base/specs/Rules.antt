@@ -53,7 +53,7 @@ factored ls i side_i j side_j =
     (slice_get ls j))
     (slice_get ls i)
 
--- merging: of two different literals that are the same, sides in either order, the second goes
+-- merging: of two literals at different places that are equal, sides in either order, the second goes
 abbrev pub merged : List TreeLiteral → ℕ → ℕ → Option (List TreeLiteral)
 merged ls i j =
     if i == j

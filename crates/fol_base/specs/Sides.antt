@@ -4,10 +4,12 @@ use Rattle.fol_base.specs.Clause.{TreeLiteral}
 use Rattle.fol_base.specs.declared.clause.Side.{Side}
 use Rattle.fol_base.specs.declared.clause.Side.TheVariants.{Left, Right}
 
+-- the named side of a literal
 abbrev pub side_of : Side → TreeLiteral → Tree
 side_of Left l = l.left
 side_of Right l = l.right
 
+-- the side opposite to the named one
 abbrev pub other_side_of : Side → TreeLiteral → Tree
 other_side_of Left l = l.right
 other_side_of Right l = l.left

@@ -1,6 +1,8 @@
 -- First-order terms as trees: a variable, or a symbol applied to a list of trees; and `$true`.
 use Rattle.std.specs.Prelude.{ℕ, ◌+◌, ◌<◌, Bool, true, false, ◌&&◌, ◌==◌, List, [], ◌∷◌, ◌++◌}
 
+-- A tree is a variable, by its number, or a symbol, by its number, applied to a list of trees: f(X0, a) is
+-- `application f (tree_then (variable 0) (tree_then (application a no_trees) no_trees))`.
 mutual
   pub data Tree : Type 0 where
     variable : ℕ → Tree
@@ -25,11 +27,12 @@ abbrev pub trees_count : Trees → ℕ
 trees_count no_trees = 0
 trees_count (tree_then t ts) = 1 + trees_count ts
 
+-- whether the whole tree is a variable
 abbrev pub is_variable : Tree → Bool
 is_variable (variable v) = true
 is_variable (application f ts) = false
 
--- the occurrences of symbols and variables
+-- how many occurrences of symbols and variables there are: 3 in f(X0, a)
 abbrev mutual
   pub tree_size : Tree → ℕ
   tree_size (variable v) = 1
@@ -39,7 +42,7 @@ abbrev mutual
   trees_size no_trees = 0
   trees_size (tree_then t ts) = tree_size t + trees_size ts
 
--- the same tree
+-- whether two trees, or two lists of trees, are equal
 abbrev mutual
   pub tree_eq : Tree → Tree → Bool
   tree_eq (variable v) (variable w) = v == w
@@ -79,6 +82,7 @@ abbrev mutual
 abbrev pub true_symbol : ℕ
 true_symbol = 0
 
+-- `$true`: the reserved symbol without arguments
 abbrev pub true_tree : Tree
 true_tree = application true_symbol no_trees
 

@@ -7,17 +7,18 @@ use Rattle.fol_base.specs.Instance.{Substitution, instance}
 abbrev pub IsUnifier : Tree → Tree → Substitution → Type 0
 IsUnifier s t σ = instance σ s ≡ instance σ t
 
--- and every substitution that does is "another after σ"
+-- a unifier σ such that each unifier of the two trees is σ followed by some substitution
 pub record IsMostGeneralUnifier (s : Tree) (t : Tree) (σ : Substitution) : Type 0 where
   pub unifies : IsUnifier s t σ
   pub is_general :
       (ρ : Substitution) → IsUnifier s t ρ
       → (then_by : Substitution) × ((v : ℕ) → ρ v ≡ instance then_by (σ v))
 
--- the same where the variables of the two trees are different ones, whatever their numbers: a substitution for each tree
+-- a unifier of two trees that share no variables, whatever the variables' numbers: a substitution for each tree
 abbrev pub IsUnifierApart : Tree → Tree → Substitution → Substitution → Type 0
 IsUnifierApart s t σ τ = instance σ s ≡ instance τ t
 
+-- a unifier of such trees from which each other follows by some substitution
 pub record IsMostGeneralUnifierApart (s : Tree) (t : Tree) (σ : Substitution) (τ : Substitution) : Type 0 where
   pub unifies : IsUnifierApart s t σ τ
   pub is_general :

@@ -1,4 +1,4 @@
--- Well-formed clauses: what every call may rely on in all that it is handed at once.
+-- Well-formed clauses: the condition that all clauses of one call meet together.
 use Rattle.std.specs.Prelude.{◌≡◌, ℕ, Bool, true, ◌&&◌, ◌||◌, ◌==◌, List, Some, IsTrue}
 use Rattle.std.specs.List.{list_all}
 use Rattle.fol_base.specs.Tree.{Tree, variable, application, Trees, no_trees, tree_then, trees_count, is_truth}
@@ -32,6 +32,7 @@ abbrev pub is_literal_of : SymbolUse → TreeLiteral → Bool
 is_literal_of usage l =
     is_literal usage.is_predicate l && (has_arities usage.arity l.left && has_arities usage.arity l.right)
 
+-- each literal of the list is such a literal
 abbrev pub are_literals_of : SymbolUse → List TreeLiteral → Bool
 are_literals_of usage ls = list_all (is_literal_of usage) ls
 
@@ -53,7 +54,7 @@ pub record WellFormed (cs : List TreeClause) : Type 0 where
 abbrev pub PutsFunctionTermsOf : SymbolUse → Substitution → Type 0
 PutsFunctionTermsOf usage σ = (v : ℕ) → IsTrue (is_function_term usage.is_predicate (σ v) && has_arities usage.arity (σ v))
 
--- ---- laws: what stands in well-formed literals, and what the rules make of them, is well-formed
+-- ---- laws: the sides and instances of well-formed literals, and the rules' conclusions from them, are well-formed
 
 -- the sides of a literal
 abbrev pub WellFormedSides : Type 0

@@ -1,6 +1,6 @@
 // Limits of clauses and terms, in occurrences of symbols and variables.
 
-/// The most symbols of a clause: of an input clause, of a conclusion, and of a premise under its unifier. What is larger is set aside.
+/// The most symbols of a clause: of an input clause, of a conclusion, and of a premise under its unifier. Larger clauses are set aside.
 pub const MOST_SYMBOLS: u64 = 4_000;
 
 /// The most symbols of a parent under its binding in a derivation.

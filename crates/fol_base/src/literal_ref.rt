@@ -1,4 +1,4 @@
-// Borrowed literals: what looks at a literal takes its sign and its two sides, wherever they stand.
+// Borrowed literals: a sign and two borrowed sides, of a clause of trees or of a clause of the bank.
 
 ghost use mathlib.Core.Bool.{beq};
 ghost use Rattle.std.specs.Prelude.{◌≡◌, ◌≤◌, ◌-◌, ◌^◌, min, IfOk};
@@ -85,7 +85,7 @@ impl<'a> LiteralRef<'a> {
     }
 }
 
-/// Whether two literals have the same sign, the same left side and the same right side.
+/// Whether two literals have equal signs, equal left sides and equal right sides.
 pub fn same_literal(left: LiteralRef<'_>, right: LiteralRef<'_>) -> bool
     ensures { result ≡ literal_eq (lent_of left.entry) (lent_of right.entry) }
 {
@@ -94,7 +94,7 @@ pub fn same_literal(left: LiteralRef<'_>, right: LiteralRef<'_>) -> bool
         && same_term(left.right, right.right)
 }
 
-/// Whether two literals have the same sign and the same sides, in either order.
+/// Whether two literals have equal signs, and equal sides in either order.
 pub fn equivalent_literals(left: LiteralRef<'_>, right: LiteralRef<'_>) -> bool
     ensures { result ≡ equivalent_literals (lent_of left.entry) (lent_of right.entry) }
 {

@@ -4,11 +4,11 @@ use Rattle.plain_types.specs.Capped.{capped}
 use Rattle.formula_nnf.specs.declared.clauses.Count.{Count}
 use Rattle.formula_nnf.specs.ClauseCount.{ClauseCount}
 
--- the count that the program's is
+-- the count that the program's `Count` stands for
 abbrev pub count_of : Count → ClauseCount
 count_of k = record { clauses = k.clauses; defining = k.defining }
 
--- each of the two stops there
+-- a count of which each number stops at u64's last value
 abbrev pub capped_count : ClauseCount → ClauseCount
 capped_count c = record { clauses = capped c.clauses; defining = capped c.defining }
 

@@ -1,4 +1,4 @@
--- How many clauses the work on a formula gives, and how many that define names, counted without making them.
+-- The number of clauses that a formula gives, and of those that define names, counted without making them.
 use Rattle.std.specs.Prelude.{ℕ, ◌+◌, ◌*◌, min, max, Bool, true, false, not, if◌then◌else◌}
 use Rattle.signature.specs.Clausal.{is_large_count}
 use Rattle.tptp_tree.specs.Formula.{implies, implied, equivalent, different, nor, nand, FormulaTree, truth, falsity, predicate, equation, negation, conjunction, disjunction, connected, quantified, FormulaTrees, no_formulas, formula_then}
@@ -19,12 +19,15 @@ product_count a b =
     record { clauses = min a.clauses b.clauses; defining = (a.defining + b.defining) + max a.clauses b.clauses }
     else record { clauses = a.clauses * b.clauses; defining = a.defining + b.defining }
 
+-- the count of two lists one after the other (`listed`), or of their product
 abbrev pub joined_count : Bool → ClauseCount → ClauseCount → ClauseCount
 joined_count listed a b = if listed then sum_count a b else product_count a b
 
+-- n clauses, and none that define names
 abbrev pub plain_count : ℕ → ClauseCount
 plain_count n = record { clauses = n; defining = 0 }
 
+-- the count of a truth value: no clause for true, the empty one for false
 abbrev pub constant_count : Bool → ClauseCount
 constant_count true = plain_count 0
 constant_count false = plain_count 1
@@ -56,7 +59,7 @@ abbrev mutual
   listed_counts no_formulas sign = plain_count 0
   listed_counts (formula_then f fs) sign = sum_count (clause_counts f sign) (listed_counts fs sign)
 
-  -- the product with what is there, from left to right
+  -- the count of the product of the clauses at hand with those of each formula, from left to right
   pub product_counts : ClauseCount → FormulaTrees → Bool → ClauseCount
   product_counts a no_formulas sign = a
   product_counts a (formula_then f fs) sign = product_counts (product_count a (clause_counts f sign)) fs sign

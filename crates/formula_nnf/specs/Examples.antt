@@ -9,12 +9,12 @@ p = predicate (codes "p") no_terms
 abbrev pub q : FormulaTree
 q = predicate (codes "q") no_terms
 
--- that many equivalences, each in the next
+-- n equivalences, each in the next
 abbrev pub nested : ℕ → FormulaTree
 nested zero = p
 nested (suc n) = connected equivalent (nested n) p
 
--- that many conjunctions of p and q
+-- n conjunctions of p and q
 abbrev pub pairs : ℕ → FormulaTrees
 pairs zero = no_formulas
 pairs (suc n) = formula_then (conjunction (formula_then p (formula_then q no_formulas))) (pairs n)

@@ -4,6 +4,7 @@ use Rattle.std.specs.Prelude.{Bool, true, false, not}
 use mathlib.Core.Bool.{beq}
 use Rattle.tptp_tree.specs.Formula.{implies, implied, equivalent, different, nor, nand, Quantifier, for_all, exists_some, FormulaTree, truth, falsity, predicate, equation, negation, conjunction, disjunction, connected, quantified, FormulaTrees, no_formulas, formula_then, with_sign}
 
+-- the truth value under a sign
 abbrev pub constant_form : Bool → FormulaTree
 constant_form true = truth
 constant_form false = falsity
@@ -13,9 +14,11 @@ abbrev pub list_form : Bool → FormulaTrees → FormulaTree
 list_form true fs = conjunction fs
 list_form false fs = disjunction fs
 
+-- the conjunction (`all`), or else the disjunction, of two formulas
 abbrev pub pair_form : Bool → FormulaTree → FormulaTree → FormulaTree
 pair_form all f g = list_form all (formula_then f (formula_then g no_formulas))
 
+-- the quantifier under a sign: under the sign - `!` becomes `?` and `?` becomes `!`
 abbrev pub quantifier_form : Bool → Quantifier → Quantifier
 quantifier_form true q = q
 quantifier_form false for_all = exists_some

@@ -5,7 +5,8 @@ use Rattle.signature.specs.Environment.{Environment}
 use Rattle.signature.specs.Clausal.{SymbolNumbers, Made, clauses_of}
 use Rattle.formula_nnf.specs.NormalForm.{normal_form}
 
--- The work on a normal form gives the clauses of the formula, and makes the same.
+-- The work on a normal form gives the clauses of the formula, and makes the symbols and defining
+-- clauses of the formula.
 abbrev pub NormalFormKeepsClauses : Type 0
 NormalFormKeepsClauses =
     (n : SymbolNumbers) (f : FormulaTree) (sign : Bool) (env : Environment) (m : Made)

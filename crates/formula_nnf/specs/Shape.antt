@@ -1,4 +1,4 @@
--- What the program's normal forms are: formulas in which negation stands before predicates alone.
+-- The program's normal forms as formulas, in which negation stands before predicates alone.
 use Rattle.tptp_tree.specs.Term.{terms_of}
 use Rattle.tptp_tree.specs.Shape.{term_of}
 use Rattle.tptp_tree.specs.Formula.{for_all, exists_some, FormulaTree, truth, falsity, predicate, equation, with_sign, conjunction, disjunction, quantified, formulas_of}

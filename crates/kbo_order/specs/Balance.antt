@@ -1,4 +1,4 @@
--- What a walk down two terms has met more often on one side than on the other.
+-- The balance of a walk down two terms: the symbols and variables that it has met more often on one side than on the other.
 use Rattle.std.specs.Prelude.{◌≡◌, ℕ, ◌+◌, ◌^◌, ◌<◌, ◌≤◌, ◌==◌, ◌⊎◌, Bool, true, false, nat_lt, if◌then◌else◌, List, [], slice_index, length, sum_by}
 use Rattle.fol_base.specs.Tree.{Trees, trees_size, trees_variables}
 use Rattle.fol_base.specs.declared.clause.Side.{Side}
@@ -8,27 +8,27 @@ use Rattle.kbo_order.specs.declared.cmp.Cmp.{Cmp}
 use Rattle.kbo_order.specs.declared.cmp.Cmp.TheVariants.{Greater, Less, Equal, Unordered}
 use Rattle.kbo_order.specs.declared.balance.Balance.{Balance}
 
--- how many counts are above the level, and how many below
+-- the number of counts above the level, and of those below
 abbrev pub above_level : List ℕ → ℕ
 above_level counts = sum_by (λ n. if nat_lt (2 ^ 63) n then 1 else 0) counts
 
 abbrev pub below_level : List ℕ → ℕ
 below_level counts = sum_by (λ n. if nat_lt n (2 ^ 63) then 1 else 0) counts
 
--- what is kept of the counts is right
+-- the two numbers that a balance keeps of its counts are right
 pub record Consistent (balance : Balance) : Type 0 where
   pub width : length balance.counts ≡ 32
   pub more_left : balance.more_left ≡ above_level balance.counts
   pub more_right : balance.more_right ≡ below_level balance.counts
 
--- so many occurrences more can be counted, on either side
+-- n more occurrences can be counted, on either side
 pub record HasRoom (balance : Balance) (n : ℕ) : Type 0 where
   pub weight_up : balance.weight + n < 2 ^ 64
   pub weight_down : n ≤ balance.weight
   pub up : (k : ℕ) → k < 32 → slice_index balance.counts k + n < 2 ^ 64
   pub down : (k : ℕ) → k < 32 → n ≤ slice_index balance.counts k
 
--- the same was met on both sides, so far as it counts
+-- as much was met on either side, of all occurrences and of each variable of the block
 pub record IsLevel (balance : Balance) : Type 0 where
   pub consistent : Consistent balance
   pub weight : balance.weight ≡ 2 ^ 63
@@ -59,7 +59,7 @@ pub record IsBefore (variables : List ℕ) (n : ℕ) (rest whole : Trees) : Type
   pub size : trees_size whole ≡ n + trees_size rest
   pub within : (v : ℕ) → times ◌==◌ v variables ≤ n
 
--- after all but the rests of two lists was met
+-- after two lists of trees were met except for a rest of each
 pub record PartlyMet (before after : Balance) (lefts left_rest rights right_rest : Trees) : Type 0 where
   pub left_variables : List ℕ
   pub left_size : ℕ
@@ -81,16 +81,16 @@ abbrev pub Covers : Bool → ℕ → Balance → Balance → List ℕ → ℕ �
 Covers true least before after variables n = Met before after [] 0 variables n
 Covers false least before after variables n = IsShort least before variables n
 
--- whether what was met on the right is no more than on the left
+-- whether no more was met on the right than on the left
 abbrev pub IsCovered : Bool → ℕ → Balance → Type 0
 IsCovered true least balance = (least ≤ balance.weight) × (balance.more_right ≡ 0)
 IsCovered false least balance = IsShort least balance [] 0
 
--- the greater number decides, and of equal ones what is handed in
+-- the greater number decides, and between equal ones the tie
 abbrev pub by_size : ℕ → ℕ → Cmp → Cmp
 by_size n m tie = if nat_lt m n then Greater else (if nat_lt n m then Less else tie)
 
--- only who has the other one's variables is greater
+-- only a term that has each variable as often as the other one is greater
 abbrev pub by_variables : ℕ → ℕ → Cmp → Cmp
 by_variables more_left more_right Greater = if more_right == 0 then Greater else Unordered
 by_variables more_left more_right Less = if more_left == 0 then Less else Unordered

@@ -6,7 +6,7 @@ use Rattle.fol_base.specs.Order.{occurrences}
 use Rattle.kbo_order.specs.declared.cmp.Cmp.{Cmp}
 use Rattle.kbo_order.specs.declared.cmp.Cmp.TheVariants.{Greater, Less, Equal, Unordered}
 
--- what an answer says of two things, by what it is to exceed
+-- the meaning of an answer on two things, by a relation of exceeding
 abbrev pub Answers : {X : Type 0} → (X → X → Type 0) → Cmp → X → X → Type 0
 Answers Exceeds Greater x y = Exceeds x y
 Answers Exceeds Less x y = Exceeds y x
@@ -46,7 +46,7 @@ abbrev mutual
   AllGreaterOn Counted (tree_then t ts) no_trees = ⊥
   AllGreaterOn Counted (tree_then t ts) (tree_then u us) = GreaterOn Counted t u ⊎ ((t ≡ u) × AllGreaterOn Counted ts us)
 
--- what decides at equal sizes
+-- the order of two terms of equal size: by the heads, and for equal heads by the arguments
 abbrev pub TieOn : (ℕ → Type 0) → Tree → Tree → Type 0
 TieOn Counted (variable v) t = ⊥
 TieOn Counted (application f ts) (variable w) = ⊥

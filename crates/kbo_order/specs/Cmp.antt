@@ -1,4 +1,4 @@
--- What an answer says.
+-- The meaning of an answer.
 use Rattle.std.specs.Prelude.{Bool, true, false}
 use Rattle.fol_base.specs.Multiset.{Comparison, greater, less, equal, unordered}
 use Rattle.kbo_order.specs.declared.cmp.Cmp.{Cmp}

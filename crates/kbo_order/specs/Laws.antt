@@ -71,7 +71,7 @@ abbrev pub ProperPartsAreSmaller : Type 0
 ProperPartsAreSmaller =
     (c d : List TreeLiteral) → IsPartOf c d → IsFalse (equivalent_clauses c d) → IsTrue (clause_greater d c)
 
--- of two ground trees that differ, or two ground literals or clauses that aren't the same for the order, one is greater
+-- of two ground trees that differ, or two ground literals or clauses that aren't equal for the order, one is greater
 abbrev pub GroundTreesCompare : Type 0
 GroundTreesCompare = (s t : Tree) → IsTrue (is_ground s) → IsTrue (is_ground t) → compare_trees s t ≡ unordered → ⊥
 

@@ -13,7 +13,7 @@ pub record IsGreaterUpTo (start next : ℕ) (s t : Tree) : Type 0 where
   pub left_clear : IsClear start next s
   pub right_clear : IsClear start next t
 
--- what the answer tells
+-- the meaning of the answer: not greater, or greater up to the next block
 abbrev pub IsGreaterInBlock : ℕ → Option ℕ → Tree → Tree → Type 0
 IsGreaterInBlock start None s t = GreaterOn (InBlock start) s t → ⊥
 IsGreaterInBlock start (Some next) s t = IsGreaterUpTo start next s t

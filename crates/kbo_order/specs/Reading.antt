@@ -5,7 +5,7 @@ use Rattle.fol_base.specs.Instance.{Substitution, instance, instances}
 use Rattle.fol_base.specs.Term.{tree_of}
 use Rattle.fol_base.specs.declared.term.Term.{Term}
 
--- what is bound already is not put in again
+-- the substitution of a walk: none in a term that is bound already
 abbrev pub reading : Bool → Substitution → Substitution
 reading true σ = variable
 reading false σ = σ

@@ -38,6 +38,6 @@ sides_exceed true false pairs = all_below pairs
 sides_exceed false true pairs = all_reached pairs
 sides_exceed false false pairs = exceeds_beside_equals pairs
 
--- the same sides in either order
+-- whether two literals have equal sides, in either order
 abbrev pub sides_same : SidePairs → Bool
 sides_same pairs = (is_equal pairs.left_left && is_equal pairs.right_right) || (is_equal pairs.left_right && is_equal pairs.right_left)

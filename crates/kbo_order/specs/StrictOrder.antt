@@ -2,7 +2,7 @@
 use Rattle.std.specs.Prelude.{Bool, IsTrue, IsFalse}
 use Rattle.std.specs.Cmp.{IsEquivalence}
 
--- exceeding is irreflexive and transitive, and what is the same exceeds the same
+-- exceeding is irreflexive and transitive, and things that are the same exceed the same things
 pub record IsStrictOrder {X : Type 0} (same : X → X → Bool) (exceeds : X → X → Bool) : Type 0 where
   pub is_equivalence : IsEquivalence same
   pub same_left : (x y z : X) → IsTrue (same x y) → IsTrue (exceeds x z) → IsTrue (exceeds y z)

@@ -7,7 +7,7 @@ pub enum Cmp {
     Greater,
     /// The right one is greater.
     Less,
-    /// The two are the same for the order.
+    /// The two are equal for the order.
     Equal,
     /// They differ, and neither is greater.
     Unordered,
@@ -34,7 +34,7 @@ impl Cmp {
         self.reversed().is_greater()
     }
 
-    /// Whether the two are the same for the order.
+    /// Whether the two are equal for the order.
     pub fn is_equal(self) -> bool
         ensures { result ≡ is_equal self }
     {

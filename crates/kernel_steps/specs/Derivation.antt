@@ -26,6 +26,7 @@ introduces_name (Component name) = true
 introduces_name (Opposite name) = true
 introduces_name _ = false
 
+-- a line as a parent of later steps; none for the line of a formula
 abbrev pub line_parent : Line → Option Parent
 line_parent l =
     if is_clause_step l.step
@@ -38,14 +39,16 @@ line_parents lines n = option_and_then line_parent (slice_get lines n)
 
 -- ---- names
 
--- the clause of these literals, under these names
+-- the clause of these literals and of these names
 abbrev pub under_names : List TreeLiteral → List NameLit → TreeClause
 under_names ls names = record { literals = ls; names = names }
 
+-- the step of a component line that introduces this name
 abbrev pub is_component_of : ℕ → Step → Bool
 is_component_of name (Component n) = n == name
 is_component_of name _ = false
 
+-- the step of a component line
 abbrev pub is_component : Step → Bool
 is_component (Component name) = true
 is_component _ = false
@@ -55,7 +58,7 @@ abbrev pub component_clause : ℕ → List Line → Option TreeClause
 component_clause name [] = None
 component_clause name (l ∷ ls) = if is_component_of name l.step then Some (clause_of l.clause) else component_clause name ls
 
--- the body of a name: what it stands for, the literals of its component line
+-- the body of a name: the literals of its component line, for which the name stands
 abbrev pub body : List Line → ℕ → TreeClause
 body lines name = record { literals = (unwrap_or (component_clause name lines) empty_clause).literals; names = [] }
 
@@ -63,13 +66,13 @@ body lines name = record { literals = (unwrap_or (component_clause name lines) e
 abbrev pub complement : TreeLiteral → TreeLiteral
 complement l = record l { positive = not l.positive }
 
--- A component line introduces a name that is new, for literals of which there is at least one: the literals, or not the name.
+-- A component line introduces a new name for one or more literals: its clause is the literals, or not the name.
 pub record IsComponent (name : ℕ) (earlier : List Line) (c : TreeClause) : Type 0 where
   pub is_new : component_clause name earlier ≡ None
   pub some_literal : length c.literals ≡ 0 → ⊥
   pub one_name : c.names ≡ negative_of name ∷ []
 
--- An opposite line is of a name that was introduced for one ground positive literal: not the literal, or the name.
+-- An opposite line is of a name that was introduced for one ground positive literal: its clause is not the literal, or the name.
 pub record IsOpposite (name : ℕ) (earlier : List Line) (c : TreeClause) : Type 0 where
   pub component : TreeClause
   pub introduced : component_clause name earlier ≡ Some component
@@ -82,7 +85,8 @@ pub record IsOpposite (name : ℕ) (earlier : List Line) (c : TreeClause) : Type
 
 -- ---- derivations
 
--- A kernel step: the clause of the form with that number, the definition of a name, or what a rule concludes from earlier lines.
+-- A kernel step: the clause of the form with that number, the definition of a name, or a rule's conclusion from earlier lines. A line
+-- of a formula has the empty clause.
 abbrev pub ComesBy : Step → List TreeClause → List Line → TreeClause → Type 0
 ComesBy (Input place) form earlier c = c ≡ empty_clause
 ComesBy (Negate place) form earlier c = c ≡ empty_clause
@@ -111,13 +115,13 @@ pub record IsRefutation (form : List TreeClause) (lines : List Line) : Type 0 wh
 abbrev pub continued : ℕ → Parents → List Line → Parents
 continued first outer lines n = if nat_lt n first then outer n else line_parents lines (n - first)
 
--- each line is what its step gives of these clauses and the lines before it
+-- each line is its step's conclusion from these clauses and the lines before it
 abbrev pub AreSteps : ℕ → Parents → List Line → Type 0
 AreSteps first outer lines =
     (n : ℕ) (line : Line) → slice_get lines n ≡ Some line
     → verdict line.step (continued first outer (take n lines)) ≡ concludes (clause_of line.clause)
 
--- what the lines of a reduced clause go on from: clauses by their numbers, and the clause that was handed in
+-- the parents from which the lines of a reduced clause go on: clauses by their numbers, and the clause that was handed in
 abbrev pub reduced_parents : Parents → TreeClause → Parents
 reduced_parents clauses c n =
     if nat_lt n CLAUSE_NUMBERS

@@ -71,11 +71,11 @@ introduced ls = named_line (Component 0) ls (negative_of 0 ∷ []) ∷ []
 abbrev pub opposites : List TreeClause
 opposites = clause (p a ∷ []) ∷ clause (not_p a ∷ []) ∷ []
 
--- of p(a), where its negation is about b
+-- the clauses of p(a), where its negation is about b
 abbrev pub unrelated : List TreeClause
 unrelated = clause (p a ∷ []) ∷ clause (not_p b ∷ []) ∷ []
 
--- of all x, p(x), and not p(a)
+-- the clauses of p(x) for all x, and not p(a)
 abbrev pub general : List TreeClause
 general = clause (p (x 0) ∷ []) ∷ clause (not_p a ∷ []) ∷ []
 

@@ -41,8 +41,8 @@ other_side_not_above σ side l =
 -- ---- the generating rules
 
 -- Superposition of literal i of the first clause, s = t, into literal j of the second, u = v or its negation, at a place of u that is no
--- variable. The variables of the two clauses are different ones, so each has a substitution of its own. What the rule itself asks,
--- that s = t is positive and s isn't `$true`, is not said again.
+-- variable. The variables of the two clauses are different ones, so each has a substitution of its own. The rule's own conditions, that
+-- s = t is positive and s isn't `$true`, are not repeated.
 pub record NamedSuperposition
     (is_predicate : ℕ → Bool) (mode : SelectionMode) (first : TreeClause) (i : ℕ) (from_side : Side)
     (second : TreeClause) (j : ℕ) (into_side : Side) (place : List ℕ) (conclusion : TreeClause) : Type 0 where
@@ -113,7 +113,7 @@ pub record MergesEqual (c : TreeClause) (d : TreeClause) : Type 0 where
   pub gives : merged c.literals stays goes ≡ Some d.literals
   pub names : d.names ≡ c.names
 
--- at the root of a side of a positive literal only what is greater than the new term may stand on the other side
+-- where the root of a side of a positive literal is rewritten, the other side has to be greater than the new term
 abbrev pub AllowsRoot : TreeLiteral → Side → List ℕ → Tree → Type 0
 AllowsRoot l side place new = IsTrue l.positive → place ≡ [] → IsTrue (tree_greater (other_side_of side l) new)
 
@@ -177,6 +177,7 @@ Reduces is_predicate Holds c d =
 abbrev pub makes_tautology : List TreeLiteral → TreeLiteral → Bool
 makes_tautology ls l = (l.positive && tree_eq l.left l.right) || list_any (equivalent_literals (complement l)) ls
 
+-- a clause with such a literal is true in every interpretation
 abbrev pub is_tautology : TreeClause → Bool
 is_tautology c = list_any (makes_tautology c.literals) c.literals
 

@@ -1,4 +1,4 @@
--- What steps and lines are made of, beside their conclusions: parents, names of inferences, sizes, and the numbers of variables.
+-- The parts of steps and lines beside their conclusions: parents, names of inferences, sizes, and the numbers of variables.
 use Rattle.std.specs.Prelude.{◌≡◌, ℕ, Bool, true, false, ◌&&◌, nat_lt, nat_le, List, [], ◌∷◌, ◌++◌, filter, flat_map, length, Option, None, Some, option_map, All, IsTrue}
 use Rattle.std.specs.List.{list_all}
 use Rattle.fol_base.specs.Tree.{Tree, variable, tree_size, trees_of, trees_variables}
@@ -32,7 +32,7 @@ step_parents (Split parent definitions parts) = parent ∷ definitions
 step_parents (Chain numbers pivots) = numbers
 step_parents _ = []
 
--- those of lines that are clauses by their numbers, and neither lines nor a clause that was handed in
+-- the parents of lines that are clauses by their numbers, and neither lines nor a clause that was handed in
 abbrev pub clauses_named : List Line → List ℕ
 clauses_named lines = filter (λ n. nat_lt n CLAUSE_NUMBERS) (flat_map (λ (l : Line). step_parents l.step) lines)
 
@@ -61,10 +61,11 @@ key_of _ = None
 
 -- ---- sizes
 
--- no more symbols than a clause may have that is kept
+-- at most as many symbols as a kept clause may have
 abbrev pub is_small_term : Tree → Bool
 is_small_term t = nat_le (tree_size t) MOST_SYMBOLS
 
+-- neither side is too large
 abbrev pub has_small_sides : TreeLiteral → Bool
 has_small_sides l = is_small_term l.left && is_small_term l.right
 
@@ -78,7 +79,7 @@ has_small_terms l = list_all has_small_sides (clause_of l.clause).literals && bi
 abbrev pub own_terms : TreeClause → List Tree
 own_terms c = terms_from 0 (bound_of (clause_variables c)) variable
 
--- the variables of a line's clause, and then those of what its step binds
+-- the variables of a line's clause, and then those of the terms in its step's bindings
 abbrev pub line_variables : Line → List ℕ
 line_variables l = clause_variables (clause_of l.clause) ++ flat_map (λ b. trees_variables (trees_of b)) (bindings_of l.step)
 

@@ -6,7 +6,7 @@ use Rattle.kernel_steps.specs.Inference.{NamedSuperposition, NamedResolution, Na
 use Rattle.kernel_steps.specs.declared.key.Key.{Key}
 use Rattle.kernel_steps.specs.declared.key.Key.TheVariants.{Para, Refl, Factor, Replaced}
 
--- of two clauses, which may be one
+-- an inference from the two clauses with these numbers, which may be one clause
 pub record OfTwo (clauses : ℕ → Option TreeClause) (first second : ℕ) (Infers : TreeClause → TreeClause → Type 0) : Type 0 where
   pub first_clause : TreeClause
   pub first_there : clauses first ≡ Some first_clause
@@ -14,13 +14,13 @@ pub record OfTwo (clauses : ℕ → Option TreeClause) (first second : ℕ) (Inf
   pub second_there : clauses second ≡ Some second_clause
   pub infers : Infers first_clause second_clause
 
--- of one
+-- an inference from the clause with this number
 pub record OfOne (clauses : ℕ → Option TreeClause) (number : ℕ) (Infers : TreeClause → Type 0) : Type 0 where
   pub clause : TreeClause
   pub there : clauses number ≡ Some clause
   pub infers : Infers clause
 
--- The inference of that name has this conclusion. A clause that was replaced is no inference.
+-- The inference with this name has this conclusion. A clause that was replaced is no inference.
 abbrev pub IsInference : (ℕ → Bool) → SelectionMode → (ℕ → Option TreeClause) → Key → TreeClause → Type 0
 IsInference is_predicate mode clauses (Para first from from_side second into into_side place) c =
     OfTwo clauses first second (λ p q. NamedSuperposition is_predicate mode p from from_side q into into_side place c)

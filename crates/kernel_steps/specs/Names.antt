@@ -31,7 +31,7 @@ chained_from names (pivot ∷ pivots) [] = None
 chained_from names (pivot ∷ pivots) (ms ∷ mss) =
     if can_resolve pivot names ms then chained_from (sorted_names (resolvent pivot names ms)) pivots mss else None
 
--- from the first list on
+-- the names that are left of the first list after resolution with the others, on one pivot each
 abbrev pub chained : List (List NameLit) → List NameLit → Option (List NameLit)
 chained [] pivots = None
 chained (ns ∷ nss) pivots = chained_from (sorted_names ns) pivots nss
@@ -48,7 +48,7 @@ are_sorted (n ∷ m ∷ ms) = name_before n m && are_sorted (m ∷ ms)
 abbrev pub SortedNames : Type 0
 SortedNames = (ns : List NameLit) → IsTrue (are_sorted (sorted_names ns)) × ((n : NameLit) → has_name n (sorted_names ns) ≡ has_name n ns)
 
--- ---- what only the private functions cite
+-- ---- definitions for private functions alone
 
 -- a number that rises with the names
 abbrev pub name_rank : NameLit → ℕ

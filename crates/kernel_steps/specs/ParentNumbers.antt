@@ -1,4 +1,4 @@
--- The numbers of a step's parents: how an iterator over them goes on, and how a step is with other numbers.
+-- The numbers of a step's parents: those that an iterator over them has left, and a step with other numbers in their place.
 use Rattle.std.specs.Prelude.{◌≡◌, ℕ, List, [], ◌∷◌, ◌++◌, map, Option, None, Some}
 use Rattle.kernel_steps.specs.Lines.{step_parents}
 use Rattle.kernel_steps.specs.Soundness.{bindings_of}
@@ -26,7 +26,7 @@ with_parents to (Split parent definitions parts) = Split (to parent) (map to def
 with_parents to (Chain numbers pivots) = Chain (map to numbers) pivots
 with_parents to step = step
 
--- the parents of a step with other numbers for them are these numbers, and what it binds is as before
+-- the parents of a step with other numbers for them are these numbers, and its bindings are as before
 pub record MapsParents : Type 0 where
   pub parents : (to : ℕ → ℕ) (step : Step) → step_parents (with_parents to step) ≡ map to (step_parents step)
   pub bindings : (to : ℕ → ℕ) (step : Step) → bindings_of (with_parents to step) ≡ bindings_of step

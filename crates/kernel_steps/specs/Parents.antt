@@ -1,5 +1,5 @@
--- The parents of a step, looked up by number. The same rules so serve the lines of a text, those of a pool, a batch's and a reduced
--- clause's, each with its own numbers.
+-- The parents of a step, looked up by number. So one set of rules serves the lines of a text, those of a pool, those of a batch and
+-- those of a reduced clause, each with its own numbers.
 use Rattle.std.specs.Prelude.{ℕ, Bool, List, [], ◌∷◌, Option, Some, option_and_then, option_map}
 use Rattle.fol_base.specs.Clause.{TreeClause}
 use Rattle.fol_base.specs.Literal.{clause_of}
@@ -10,10 +10,11 @@ pub record Parent : Type 0 where
   pub clause : TreeClause
   pub introduces : Bool
 
+-- the clauses that a step may use, by their numbers; none where a number has no such clause
 abbrev pub Parents : Type 0
 Parents = ℕ → Option Parent
 
--- a parent that is lent
+-- the parent that the program lends
 abbrev pub parent_of : ParentRef → Parent
 parent_of p = record { clause = clause_of p.clause.now; introduces = p.introduces }
 

@@ -1,5 +1,5 @@
--- The generating rules with the sizes of what they infer: an inference is heavy where its conclusion, or a premise under the unifier, has
--- too many symbols to be kept.
+-- The generating rules with the sizes of their inferences: an inference is heavy where its conclusion, or a premise under the unifier,
+-- has too many symbols to be kept.
 use Rattle.std.specs.Prelude.{◌≡◌, ℕ, Bool, ◌||◌, nat_lt, List, Option}
 use Rattle.fol_base.specs.Clause.{TreeClause, clause_size, clause_instance}
 use Rattle.fol_base.specs.Selection.{SelectionMode}
@@ -10,7 +10,7 @@ use Rattle.kernel_steps.specs.Named.{OfOne, OfTwo}
 use Rattle.kernel_steps.specs.declared.key.Key.{Key}
 use Rattle.kernel_steps.specs.declared.key.Key.TheVariants.{Para, Refl, Factor, Replaced}
 
--- more symbols than a clause may have that is kept
+-- more symbols than a kept clause may have
 abbrev pub is_large : TreeClause → Bool
 is_large c = nat_lt MOST_SYMBOLS (clause_size c)
 

@@ -1,4 +1,4 @@
--- What a derivation establishes: its clauses are true wherever the form is, so a refutation refutes the form (Robinson 1965), by
+-- The soundness of derivations: their clauses are true wherever the form is, so a refutation refutes the form (Robinson 1965), by
 -- finitely many of its ground instances (Herbrand 1930). A name stands for a part of a clause (Voronkov 2014): it is true where its
 -- body is, whatever values the body's variables have.
 use mathlib.Core.Bool.{beq}
@@ -42,19 +42,19 @@ binds_each test step = list_all (list_all test) (bindings_of step)
 abbrev pub BindsOver : List FunctionSymbol → List Line → Type 0
 BindsOver functions lines = IsTrue (list_all (λ (l : Line). binds_each (is_over functions) l.step) lines)
 
--- or is a function term
+-- each term that a line binds a variable to is a function term
 abbrev pub BindsFunctionTerms : (ℕ → Bool) → List Line → Type 0
 BindsFunctionTerms is_predicate lines = IsTrue (list_all (λ (l : Line). binds_each (is_function_term is_predicate) l.step) lines)
 
 -- ---- truth
 
--- a clause is false for some values of its variables
+-- the clause is false for some values of its variables
 pub record FailsIn (i : Interpretation) (c : TreeClause) : Type 0 where
   pub values : Assignment
   pub are_values : HasValues i values
   pub is_false : IsFalse (literals_true_under i values c.literals)
 
--- which names are true
+-- for each name, whether it is true
 abbrev pub NameTruth : Type 0
 NameTruth = ℕ → Bool
 
@@ -66,7 +66,7 @@ names_true truth ns = list_any (λ n. beq n.positive (truth n.name)) ns
 abbrev pub MeansBody : Interpretation → TreeClause → Bool → Type 0
 MeansBody i c is_true = (IsTrue is_true → HoldsIn i c) × (IsFalse is_true → FailsIn i c)
 
--- the clauses of a form without variables
+-- the clauses of a ground form, each as the list of its literals
 abbrev pub ground_clauses : List TreeClause → List GroundClause
 ground_clauses form = map (λ (c : TreeClause). c.literals) form
 
@@ -78,7 +78,7 @@ pub record Grounds {is_predicate : ℕ → Bool} (functions : FunctionSymbols is
   pub instances : All (InstanceOf functions Holds) by
   pub entailed : Entails is_predicate by g
 
--- the ordinary parts of a form's clauses, and the negatively named bodies
+-- c is a clause of the form, or the body of a name that stands negatively in the list
 abbrev pub IsUsable : List TreeClause → (ℕ → TreeClause) → List NameLit → TreeClause → Type 0
 IsUsable form bodies names c = Contains form c ⊎ ((n : ℕ) × IsTrue (has_name (negative_of n) names) × (c ≡ bodies n))
 
@@ -87,7 +87,7 @@ abbrev pub IsChoice : {is_predicate : ℕ → Bool} → FunctionSymbols is_predi
 IsChoice functions bodies names choice =
     (n : ℕ) → IsTrue (has_name (positive_of n) names) → GroundInstance functions (bodies n) (choice n)
 
--- the literals of a choice
+-- the literals of the chosen ground instances together
 abbrev pub chosen_literals : (ℕ → GroundClause) → List NameLit → GroundClause
 chosen_literals choice [] = []
 chosen_literals choice (n ∷ ns) = if n.positive then choice n.name ++ chosen_literals choice ns else chosen_literals choice ns
@@ -106,7 +106,7 @@ pub record HerbrandRefuted {is_predicate : ℕ → Bool} (functions : FunctionSy
   pub instances : All (InstanceOf functions (Contains form)) by
   pub refuted : IsRefuted is_predicate by
 
--- ---- laws of the rules: what a rule gives is true where what it is given is, under the same values of variables, whatever they are
+-- ---- laws of the rules: under each assignment, a rule's conclusion is true where its premises are
 
 abbrev pub ParaIsSound : Type 0
 ParaIsSound =
@@ -131,7 +131,7 @@ MergeIsSound =
     (i : Interpretation) (ρ : Assignment) (ls : List TreeLiteral) (stays goes : ℕ) (made : List TreeLiteral)
     → merged ls stays goes ≡ Some made → IsTrue (literals_true_under i ρ ls) → IsTrue (literals_true_under i ρ made)
 
--- under every truth of names
+-- whichever names are true
 abbrev pub ChainIsSound : Type 0
 ChainIsSound =
     (truth : NameTruth) (nss : List (List NameLit)) (pivots made : List NameLit)
@@ -158,7 +158,7 @@ LinesAreGrounded =
     → (n : ℕ) (line : Line) → slice_get lines n ≡ Some line → IsTrue (is_clause_step line.step)
     → IsGrounded functions form (body lines) (clause_of line.clause)
 
--- and, of a derivation from a ground form, each line without names, whatever is bound
+-- each clause line without names of a derivation from a ground form is grounded, whatever its bindings are
 abbrev pub GroundLinesAreGrounded : Type 0
 GroundLinesAreGrounded =
     (is_predicate : ℕ → Bool) (functions : FunctionSymbols is_predicate) (form : List TreeClause) (lines : List Line)
@@ -169,14 +169,14 @@ GroundLinesAreGrounded =
 
 -- ---- laws of refutations
 
--- a form that has a refutation, where what is bound are function terms, holds in no interpretation
+-- a form that has a refutation whose bindings are function terms holds in no interpretation
 abbrev pub RefutationsRefute : Type 0
 RefutationsRefute =
     (is_predicate : ℕ → Bool) (i : Interpretation) (form : List TreeClause) (lines : List Line)
     → IsInterpretation is_predicate i → BindsFunctionTerms is_predicate lines → IsRefutation form lines
     → All (HoldsIn i) form → ⊥
 
--- no interpretation makes a ground form true that has a refutation, whatever it binds
+-- a ground form that has a refutation is true in no interpretation, whatever the bindings are
 abbrev pub GroundRefutationsRefute : Type 0
 GroundRefutationsRefute =
     (is_predicate : ℕ → Bool) (form : List TreeClause) (lines : List Line)
@@ -189,7 +189,7 @@ RefutationsHerbrandRefute =
     → BindsOver functions.symbols lines → IsRefutation form lines
     → HerbrandRefuted functions form
 
--- and a ground form over every list of function symbols
+-- a ground form that has a refutation is Herbrand-refuted over every list of function symbols
 abbrev pub GroundRefutationsHerbrandRefute : Type 0
 GroundRefutationsHerbrandRefute =
     (is_predicate : ℕ → Bool) (functions : FunctionSymbols is_predicate) (form : List TreeClause) (lines : List Line)

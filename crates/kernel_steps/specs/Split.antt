@@ -13,10 +13,11 @@ use Rattle.fol_base.specs.Clause.{TreeLiteral, literals_eq, literal_variables}
 use Rattle.fol_base.specs.Canonical.{canonical_clause}
 use Rattle.kernel_steps.specs.Parents.{Parent}
 
+-- the number stands in the list
 abbrev pub has_number : ℕ → List ℕ → Bool
 has_number n ks = list_any (λ k. n == k) ks
 
--- the numbers rise, from one on
+-- the numbers rise, each greater than the one before it, and the first is greater than k
 abbrev pub rises_from : ℕ → List ℕ → Bool
 rises_from k [] = true
 rises_from k (j ∷ js) = nat_lt k j && rises_from j js
@@ -26,36 +27,38 @@ abbrev pub is_rising : List ℕ → Bool
 is_rising [] = true
 is_rising (n ∷ ns) = rises_from n ns
 
--- a part: places that rise, at least one
+-- a part of a clause: the places of its literals, rising, at least one
 abbrev pub is_part : List ℕ → Bool
 is_part [] = false
 is_part (k ∷ ks) = rises_from k ks
 
+-- each number below n stands in the list
 abbrev pub has_all_below : ℕ → List ℕ → Bool
 has_all_below zero ks = true
 has_all_below (suc n) ks = has_number n ks && has_all_below n ks
 
--- The parts share out the places below n: as many stand in them, and each of these, so each once.
+-- The parts share out the places below n: n places stand in all parts together, and each place below n is one of them, so each stands once.
 abbrev pub share_out : ℕ → List (List ℕ) → Bool
 share_out n parts = (length (flat_map (λ ks. ks) parts) == n) && has_all_below n (flat_map (λ ks. ks) parts)
 
--- the literals at places
+-- the literals at these places
 abbrev pub literals_at : List TreeLiteral → List ℕ → List TreeLiteral
 literals_at ls places = filter_map (slice_get ls) places
 
+-- some variable occurs in both lists of literals
 abbrev pub share_variable : List TreeLiteral → List TreeLiteral → Bool
 share_variable ls ks = list_any (λ v. has_number v (flat_map literal_variables ks)) (flat_map literal_variables ls)
 
--- no two lists of literals share a variable
+-- no variable occurs in two of the lists of literals
 abbrev pub share_no_variables : List (List TreeLiteral) → Bool
 share_no_variables [] = true
 share_no_variables (ls ∷ lss) = list_all (λ ks. not (share_variable ls ks)) lss && share_no_variables lss
 
--- literals in canonical form
+-- the literals with their variables renumbered 0, 1, 2, .. by first occurrence
 abbrev pub canonical_literals : List TreeLiteral → List TreeLiteral
 canonical_literals ls = (canonical_clause (record { literals = ls; names = [] })).literals
 
--- a line that introduces a name defines literals where they are its own, up to their variables' numbers
+-- a parent defines literals where its line introduces a name and has these literals, up to their variables' numbers
 abbrev pub defines : Parent → List TreeLiteral → Bool
 defines p ls = p.introduces && literals_eq (canonical_literals ls) p.clause.literals
 
@@ -64,7 +67,7 @@ abbrev pub there_defines : Option Parent → List TreeLiteral → Bool
 there_defines None ls = false
 there_defines (Some p) ls = defines p ls
 
--- one definition for each part
+-- there are as many definitions as parts, and each defines its part
 abbrev pub are_defined : List (Option Parent) → List (List TreeLiteral) → Bool
 are_defined [] [] = true
 are_defined [] (ls ∷ lss) = false
@@ -79,11 +82,11 @@ can_split ls os parts =
     && (share_out (length ls) parts
     && (share_no_variables (map (literals_at ls) parts) && are_defined os (map (literals_at ls) parts))))
 
--- the same by definitions that are there
+-- the literals fall into these parts, and the definitions, in order, define the parts
 abbrev pub is_split : List TreeLiteral → List Parent → List (List ℕ) → Bool
 is_split ls definitions parts = can_split ls (map Some definitions) parts
 
--- ---- what only the private functions of splitting cite
+-- ---- definitions for the private functions of splitting alone
 
 -- the opposites of the names of those that are there
 abbrev pub opposites : List (Option Parent) → List NameLit

@@ -1,4 +1,4 @@
--- The symbols of lines: they have none but those of what they go on from and of what their steps bind.
+-- The symbols of lines: each is a symbol of the clauses from which the lines go on, or of the terms that their steps bind.
 use Rattle.std.specs.Prelude.{◌≡◌, ℕ, Bool, true, ◌&&◌, List, Some, slice_get, All, IsTrue}
 use Rattle.std.specs.List.{list_all}
 use Rattle.fol_base.specs.Tree.{Tree, variable, application, Trees, no_trees, tree_then, trees_count}
@@ -21,19 +21,21 @@ abbrev mutual
   all_symbols_pass test no_trees = true
   all_symbols_pass test (tree_then t ts) = symbols_pass test t && all_symbols_pass test ts
 
+-- each symbol of both sides passes
 abbrev pub literal_symbols_pass : (ℕ → ℕ → Bool) → TreeLiteral → Bool
 literal_symbols_pass test l = symbols_pass test l.left && symbols_pass test l.right
 
+-- each symbol of all literals passes
 abbrev pub clause_symbols_pass : (ℕ → ℕ → Bool) → TreeClause → Bool
 clause_symbols_pass test c = list_all (literal_symbols_pass test) c.literals
 
--- what the steps of lines bind
+-- each symbol of the terms that the steps of lines bind passes
 abbrev pub bound_symbols_pass : (ℕ → ℕ → Bool) → List Line → Bool
 bound_symbols_pass test lines = list_all (λ (l : Line). binds_each (symbols_pass test) l.step) lines
 
 -- ---- laws
 
--- what a step concludes, from parents by their numbers
+-- a step's conclusion, from parents by their numbers
 abbrev pub ConclusionsKeepSymbols : Type 0
 ConclusionsKeepSymbols =
     (test : ℕ → ℕ → Bool) (step : Step) (parents : Parents) (c : TreeClause)

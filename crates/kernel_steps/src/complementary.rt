@@ -1,4 +1,4 @@
-// Complements of literals: the same sides, and the opposite sign.
+// Complements of literals: equal sides, and the opposite sign.
 
 ghost use Rattle.std.specs.Prelude.{◌≡◌, [], ◌∷◌, map};
 ghost use Rattle.fol_base.specs.Lent.{lent_of};

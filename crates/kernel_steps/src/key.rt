@@ -2,8 +2,8 @@
 
 use fol_base::{Position, Side};
 
-/// The name of an inference: its clauses by their numbers, and what of them takes part. No two inferences
-/// of one run have equal names.
+/// The name of an inference: its clauses by their numbers, and the literals, sides and place that take part.
+/// No two inferences of one run have equal names.
 #[derive(Drop)]
 pub enum Key {
     /// Superposition of literal `from` of the first clause into literal `into` of the second.

@@ -1,4 +1,4 @@
-// The rules on literals under bindings. They borrow the literals, and build what a rule gives and nothing else.
+// The rules on literals under bindings. They borrow the literals, and build a rule's conclusion and nothing else.
 
 ghost use Rattle.std.specs.Prelude.{◌≡◌, ◌≤◌, ◌<◌, ◌-◌, ◌++◌, ◌&&◌, map, length, drop, take, IfOk, remove, slice_set};
 ghost use Rattle.std.specs.Option.{option_map};
@@ -19,7 +19,7 @@ use fol_base::{
 use plain_types::Mem;
 use std::alloc::Global;
 
-/// Literals and what their variables stand for, lent.
+/// Literals and the terms that their variables stand for, lent.
 #[derive(Drop)]
 pub struct Bound<'a, L, S> {
     pub literals: &'a L,
@@ -120,7 +120,7 @@ pub fn factor<L: LendsLiterals, S: LendsTerms>(
     Ok(Some(Literals::from_vec(made)))
 }
 
-/// Merging: the literals without the second of two different ones that are the same, sides in either order.
+/// Merging: the literals without the second of two at different places that are equal, sides in either order.
 /// None where the condition of the rule fails.
 pub fn merge<L: LendsLiterals, S: LendsTerms>(
     alloc: Global,
@@ -196,7 +196,7 @@ fn can_factor<S: LendsTerms>(
         && same_instance(chosen, bind, second.side(second_side), bind)
 }
 
-/// Whether the instances of two literals have the same sign and the same sides, in either order.
+/// Whether the instances of two literals have equal signs, and equal sides in either order.
 fn equivalent_instances<S: LendsTerms>(
     left: LiteralRef<'_>,
     right: LiteralRef<'_>,

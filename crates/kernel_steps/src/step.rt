@@ -47,7 +47,7 @@ pub enum Step {
         other_side: Side,
         bind: Terms,
     },
-    /// Merging: of two literals that are the same the second goes.
+    /// Merging: of two equal literals the second goes.
     Merge {
         parent: u64,
         stays: u64,
@@ -135,7 +135,7 @@ pub enum StepFault {
     Binding,
     /// The condition of the rule fails.
     Rule,
-    /// Memory was refused.
+    /// Out of memory.
     NoMemory,
 }
 

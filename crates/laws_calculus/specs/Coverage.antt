@@ -1,5 +1,6 @@
--- What simplification keeps: the ground instances of a clause that is reduced, subsumed, renamed or a tautology are covered by what
--- takes its place and what was used (Bachmair and Ganzinger 1994). Covering clauses are none greater, which is part of "covered".
+-- Simplification keeps coverage: the ground instances of a clause that is reduced, subsumed, renamed or a tautology are covered by the
+-- clause that takes its place and the clauses that were used (Bachmair and Ganzinger 1994). Covering clauses are none greater, which
+-- is part of "covered".
 use Rattle.std.specs.Prelude.{◌≡◌, ◌⊎◌, ℕ, Bool, List, [], ◌∷◌, filter_map, Option, All, Contains, IsTrue}
 use Rattle.fol_base.specs.Clause.{TreeClause}
 use Rattle.fol_base.specs.Canonical.{canonical_clause}

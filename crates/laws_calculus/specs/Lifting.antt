@@ -61,7 +61,7 @@ SuperpositionsReachAll =
     → (d : TreeClause) → NamedSuperposition is_predicate mode first r.i r.from_side second r.j r.into_side r.place d
     → GroundInstance functions d g
 
--- ---- conclusions of what is named among members
+-- ---- conclusions of inferences that are named among members
 
 -- The members are those of the clauses, by their numbers, that pass a test. The others are looked up as if they weren't there.
 abbrev pub among : (ℕ → Bool) → (ℕ → Option TreeClause) → ℕ → Option TreeClause

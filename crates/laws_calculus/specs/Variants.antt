@@ -22,7 +22,7 @@ pub record AreVariants (c : TreeClause) (d : TreeClause) : Type 0 where
 abbrev pub CanonicalFormsAreVariants : Type 0
 CanonicalFormsAreVariants = (c : TreeClause) → AreVariants c (canonical_clause c)
 
--- A variant of a conclusion is one of the same inference.
+-- A variant of a conclusion is a conclusion of that inference.
 abbrev pub ResolutionsHaveVariants : Type 0
 ResolutionsHaveVariants =
     (mode : SelectionMode) (c : TreeClause) (i : ℕ) (d e : TreeClause)

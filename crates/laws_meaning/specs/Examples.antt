@@ -25,7 +25,7 @@ p_or_loop =
 abbrev pub p_or_witness : Interpretation
 p_or_witness = record { size = 2; rows = record { symbol = 3; arguments = []; value = 1 } ∷ p_or_loop.rows }
 
--- the same rows over three values
+-- these rows over three values
 abbrev pub three_values : Interpretation
 three_values = record { size = 3; rows = p_or_loop.rows }
 

@@ -21,7 +21,7 @@ FormsReturn =
     (fs : List Annotated) (j : Interpretation)
     → IsTrue (are_closed fs) → InterpretsForm fs j → FormTrue fs j → IsTrue (is_model_of_problem j fs)
 
--- So what is refuted by finitely many ground instances of its form has no finite model,
+-- A problem that is refuted by finitely many ground instances of its form has no finite model,
 abbrev pub RefutedProblemsHaveNoModel : Type 0
 RefutedProblemsHaveNoModel =
     (fs : List Annotated) (i : Interpretation)
@@ -36,7 +36,7 @@ abbrev pub RefutedAxiomsAreUnsatisfiable : Type 0
 RefutedAxiomsAreUnsatisfiable =
     (fs : List Annotated) → IsTrue (are_closed fs) → IsFalse (has_conjecture fs) → IsHerbrandRefuted fs → AxiomsUnsatisfiable fs
 
--- What has an accepted derivation is refuted so.
+-- The conjecture of a problem with an accepted derivation follows from its axioms.
 abbrev pub AcceptedDerivationsProve : Type 0
 AcceptedDerivationsProve =
     (fs : List Annotated) (bytes : List ℕ) (count : ℕ) → IsTrue (are_closed fs) → IsAcceptedDerivation fs bytes count → ConjectureFollows fs

@@ -1,4 +1,4 @@
--- What a problem says of finite interpretations (Tarski 1936), and the interpretations of its clausal form.
+-- The meaning of a problem in finite interpretations (Tarski 1936), and the interpretations of its clausal form.
 use Rattle.std.specs.Prelude.{◌≡◌, ℕ, ◌<◌, Bool, ◌&&◌, ◌||◌, ◌==◌, List, length, IsTrue, IsFalse}
 use Rattle.std.specs.List.{AllByRecursion, list_any, list_all}
 use Rattle.tptp_tree.specs.Entries.{is_conjecture}
@@ -16,15 +16,15 @@ are_closed fs = list_all (λ (a : Annotated). length (free_names (closed a)) == 
 
 -- ---- interpretations
 
--- of a problem's symbols
+-- an interpretation of a problem's symbols: finitely many values, and for each symbol its values on arguments
 abbrev pub InterpretsProblem : List Annotated → Interpretation → Type 0
 InterpretsProblem fs i = IsInterpretation (is_predicate_in (problem_symbols fs)) i
 
--- of the symbols of its clausal form
+-- an interpretation of the symbols of a problem's clausal form
 abbrev pub InterpretsForm : List Annotated → Interpretation → Type 0
 InterpretsForm fs j = IsInterpretation (is_predicate_in (clausal_form fs).symbols) j
 
--- the same values, and the same value of each of the problem's symbols
+-- an extension of an interpretation: it has the same values, and gives each symbol of the problem the same value
 pub record Extends (fs : List Annotated) (i j : Interpretation) : Type 0 where
   pub size : j.size ≡ i.size
   pub kept : (f : ℕ) → f < length (problem_symbols fs) → (vs : List ℕ) → symbol_value j f vs ≡ symbol_value i f vs
@@ -39,10 +39,11 @@ FormTrue fs j = AllByRecursion (HoldsIn j) (clausal_form fs).clauses
 abbrev pub axioms_true : Interpretation → List Annotated → Bool
 axioms_true i fs = list_all (λ (a : Annotated). is_conjecture a.role || annotated_true (problem_symbols fs) i a) fs
 
--- the conjecture is true, or one of them where there are more
+-- the conjecture is true, or one of them if there are more; false if there is none
 abbrev pub conjecture_true : Interpretation → List Annotated → Bool
 conjecture_true i fs = list_any (λ (a : Annotated). is_conjecture a.role && annotated_true (problem_symbols fs) i a) fs
 
+-- whether a formula of the problem is a conjecture
 abbrev pub has_conjecture : List Annotated → Bool
 has_conjecture fs = list_any (λ (a : Annotated). is_conjecture a.role) fs
 

@@ -1,4 +1,4 @@
--- What the returns of a history found: the names of the entries of each batch, with the clause of its job.
+-- The findings of the returns of a history: the names of the entries of each batch, with the clause of its job.
 use Rattle.std.specs.Prelude.{ℕ, Bool, Contains, IsTrue, ◌&&◌, nat_le, List, [], ◌∷◌, ◌++◌, map, Option, None, Some}
 use Rattle.std.specs.List.{list_all}
 use Rattle.kernel_steps.specs.Split.{has_number}

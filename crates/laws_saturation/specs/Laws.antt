@@ -25,7 +25,7 @@ use Rattle.laws_saturation.specs.Found.{finds_of, WasMet}
 
 -- ---- inferences
 
--- What an inference concludes has no symbols but those of its premises: a test that those pass, these pass.
+-- The conclusion of an inference has no symbols but those of its premises: a test that these pass, the conclusion passes.
 abbrev pub InferencesKeepSymbols : Type 0
 InferencesKeepSymbols =
     (is_predicate : ℕ → Bool) (mode : SelectionMode) (test : ℕ → ℕ → Bool) (clauses : ℕ → Option TreeClause) (key : Key) (c : TreeClause)

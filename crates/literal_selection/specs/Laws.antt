@@ -5,7 +5,7 @@ use Rattle.fol_base.specs.Clause.{TreeLiteral}
 use Rattle.fol_base.specs.Ground.{literals_instance}
 use Rattle.fol_base.specs.Selection.{eligible}
 
--- what is eligible in an instance, with any choice made before, is eligible in the clause
+-- a literal that is eligible in an instance, with any choice made before, is eligible in the clause
 abbrev pub EligibleLifts : Type 0
 EligibleLifts =
     (ls : List TreeLiteral) (choice : Option ℕ) (σ : Substitution) (i : ℕ) (strict : Bool)

@@ -1,4 +1,4 @@
--- Which literal of a clause is chosen.
+-- The program's choice of a literal of a clause, in the words of the definitions.
 use Rattle.std.specs.Prelude.{◌≡◌, ⊤, ℕ, true, List, if◌then◌else◌}
 use Rattle.std.specs.List.{AllByRecursion}
 use Rattle.fol_base.specs.Clause.{TreeLiteral, literal_size}
@@ -6,6 +6,7 @@ use Rattle.fol_base.specs.Selection.{SelectionMode, select_nothing, select_negat
 use Rattle.literal_selection.specs.declared.choice.Selection.{Selection}
 use Rattle.literal_selection.specs.declared.choice.Selection.TheVariants.{Nothing, Negative}
 
+-- the mode of selection by the program's option
 abbrev pub mode_of : Selection → SelectionMode
 mode_of Nothing = select_nothing
 mode_of Negative = select_negative

@@ -9,7 +9,7 @@ ghost use Rattle.literal_selection.specs.Mode.{mode_of, negative_size, HasNoChoi
 use fol_base::{LendsLiterals, LiteralRef};
 use kbo_order::COMPARED_SIZE_LIMIT;
 
-/// Which literal of a clause is chosen.
+/// The rule by which a literal of a clause is selected.
 #[derive(Clone, Copy, Debug, PartialEq, Eq)]
 pub enum Selection {
     /// No literal is selected.

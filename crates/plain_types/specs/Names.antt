@@ -8,14 +8,15 @@ use Rattle.plain_types.specs.declared.sequence.NameLit.{NameLit}
 abbrev pub signed : Bool → ℕ → NameLit
 signed positive name = record { positive = positive; name = name }
 
--- the name itself, and its negation
+-- the name itself as a literal
 abbrev pub positive_of : ℕ → NameLit
 positive_of name = record { positive = true; name = name }
 
+-- the negation of a name
 abbrev pub negative_of : ℕ → NameLit
 negative_of name = record { positive = false; name = name }
 
--- the same sign and the same name
+-- equal signs and equal names
 abbrev pub same_name : NameLit → NameLit → Bool
 same_name n m = beq n.positive m.positive && (n.name == m.name)
 

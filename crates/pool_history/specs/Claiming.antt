@@ -40,7 +40,7 @@ can_give r = is_some (next_given r)
 abbrev pub activated : ℕ → PoolRecord → PoolRecord
 activated n r = if has_number n r.positions then r else record r { positions = r.positions ++ n ∷ [] }
 
--- a job on a clause, which is told what is told after this event, and how many inferences may still be counted
+-- a job on a clause: it gets the clauses that are told after this event, and the number of inferences that may still be counted
 abbrev pub new_job : Options → ℕ → ℕ → PoolRecord → GivenJob
 new_job options job n r = record {
   job = job;

@@ -13,7 +13,7 @@ places ls = range_with_len 0 (length ls)
 abbrev pub reached : List TreeLiteral → List ℕ → List ℕ
 reached ls ks = filter (λ j. has_number j ks || share_variable (literals_at ls (j ∷ [])) (literals_at ls ks)) (places ls)
 
--- the places reached in so many steps
+-- the places reached in n steps
 abbrev pub reached_in : ℕ → List TreeLiteral → List ℕ → List ℕ
 reached_in zero ls ks = ks
 reached_in (suc n) ls ks = reached_in n ls (reached ls ks)

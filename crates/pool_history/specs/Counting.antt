@@ -1,4 +1,4 @@
--- How inferences are counted, and what a counting that reaches the limit ends.
+-- The counting of inferences, and the end of a counting that reaches the limit.
 use Rattle.std.specs.Prelude.{Bool, true, false, ◌&&◌, nat_le, if◌then◌else◌, List, ◌++◌, map, fold, find, filter_map, length, Option, None, Some}
 use Rattle.fol_base.specs.Clause.{TreeClause}
 use Rattle.kernel_steps.specs.declared.key.Key.{Key}
@@ -50,8 +50,8 @@ is_refuting (Some c) = has_none c.literals && has_none c.names
 abbrev pub refutes : List Line → Bool
 refutes lines = is_refuting (result_of lines)
 
--- what a counting that reaches the limit ends: spent, but where an empty clause without assertions is among the results that were just
--- counted, which is registered and refutes
+-- The end of a counting that reaches the limit. The pool is spent, except if an empty clause without assertions is among the results
+-- that were just counted: this is registered and refutes.
 abbrev pub spends : Bool → Option (List Line) → PoolRecord → PoolRecord
 spends split None r = record r { ended = Some (Spent (length r.counted)) }
 spends split (Some lines) r = result_comes split r lines

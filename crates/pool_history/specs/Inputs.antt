@@ -1,4 +1,4 @@
--- What a pool may begin with.
+-- The beginnings that a pool may have.
 use Rattle.std.specs.Prelude.{◌≡◌, ◌+◌, ◌≤◌, List, [], length, sum_by, All, IsTrue}
 use Rattle.std.specs.List.{list_all}
 use Rattle.plain_types.specs.declared.limits.TheConstants.{MOST_INFERENCES}
@@ -25,17 +25,17 @@ pub record AreInputs (inputs : List TreeClause) : Type 0 where
 abbrev pub IsLimit : Options → Type 0
 IsLimit options = (1 ≤ options.inferences) × (options.inferences ≤ MOST_INFERENCES)
 
--- the symbols are used so in the inputs
+-- the inputs use their symbols as told
 abbrev pub IsUseOf : List TreeClause → SymbolUse → Type 0
 IsUseOf inputs usage = IsTrue (list_all (λ (c : TreeClause). are_literals_of usage c.literals) inputs)
 
--- the batch is right for its job, which is out, whichever symbols are taken for predicates, as long as the inputs use them so
+-- the batch is right for its job, which is out, under each use of symbols that is that of the inputs
 abbrev pub IsRightBatch : Origin → List Event → Batch → Type 0
 IsRightBatch origin history batch =
     let r = replay origin history in
     IsGivenOut r batch.job
     (λ j. (usage : SymbolUse) → IsUseOf origin.inputs usage → IsRightWork usage.is_predicate origin.options (clauses_of r) j batch.work)
 
--- lawful whichever symbols are taken for predicates, as long as the inputs use them so
+-- the history is lawful under each use of symbols that is that of the inputs
 abbrev pub IsHistoryOf : Origin → List Event → Type 0
 IsHistoryOf origin history = (usage : SymbolUse) → IsUseOf origin.inputs usage → IsLawful usage.is_predicate origin history

@@ -1,4 +1,4 @@
--- What changes of the clauses that are told: activations and deaths, in the order of a history.
+-- Changes of the clauses that are told: activations and deaths, in the order of a history.
 use Rattle.std.specs.Prelude.{ℕ, List, [], ◌∷◌, ◌++◌, map, length, drop, take, if◌then◌else◌}
 use Rattle.fol_base.specs.Clause.{TreeClause}
 use Rattle.kernel_steps.specs.Split.{has_number}
@@ -15,7 +15,7 @@ pub data TreeChange : Type 0 where
   activated : ℕ → TreeClause → TreeChange
   died : ℕ → TreeChange
 
--- the change that a program's one is
+-- a change of the program, over trees
 abbrev pub change_of : Change → TreeChange
 change_of (Activated member) = activated member.number (clause_at member.clause)
 change_of (Died number) = died number
@@ -36,6 +36,6 @@ abbrev pub news_since : Origin → List Event → ℕ → List TreeChange
 news_since origin history told =
     changes_from origin.options (replay origin (take told history)) (drop told history)
 
--- what a claim tells of the clause that it gives
+-- the change that a claim tells of the clause that it gives: its activation, if that is the clause's first claim
 abbrev pub first_told : PoolRecord → ℕ → List TreeChange
 first_told r n = if has_number n r.positions then [] else activated n (clause_numbered r n) ∷ []

@@ -1,4 +1,4 @@
--- What a pool ends with, and the one cause of each outcome.
+-- The outcomes of a pool, each with its one cause.
 use Rattle.std.specs.Prelude.{ℕ, Bool, not, ◌&&◌, ◌==◌, if◌then◌else◌, List, [], ◌∷◌, position, Option, None, Some}
 use Rattle.std.specs.List.{list_all}
 use Rattle.kernel_steps.specs.declared.key.Key.{Key}

@@ -1,4 +1,4 @@
--- What a pool's history amounts to: a record of plain lists.
+-- The record to which a pool's history amounts, of plain lists.
 use Rattle.std.specs.Prelude.{ℕ, Bool, not, ◌&&◌, ◌==◌, ◌+◌, nat_lt, if◌then◌else◌, List, [], length, map, filter, Option, None, option_map, unwrap_or, is_some, slice_get, find}
 use Rattle.std.specs.List.{list_any, list_all, range_with_len, position_or_len}
 use Rattle.plain_types.specs.declared.sequence.NameLit.{NameLit}
@@ -23,8 +23,8 @@ pub record Death : Type 0 where
   pub event : ℕ
   pub justifiers : List ℕ
 
--- A job on a given clause that is out: the clauses that it was told, in the order of their positions, when the history had so many
--- events; and how many inferences might be counted then before the limit.
+-- A job on a given clause that is out: the clauses that it was told, in the order of their positions, after the first `as_of` events;
+-- and how many inferences could be counted then before the limit.
 pub record GivenJob : Type 0 where
   pub job : ℕ
   pub number : ℕ
@@ -32,7 +32,7 @@ pub record GivenJob : Type 0 where
   pub as_of : ℕ
   pub left : ℕ
 
--- The solver's job: it was handed so many propositional clauses, the first ones, and there were so many names.
+-- The solver's job: it was handed the first `clauses` propositional clauses, and there were `names` names.
 pub record SolverJob : Type 0 where
   pub job : ℕ
   pub clauses : ℕ
@@ -57,7 +57,7 @@ pub record PoolRecord : Type 0 where
   pub given : List GivenJob
   pub solver : Option SolverJob
   pub propositional : List PropositionalClause
-  -- truth values of the names, and of how many propositional clauses, the first ones, they are a model
+  -- truth values of the names, a model of the first `modelled` propositional clauses
   pub model : List Bool
   pub modelled : ℕ
   -- the names of inferences that were counted, and of those that were set aside as too heavy
@@ -66,7 +66,7 @@ pub record PoolRecord : Type 0 where
   pub lines : List Line
   -- refuted or spent
   pub ended : Option Outcome
-  -- how many jobs were given out, how many of them on a given clause, and how many events there were
+  -- the number of jobs that were given out, of those on a given clause, and of events
   pub jobs : ℕ
   pub claims : ℕ
   pub events : ℕ
@@ -107,7 +107,7 @@ position_of r n = position_or_len (λ m. n == m) r.positions
 abbrev pub told_now : PoolRecord → List ℕ
 told_now r = filter (lives r) r.positions
 
--- a living clause is this one: it has the same literals and the same assertions
+-- whether a living clause is this one, with its literals and its assertions
 abbrev pub has_living : PoolRecord → TreeClause → Bool
 has_living r c = list_any (λ n. lives r n && clause_eq c (clause_numbered r n)) (numbers_of r)
 

@@ -22,7 +22,7 @@ Lookup = ℕ → Option TreeClause
 
 -- ---- lines
 
--- what the symbols of clauses and `$true` pass, those of the lines pass, bindings included: they have no others
+-- the lines have no symbols but those of the clauses and `$true`, bindings included: a test that these pass, the lines pass
 abbrev pub HaveSymbolsOf : Lookup → List Line → Type 0
 HaveSymbolsOf clauses lines =
     (test : ℕ → ℕ → Bool)
@@ -55,6 +55,6 @@ abbrev pub subsumers : Redundancy → List ℕ
 subsumers Tautology = []
 subsumers (Subsumed n) = n ∷ []
 
--- the same numbers
+-- whether two lists have the same numbers, in any order
 abbrev pub same_numbers : List ℕ → List ℕ → Bool
 same_numbers ns ms = is_among ns ms && is_among ms ns

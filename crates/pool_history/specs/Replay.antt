@@ -10,14 +10,14 @@ use Rattle.pool_history.specs.declared.options.Options.{Options}
 use Rattle.pool_history.specs.declared.event.Event.{Event}
 use Rattle.pool_history.specs.declared.event.Event.TheVariants.{Claim, Return, Stale, Void, ClaimSolve, ReturnModel, ReturnRefuted, Abandon}
 
--- what a pool begins with
+-- the beginning of a pool: its input clauses and its options
 pub record Origin : Type 0 where
   pub inputs : List TreeClause
   pub options : Options
 
 -- ---- the jobs that no batch ends
 
--- the job is told what is told after this event
+-- the job is told anew: it gets the clauses that are told after this event
 abbrev pub retold : PoolRecord → GivenJob → GivenJob
 retold r j = record j { told = told_now r; as_of = r.events + 1 }
 

@@ -11,7 +11,7 @@ use Rattle.split_parts.specs.SignedNames.{named, signed_name}
 abbrev pub name_of_tag : List (List TreeLiteral) → ℕ → NameLit
 name_of_tag parts tag = signed_name parts (slice_index_or parts tag [])
 
--- how many names there are
+-- the number of names
 abbrev pub name_count : List (List TreeLiteral) → ℕ
 name_count parts = length (named parts)
 

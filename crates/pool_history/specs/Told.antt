@@ -1,4 +1,4 @@
--- Laws of what jobs are told, for every list of events.
+-- Laws of the clauses that jobs are told, for every list of events.
 use Rattle.std.specs.Prelude.{◌≡◌, ℕ, ◌≤◌, Bool, not, List, length, take, filter, filter_map, Option, None, Some, Contains, IsTrue}
 use Rattle.std.specs.List.{list_all}
 use Rattle.fol_base.specs.Clause.{TreeClause}
@@ -24,7 +24,7 @@ activated_numbers changes = filter_map activated_number changes
 abbrev pub died_numbers : List TreeChange → List ℕ
 died_numbers changes = filter_map died_number changes
 
--- What is told now are the clauses that were activated and didn't die.
+-- The clauses that are told now are those that were activated and didn't die.
 abbrev pub ToldAreNews : Type 0
 ToldAreNews =
     (origin : Origin) (history : List Event)
@@ -37,7 +37,7 @@ NewsAreRegistered =
     (origin : Origin) (history : List Event) (n : ℕ) (c : TreeClause)
     → Contains (news_since origin history 0) (activated n c) → clauses_of (replay origin history) n ≡ Some c
 
--- A job that is out was told what was told after the first `as_of` events, however many came since.
+-- A job that is out has the clauses that were told after the first `as_of` events, however many events came since.
 abbrev pub JobsWereTold : Type 0
 JobsWereTold =
     (origin : Origin) (history : List Event) (job : ℕ) (j : GivenJob)

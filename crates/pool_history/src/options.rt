@@ -2,13 +2,13 @@
 
 use literal_selection::Selection;
 
-/// How a pool works.
+/// The options of a pool.
 #[derive(Clone, Copy, Debug, PartialEq, Eq)]
 pub struct Options {
-    /// Which literal of a clause is chosen.
+    /// The rule by which a literal of a clause is selected.
     pub select: Selection,
     /// Whether clauses that fall into parts are split.
     pub split: bool,
-    /// At how many counted inferences the pool gives up.
+    /// The number of counted inferences at which the pool gives up.
     pub inferences: u32,
 }

@@ -39,7 +39,7 @@ pub enum Change {
 pub struct PropTicket {
     pub job: u64,
     pub clauses: PropClauses,
-    /// How many names there are; those in the clauses are below it.
+    /// The number of names; those in the clauses are below it.
     pub names: u32,
 }
 

@@ -1,4 +1,4 @@
--- A refutation made again from its steps: of the lines that the last one needs alone, with their parents' places for their numbers.
+-- A refutation made again from its steps: it has only the lines that the last one needs, with their parents' places for their numbers.
 use Rattle.std.specs.Prelude.{◌≡◌, ℕ, ◌<◌, ◌-◌, nat_le, List, Some, length, map, slice_get, IsTrue}
 use Rattle.std.specs.List.{list_all, position_or_len}
 use Rattle.fol_base.specs.Clause.{TreeClause}
@@ -33,7 +33,7 @@ pub record AreRefutingSteps (form : List TreeClause) (steps : List Step) : Type 
   pub same : steps_of lines ≡ steps
   pub plain : IsTrue (list_all is_plain_step steps)
 
--- there is such a step, and each needs earlier ones alone
+-- a refutation has a step, and each of its steps needs earlier ones alone
 abbrev pub RefutingStepsGoBack : Type 0
 RefutingStepsGoBack =
     (form : List TreeClause) (steps : List Step) → AreRefutingSteps form steps → (0 < length steps) × StepsNeedEarlier steps

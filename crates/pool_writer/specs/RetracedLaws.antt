@@ -1,4 +1,4 @@
--- What is said of lines, and not of their parents' numbers, is said of them made again.
+-- A test of lines that doesn't look at their parents' numbers passes on the lines that are made again.
 use Rattle.std.specs.Prelude.{◌≡◌, ℕ, Bool, List, IsTrue}
 use Rattle.std.specs.List.{list_all}
 use Rattle.fol_base.specs.Clause.{TreeClause}

@@ -1,4 +1,4 @@
--- How the members of a saturated set are printed.
+-- The printed text of the members of a saturated set.
 use Rattle.std.specs.Prelude.{ℕ, List, ◌++◌, map, flat_map, codes}
 use Rattle.std.specs.Fmt.{decimal}
 use Rattle.std.specs.List.{enumerate_from}

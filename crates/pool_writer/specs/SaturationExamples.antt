@@ -1,4 +1,4 @@
--- Members, and what they are printed over.
+-- Members of a saturated set, and the symbols over which they are printed.
 use Rattle.std.specs.Prelude.{ℕ, Bool, true, false, List, [], ◌∷◌, codes}
 use Rattle.plain_types.specs.Names.{negative_of}
 use Rattle.fol_base.specs.Tree.{Tree, variable, application, true_tree, trees_of}

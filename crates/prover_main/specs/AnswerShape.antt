@@ -1,4 +1,4 @@
--- What the stages of a command answer, in the words of the definitions.
+-- The answers of a command's stages, in the words of the definitions.
 use Rattle.std.specs.Prelude.{◌≡◌, ⊤, List, map, position, Option, None, Some, IsTrue}
 use Rattle.outside.specs.Library.{Holdings}
 use Rattle.tptp_tree.specs.ProblemSize.{HasProblemSize}
@@ -33,7 +33,7 @@ use Rattle.prover_main.specs.declared.proved.ProveFault.{ProveFault}
 use Rattle.prover_main.specs.declared.proved.ProveFault.TheVariants.{NoMemory as WithoutMemory, Form}
 use Rattle.prover_main.specs.declared.proved.Proved.{Proved}
 
--- ---- what is asked of a problem
+-- ---- the conditions on a problem
 
 -- However a problem came: no formula has a free variable, its names and formulas can be printed in a derivation, and it has few enough
 -- symbols.
@@ -78,9 +78,10 @@ pub record IsProvedProblem (formulas : List Annotated) (options : Options) (prov
   pub form : form_of proved.form ≡ clausal_form formulas
   pub ended : IsProvedForm formulas options (record { outcome = proved.outcome; pool = proved.pool; bank = proved.bank })
 
--- What the outcome says of the problem: finitely many ground instances of its form are true in no interpretation, and where no formula has a
--- free variable, every finite interpretation that makes the axioms true makes the conjecture true; or the members are saturated
--- for it; or so many entries were counted; or nothing is left to do but the first inference of living awake clauses that was set aside.
+-- The meaning of an outcome for the problem. Refuted: finitely many ground instances of its form are true in no interpretation, and where no
+-- formula has a free variable, every finite interpretation that makes the axioms true makes the conjecture true. Saturated: the members are
+-- saturated for it. Spent: that number of entries was counted. Heavy: nothing is left to do but the first inference of living awake clauses
+-- that was set aside.
 abbrev pub OutcomeSays : List Annotated → Options → PoolRecord → Outcome → Type 0
 OutcomeSays formulas options r Refuted = IsHerbrandRefuted formulas × (IsTrue (are_closed formulas) → IsTheorem formulas)
 OutcomeSays formulas options r Saturated =

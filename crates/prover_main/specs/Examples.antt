@@ -14,7 +14,7 @@ use Rattle.laws_meaning.specs.Examples.{hiding_alone}
 use Rattle.prover_main.specs.Outside.{Outside}
 use Rattle.prover_main.specs.Run.{Taken, AreWrites, DeliversInPieces}
 
--- a pool counts so many inferences, and chooses negative literals
+-- a pool that may count n inferences, and selects negative literals
 abbrev pub counting : ℕ → Options
 counting n = record { select = Negative; split = false; inferences = n }
 

@@ -13,7 +13,7 @@ use Rattle.prover_main.specs.Answer.{Source, IsFormed, IsReadProveAnswer, IsRead
 use Rattle.prover_main.specs.Reports.{status_of}
 use Rattle.prover_main.specs.Rows.{IsValid}
 
--- 3, 8 and 9 tell what is wrong with what is handed in
+-- 3, 8 and 9 are the statuses of a fault of the input
 abbrev pub is_exact : ℕ → Bool
 is_exact status = status == 3 || status == 8 || status == 9
 
@@ -23,14 +23,14 @@ ChecksHaveOneAnswer =
     (outside : Outside) (source : Source) (derivation : List ℕ) (a b : Answer)
     → IsTold outside → IsReadCheckAnswer outside source derivation a → IsReadCheckAnswer outside source derivation b → a ≡ b
 
--- and what `prove` answers where something is wrong with the problem.
+-- and what `prove` answers where the problem has a fault.
 abbrev pub FaultsAreTheOnlyAnswer : Type 0
 FaultsAreTheOnlyAnswer =
     (outside : Outside) (source : Source) (options : Options) (a b : Answer)
     → IsTold outside → is_exact (status_of a) ≡ true → IsReadProveAnswer outside source options a → IsReadProveAnswer outside source options b
     → a ≡ b
 
--- The formulas of a problem within the limits show that nothing is wrong with it.
+-- The formulas of a problem within the limits show that it has no fault.
 abbrev pub FormedIsValid : Type 0
 FormedIsValid =
     (outside : Outside) (source : Source) (formulas : List Annotated) → IsTold outside → IsFormed (IsRead outside source) formulas

@@ -1,4 +1,4 @@
--- What the stages of a command say of a problem in finite interpretations.
+-- The meaning of a command's stages for a problem in finite interpretations.
 use Rattle.std.specs.Prelude.{List, IsTrue, IsFalse}
 use Rattle.std.specs.List.{AllByRecursion}
 use Rattle.tptp_tree.specs.declared.problem.Annotated.{Annotated}
@@ -25,8 +25,8 @@ pub record FormMeans (formulas : List Annotated) (form : ClausalForm) : Type 0 w
 
 -- ---- a refutation
 
--- What the words Theorem and Unsatisfiable mean: every finite interpretation that makes the axioms true makes the conjecture true, and
--- without a conjecture none makes them true.
+-- The meaning of the words Theorem and Unsatisfiable: every finite interpretation that makes the axioms true makes the conjecture true,
+-- and without a conjecture none makes them true.
 pub record IsTheorem (formulas : List Annotated) : Type 0 where
   pub follows : ConjectureFollows formulas
   pub unsatisfiable : IsFalse (has_conjecture formulas) → AxiomsUnsatisfiable formulas

@@ -9,7 +9,7 @@ shown_byte b = if nat_le 32 b && nat_le b 126 then b else 63
 abbrev pub shown : List ℕ → List ℕ
 shown bytes = map shown_byte bytes
 
--- what stands after the last slash
+-- a path after its last slash, or the whole path if it has none
 abbrev pub has_slash : List ℕ → Bool
 has_slash [] = false
 has_slash (b ∷ bs) = b == 47 || has_slash bs
@@ -18,7 +18,7 @@ abbrev pub after_last_slash : List ℕ → List ℕ
 after_last_slash [] = []
 after_last_slash (b ∷ bs) = if has_slash (b ∷ bs) then after_last_slash bs else b ∷ bs
 
--- without a final `.p`
+-- a name without a final `.p`
 abbrev pub without_suffix : List ℕ → List ℕ
 without_suffix bytes = if ends_with nat_eq bytes (codes ".p") then take (length bytes - 2) bytes else bytes
 

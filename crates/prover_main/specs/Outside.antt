@@ -1,9 +1,10 @@
--- What the library tells of a run.
+-- The facts that the library tells of a run.
 use Rattle.std.specs.Prelude.{◌≡◌, ℕ, List, Option, Some}
 use Rattle.outside.specs.Faults.{Rose}
 use Rattle.outside.specs.Library.{Holdings}
 
--- what the library tells, its count of faults before and after the run, how many bytes it found, and the name of its last failure
+-- the files that the library tells, its count of faults before and after the run, the number of bytes that it found, and the name
+-- of its last failure
 pub record Outside : Type 0 where
   pub told : Option Holdings
   pub faults_before : ℕ

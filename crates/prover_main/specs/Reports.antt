@@ -64,7 +64,7 @@ for_problem file = codes " for " ++ problem_name file ++ codes "\n"
 abbrev pub status_line : List ℕ → List ℕ → List ℕ
 status_line word file = codes "% SZS status " ++ word ++ for_problem file
 
--- the lines around what is printed, by the words for where they stand and for what is printed
+-- a line around a printed text, by `start` or `end` and the word for the form of the text
 abbrev pub output_line : List ℕ → List ℕ → List ℕ → List ℕ
 output_line place form file = codes "% SZS output " ++ place ++ codes " " ++ form ++ for_problem file
 
@@ -158,7 +158,7 @@ status_of (Unloaded name) = 4
 status_of (Unread cause name place) = read_status cause
 status_of (Refused line cause) = 9
 
--- what is told of the problem in a file
+-- the report of an answer on the problem in a file
 abbrev pub report_of : List ℕ → Answer → List ℕ
 report_of file (Refuted conjecture derivation) = refuted_report file conjecture derivation
 report_of file (Accepted lines) = accepted_line lines

@@ -1,4 +1,4 @@
--- What a run answers and prints, and why.
+-- The status and the printed text of a run, and their cause.
 use Rattle.std.specs.Prelude.{◌≡◌, ◌⊎◌, ℕ, List, ◌++◌, Option, None, Some, Result, Ok, Err}
 use Rattle.outside.specs.Faults.{Rose}
 use Rattle.outside.specs.Sink.{with_bytes, HasPrefixAfter, Delivers}
@@ -10,7 +10,7 @@ use Rattle.prover_main.specs.Answer.{IsAnswer}
 use Rattle.prover_main.specs.declared.answer.Answer.{Answer}
 use Rattle.prover_main.specs.Reports.{status_of, report_of, memory_out_report, usage_report}
 
--- ---- what is due
+-- ---- the report that is due
 
 -- the problem's file
 abbrev pub file_of : Command → List ℕ
@@ -24,7 +24,7 @@ pub record IsAnswered (command : Command) (outside : Outside) (status : ℕ) (te
   pub status_is : status ≡ status_of answer
   pub prints : text ≡ report_of (file_of command) answer
 
--- Memory was wanted, which may happen to each command at any time.
+-- The program is out of memory, which may happen to each command at any time.
 abbrev pub IsMemoryOut : Command → ℕ → List ℕ → Type 0
 IsMemoryOut command status text = (status ≡ MEMORY_OUT) × (text ≡ memory_out_report (file_of command))
 
@@ -36,7 +36,7 @@ abbrev pub IsDue : Option Command → Outside → ℕ → List ℕ → Type 0
 IsDue None outside status text = (status ≡ USAGE_SHOWN) × (text ≡ usage_report) × (outside.faults_after ≡ outside.faults_before)
 IsDue (Some command) outside status text = IsDueTo command outside status text
 
--- ---- what the sink takes
+-- ---- the bytes that the sink takes
 
 -- the bytes that a sink tells that it has taken, and its count of faults, before some writes and after them
 pub record Taken : Type 0 where
@@ -82,8 +82,8 @@ pub data DeliversInPieces {S : Type 0} (gives : S → List ℕ → Result ℕ Si
       {sink after : S} {fault : SinkFault} (front back : List ℕ)
       → DeliversInPieces gives sink front (Err fault) after → DeliversInPieces gives sink (front ++ back) (Err fault) after
 
--- A report is built whole before the first write, and each write is handed all bytes not yet taken; that the program is out of memory is
--- written in pieces. None is made after one that failed.
+-- A report is built whole before the first write, and each write is handed all bytes not yet taken. Only the report that the program is
+-- out of memory is written in pieces. No write is made after one that failed.
 abbrev pub AreWrites : {S : Type 0} → (S → List ℕ → Result ℕ SinkFault → S → Type 0) → S → S → ℕ → List ℕ → Result (Unit {0}) SinkFault → Type 0
 AreWrites gives before after due text outcome =
     Delivers gives before text outcome after ⊎ ((due ≡ MEMORY_OUT) × DeliversInPieces gives before text outcome after)

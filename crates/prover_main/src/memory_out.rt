@@ -8,7 +8,7 @@ ghost use Rattle.prover_main.specs.Run.{taken_by, IsDelivery, DeliversInPieces};
 use crate::names::{problem_bytes, shown_byte};
 use outside::{Sink, SinkFault, deliver};
 
-/// Writes that memory was wanted for the problem in a file. It takes no memory.
+/// Writes that the program is out of memory for the problem in a file. It takes no memory.
 pub fn deliver_memory_out<S: Sink>(sink: &mut S, file: &str) -> Result<(), SinkFault>
     ensures taken { IsDelivery (taken_by S.taken S.faults sink.old sink.new) (memory_out_report file.now) result }
     ensures writes { DeliversInPieces S.gives sink.old (memory_out_report file.now) result sink.new }

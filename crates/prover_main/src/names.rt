@@ -27,7 +27,7 @@ pub fn shown_byte(byte: u8) -> u8
     }
 }
 
-/// What stands after the last slash.
+/// A path after its last slash.
 fn after_last_slash(bytes: &[u8]) -> &[u8]
     ensures { result.now ≡ behind_slash bytes.entry.now }
 {
@@ -49,7 +49,7 @@ fn without_suffix(bytes: &[u8]) -> &[u8]
     }
 }
 
-/// What the name of the problem in a file shows: what stands after the file's last slash, without a final `.p`.
+/// The shown name of the problem in a file: the file's path after its last slash, without a final `.p`.
 pub fn problem_bytes(file: &str) -> &[u8]
     ensures { shown result.now ≡ problem_name file.entry.now }
 {

@@ -126,7 +126,7 @@ fn deliver_report<S: Sink>(sink: &mut S, text: &[u8], status: u8) -> u8
     status_after(status, deliver(sink, text))
 }
 
-/// Writes that memory was wanted for the problem in a file. The answer is `MEMORY_OUT`, or `SINK_FAILED`.
+/// Writes that the program is out of memory for the problem in a file. The answer is `MEMORY_OUT`, or `SINK_FAILED`.
 fn report_memory_out<S: Sink>(sink: &mut S, file: &str) -> u8
     ensures { DeliveredBy S.gives sink.old sink.new
         (taken_by S.taken S.faults sink.old sink.new)

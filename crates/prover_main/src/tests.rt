@@ -1,4 +1,4 @@
-// What no clause says: that runs end with the report that they should, over memory.
+// Runs over memory end with the report that they should, which no clause says.
 mod cases;
 mod made;
 
@@ -69,7 +69,7 @@ fn failures_end_the_run(rt: HostRuntime) {
     }
 }
 
-// What is printed out of memory, in pieces, and where the sink fails in the third of them.
+// The report of a run out of memory is printed in pieces, also where the sink fails in the third of them.
 #[test]
 fn out_of_memory_is_told_in_pieces(rt: HostRuntime) {
     let alloc = rt.alloc();

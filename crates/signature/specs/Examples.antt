@@ -118,11 +118,11 @@ all_of fs = conjunction (formulas_of fs)
 abbrev pub one_of : List FormulaTree → FormulaTree
 one_of fs = disjunction (formulas_of fs)
 
--- the atoms of a letter with the numbers from n on, that many, at variables
+-- the atoms of a letter with a run of numbers from n on, at variables
 abbrev pub atoms : List ℕ → List (List ℕ) → ℕ → ℕ → List FormulaTree
 atoms letter xs n count = map (λ i. atom_of (letter ++ decimal i) xs) (numbers_from n count)
 
--- the conjunctions of pI and qI with the numbers from n on, that many, at variables
+-- the conjunctions of pI and qI for a run of numbers I from n on, at variables
 abbrev pub pairs : List (List ℕ) → ℕ → ℕ → List FormulaTree
 pairs xs n count =
     map (λ i. all_of (atom_of (codes "p" ++ decimal i) xs ∷ atom_of (codes "q" ++ decimal i) xs ∷ [])) (numbers_from n count)
@@ -170,7 +170,7 @@ unit sign symbol = clause (literal sign symbol [] ∷ [])
 abbrev pub sides : Bool → TreeClause
 sides sign = clause (record { positive = sign; left = term 1 []; right = term 2 [] } ∷ [])
 
--- a literal before each of the symbols from the first on, that many, at variables
+-- the clauses of a literal and an atom, one for each of `count` symbols from the first on, at variables
 abbrev pub before_each : TreeLiteral → ℕ → ℕ → List Tree → List TreeClause
 before_each l first count ts = map (λ s. clause (l ∷ literal true s ts ∷ [])) (numbers_from first count)
 

@@ -16,7 +16,7 @@ use Rattle.signature.specs.Clausal.{SymbolNumbers, Made, Formed, makes_variables
 
 -- ---- Skolem symbols
 
--- how many Skolem symbols the work on a formula with a sign makes
+-- the number of Skolem symbols that the work on a formula with a sign makes
 abbrev mutual
   pub skolem_count : FormulaTree → Bool → ℕ
   skolem_count truth sign = 0
@@ -40,20 +40,25 @@ abbrev mutual
   all_skolem_count no_formulas sign = 0
   all_skolem_count (formula_then f fs) sign = skolem_count f sign + all_skolem_count fs sign
 
+-- The number of Skolem symbols that the clausal form of a problem makes. The conjecture counts as negated.
 abbrev pub problem_skolem_count : List Annotated → ℕ
 problem_skolem_count [] = 0
 problem_skolem_count (a ∷ fs) = skolem_count (closed a) (not (is_conjecture a.role)) + problem_skolem_count fs
 
 -- ---- the form
 
+-- The numbers of a problem's symbols: `$true` and those that it spells, then its Skolem symbols, then its
+-- naming symbols.
 abbrev pub symbol_numbers : List Annotated → SymbolNumbers
 symbol_numbers fs =
     let symbols : List Symbol = problem_symbols fs in
     record { symbols = symbols; first_skolem = length symbols; first_naming = length symbols + problem_skolem_count fs }
 
+-- the state before the first formula of a problem
 abbrev pub nothing_made : Made
 nothing_made = record { variables = 0; skolem_arities = []; naming_arities = []; defining = [] }
 
+-- the clauses of a problem's formulas, with the origin of each, and the symbols that were made
 abbrev pub problem_form : List Annotated → Formed
 problem_form fs = formed (symbol_numbers fs) 0 fs nothing_made
 
@@ -73,10 +78,11 @@ numbered_symbols make prefix number [] = []
 numbered_symbols make prefix number (arity ∷ arities) =
     make (prefix ++ decimal number) arity ∷ numbered_symbols make prefix (number + 1) arities
 
+-- whether a symbol is a function symbol without arguments
 abbrev pub is_constant : Symbol → Bool
 is_constant s = not (is_predicate_kind s.kind) && s.arity == 0
 
--- the spare constant, where no other constant is there
+-- the spare constant, if there is no other constant
 abbrev pub spare_constant : List ℕ → List Symbol → List Symbol
 spare_constant prefix symbols = if list_any is_constant symbols then [] else function_symbol (prefix ++ decimal 0) 0 ∷ []
 
@@ -84,12 +90,12 @@ spare_constant prefix symbols = if list_any is_constant symbols then [] else fun
 abbrev pub with_skolem : List Symbol → Made → List Symbol
 with_skolem symbols m = symbols ++ numbered_symbols function_symbol (fresh_prefix_of symbols (codes "sk")) 0 m.skolem_arities
 
--- and with the naming symbols
+-- the problem's symbols with the Skolem symbols and the naming symbols
 abbrev pub with_naming : List Symbol → Made → List Symbol
 with_naming symbols m =
     with_skolem symbols m ++ numbered_symbols predicate_symbol (fresh_prefix_of symbols (codes "nm")) 0 m.naming_arities
 
--- and with the spare constant
+-- the signature of the clausal form: these symbols, and the spare constant if it is needed
 abbrev pub form_symbols : List Symbol → Made → List Symbol
 form_symbols symbols m = with_naming symbols m ++ spare_constant (fresh_prefix_of symbols (codes "hc")) (with_naming symbols m)
 
@@ -99,6 +105,8 @@ pub record ClausalForm : Type 0 where
   pub clauses : List TreeClause
   pub origins : List ℕ
 
+-- The clausal form of a problem. Its signature has the problem's symbols, the Skolem symbols, the naming
+-- symbols, and a spare constant if no other constant is there.
 abbrev pub clausal_form : List Annotated → ClausalForm
 clausal_form fs =
     let f : Formed = problem_form fs in

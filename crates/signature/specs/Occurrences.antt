@@ -7,7 +7,7 @@ use Rattle.tptp_tree.specs.declared.problem.Annotated.{Annotated}
 use Rattle.signature.specs.declared.symbol.Symbol.{Symbol}
 use Rattle.signature.specs.Symbol.{predicate_symbol, function_symbol, true_symbol, with_symbol}
 
--- how many terms there are
+-- the number of terms in a list
 abbrev pub terms_count : TermTrees → ℕ
 terms_count no_terms = 0
 terms_count (term_then t ts) = 1 + terms_count ts
@@ -39,6 +39,7 @@ abbrev mutual
   formulas_symbols no_formulas = []
   formulas_symbols (formula_then f fs) = formula_symbols f ++ formulas_symbols fs
 
+-- the symbols of an entry's formula, with repetitions
 abbrev pub annotated_symbols : Annotated → List Symbol
 annotated_symbols a = formula_symbols (formula_of a.formula)
 

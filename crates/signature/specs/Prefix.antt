@@ -1,9 +1,9 @@
--- The beginnings of the names that the product makes.
+-- The prefixes of the names that the clausal form makes.
 use Rattle.std.specs.Prelude.{ℕ, zero, suc, ◌+◌, ◌<◌, max, ◌==◌, nat_eq, Bool, List, [], ◌∷◌, ◌++◌, length, drop, IsTrue, IsFalse, if◌then◌else◌}
 use Rattle.std.specs.List.{list_any, starts_with}
 use Rattle.signature.specs.declared.symbol.Symbol.{Symbol}
 
--- that many `_`
+-- n bytes `_`
 abbrev pub underscores : ℕ → List ℕ
 underscores zero = []
 underscores (suc n) = 95 ∷ underscores n
@@ -17,7 +17,7 @@ underscore_run (b ∷ bs) = if b == 95 then underscore_run bs + 1 else 0
 abbrev pub needed_after : List ℕ → List ℕ → ℕ
 needed_after base name = if starts_with nat_eq name base then underscore_run (drop (length base) name) + 1 else 0
 
--- for all symbols
+-- how many `_` have to follow the base so that no symbol's name begins with the result
 abbrev pub needed : List Symbol → List ℕ → ℕ
 needed [] base = 0
 needed (s ∷ ss) base = max (needed_after base s.name) (needed ss base)
@@ -28,6 +28,7 @@ fresh_prefix_of symbols base = base ++ underscores (needed symbols base)
 
 -- ---- law
 
+-- whether some symbol's name begins with these bytes
 abbrev pub some_begins_with : List ℕ → List Symbol → Bool
 some_begins_with start symbols = list_any (λ (s : Symbol). starts_with nat_eq s.name start) symbols
 

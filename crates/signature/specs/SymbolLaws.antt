@@ -1,4 +1,4 @@
--- That sameness of symbols is an equivalence, and that the same symbols are hashed alike.
+-- Sameness of symbols is an equivalence, and symbols that are the same are hashed alike.
 use Rattle.std.proofs.Common.{◌≡◌, ◌==◌, true, ◌&&◌, ◌∷◌, refl, ap, ◌∙◌, eq-eqb, eqb-true, subst}
 use mathlib.Core.Bool.{beq}
 use Rattle.std.specs.Prelude.{IsTrue, bytes_eq}

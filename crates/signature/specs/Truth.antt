@@ -18,11 +18,12 @@ use Rattle.signature.specs.Environment.{closed}
 abbrev pub Values : Type 0
 Values = List (List ℕ × ℕ)
 
+-- The value of the innermost variable of that name. A closed formula has no variable without a value; 0 stands for such.
 abbrev pub value_in_force : Values → List ℕ → ℕ
 value_in_force [] x = 0
 value_in_force (b ∷ ρ) x = if bytes_eq b.0 x then b.1 else value_in_force ρ x
 
--- the symbols' numbers are their places in the list
+-- the value of a term; the symbols' numbers are their places in the list
 abbrev mutual
   pub term_value : List Symbol → Interpretation → Values → TermTree → ℕ
   term_value known i ρ (variable x) = value_in_force ρ x
@@ -32,6 +33,7 @@ abbrev mutual
   terms_values known i ρ no_terms = []
   terms_values known i ρ (term_then t ts) = term_value known i ρ t ∷ terms_values known i ρ ts
 
+-- the truth table of a connective over the truth of its two sides
 abbrev pub connective_true : BinaryConnective → Bool → Bool → Bool
 connective_true implies a b = not a || b
 connective_true implied a b = a || not b
@@ -46,7 +48,8 @@ values_tested q size [] test ρ = test ρ
 values_tested for_all size (x ∷ xs) test ρ = list_all (λ v. values_tested for_all size xs test ((x, v) ∷ ρ)) (numbers_from 0 size)
 values_tested exists_some size (x ∷ xs) test ρ = list_any (λ v. values_tested exists_some size xs test ((x, v) ∷ ρ)) (numbers_from 0 size)
 
--- an atom is true where its value is 1, which is that of `$true`
+-- Whether a formula is true under values of its free variables, with Tarski's rule for each connective and quantifier. An atom is true if its
+-- value is 1, which is the value of `$true`.
 abbrev mutual
   pub formula_true : List Symbol → Interpretation → FormulaTree → Values → Bool
   formula_true known i truth ρ = true
@@ -67,6 +70,7 @@ abbrev mutual
   some_formula_true known i no_formulas ρ = false
   some_formula_true known i (formula_then f fs) ρ = formula_true known i f ρ || some_formula_true known i fs ρ
 
+-- whether an entry's formula, closed, is true in an interpretation
 abbrev pub annotated_true : List Symbol → Interpretation → Annotated → Bool
 annotated_true known i a = formula_true known i (closed a) []
 

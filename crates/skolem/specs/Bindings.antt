@@ -1,5 +1,5 @@
--- How the innermost binding of a name is found: the bindings of a name are chained, from the innermost outwards. And how bindings whose terms
--- have the same variables are known, or one those of another among its own.
+-- The innermost binding of a name is found by a chain: the bindings of a name are chained, from the innermost outwards. An entry also notes a
+-- binding whose term has the same variables, and one whose variables are among its own.
 use Rattle.std.specs.Prelude.{◌≡◌, ⊤, ℕ, zero, suc, ◌<◌, ◌≤◌, ◌==◌, true, List, [], length, map, get_or, bytes_eq, if◌then◌else◌}
 use Rattle.std.specs.List.{list_any}
 use Rattle.std.specs.Option.{unwrap_or}
@@ -32,7 +32,7 @@ place_in heads x = unwrap_or (lookup (λ (k : VariableName). bytes_eq x k.text) 
 abbrev pub entry_variables : List Entry → ℕ → List ℕ
 entry_variables es i = tree_variables (bound_tree (get_or es i no_entry).binding.term)
 
--- Nothing is said by 0. Else it is one more than a place up to i, whose term has the same variables as that at i.
+-- 0 says nothing. Another number is one more than a place up to i, whose term has the same variables as that at i.
 abbrev pub IsAlike : List Entry → ℕ → ℕ → Type 0
 IsAlike es i zero = ⊤
 IsAlike es i (suc j) = (j ≤ i) × (entry_variables es j ≡ entry_variables es i)
@@ -41,7 +41,7 @@ IsAlike es i (suc j) = (j ≤ i) × (entry_variables es j ≡ entry_variables es
 abbrev pub AreAmong : List ℕ → List ℕ → Type 0
 AreAmong vs us = (v : ℕ) → list_any (λ w. v == w) vs ≡ true → list_any (λ w. v == w) us ≡ true
 
--- Nothing is said by 0. Else it is one more than a place before i, and the variables of the term there are among those at i.
+-- 0 says nothing. Another number is one more than a place before i, and the variables of the term there are among those at i.
 abbrev pub IsCovered : List Entry → ℕ → ℕ → Type 0
 IsCovered es i zero = ⊤
 IsCovered es i (suc j) = (j < i) × AreAmong (entry_variables es j) (entry_variables es i)
@@ -57,12 +57,12 @@ pub record IsChained (es : List Entry) (heads : List (VariableName × ℕ)) : Ty
 abbrev pub bindings_of : List Entry → List Binding
 bindings_of es = map (λ (e : Entry). e.binding) es
 
--- Nothing is said by the place 0. Else there is a binding at the place, counted from 1, and its term has those variables.
+-- The place 0 says nothing. At another place, counted from 1, there is a binding, and its term has those variables.
 abbrev pub HasVariables : List Binding → ℕ → List ℕ → Type 0
 HasVariables bs zero vs = ⊤
 HasVariables bs (suc i) vs = (i < length bs) × (tree_variables (bound_tree (get_or bs i no_binding).term) ≡ vs)
 
--- Nothing is said by the place 0. Else there is a binding at the place, counted from 1, and its term's variables are among those.
+-- The place 0 says nothing. At another place, counted from 1, there is a binding, and its term's variables are among those.
 abbrev pub Covers : List Binding → ℕ → List ℕ → Type 0
 Covers bs zero vs = ⊤
 Covers bs (suc i) vs = (i < length bs) × AreAmong (tree_variables (bound_tree (get_or bs i no_binding).term)) vs

@@ -72,12 +72,12 @@ abbrev mutual
   all_forms_have_clauses no_formulas = true
   all_forms_have_clauses (formula_then f fs) = form_has_clauses f && all_forms_have_clauses fs
 
--- what is counted of a part, which may stand in clauses
+-- the symbols that are counted of a part: its total if it stands in clauses
 abbrev pub total_in : Bool → ℕ → ℕ
 total_in in_clauses total = if in_clauses then total else 0
 
--- Nothing is said of out of memory. Else what is looked at stands in clauses, and a literal in its own is too heavy; or its literals together are,
--- with the symbols that were counted before.
+-- Out of memory says nothing. Too heavy: the part stands in clauses, and a literal in its own clauses is too heavy. Over the total: its literals
+-- together have too many symbols with those that were counted before.
 abbrev pub IsMatrixEnd : MatrixEnd → Bool → ℕ → Bool → ℕ → Type 0
 IsMatrixEnd NoMemory in_clauses counted heavy total = ⊤
 IsMatrixEnd TooHeavy in_clauses counted heavy total = (in_clauses && heavy) ≡ true

@@ -1,5 +1,5 @@
--- What a literal of a matrix is before its terms are made: an atom of a formula, and the terms to which its variables are bound, in the
--- order in which these stand in it.
+-- A literal of a matrix before its terms are made: an atom of a formula, and the terms to which its variables are bound, in the order
+-- in which these stand in it.
 use Rattle.std.specs.Prelude.{◌≡◌, ⊤, ℕ, ◌+◌, ◌-◌, ◌^◌, min, Bool, List, ◌∷◌, ◌++◌, map, flat_map, length, drop, get_or}
 use Rattle.tptp_tree.specs.Term.{TermTree, variable as named_variable, application as named_application, TermTrees, no_terms, term_then, terms_of}
 use Rattle.tptp_tree.specs.Shape.{term_of}

@@ -1,4 +1,4 @@
--- When two names of variables are the same, and that the same names are hashed alike.
+-- When two names of variables are the same; names that are the same are hashed alike.
 use Rattle.std.specs.Prelude.{◌≡◌, Bool, true, [], ◌∷◌, IsTrue, bytes_eq}
 use Rattle.std.specs.Cmp.{IsEquivalence, decided}
 use Rattle.std.proofs.Common.{ap, subst, refl}

@@ -1,5 +1,5 @@
--- What the clauses of a matrix are like, without the clauses: how many they are, the size of the largest, and the variables in them; and the size
--- of the largest of those that define names.
+-- An outline of the clauses of a matrix, without the clauses: how many they are, the size of the largest, the variables in them, and the size of
+-- the largest of those that define names.
 use Rattle.std.specs.Prelude.{◌≡◌, ⊤, ℕ, ◌+◌, ◌*◌, ◌-◌, ◌^◌, ◌<◌, ◌≤◌, ◌==◌, max, min, Bool, true, false, List, [], ◌++◌, length, nat_lt, if◌then◌else◌}
 use Rattle.std.specs.List.{list_any}
 use Rattle.fol_base.specs.Clause.{TreeLiteral, literal_size, literal_variables}
@@ -35,7 +35,7 @@ sum_outline a b =
       variables = a.variables ++ b.variables;
     }
 
--- A product of so many clauses, written out. Without clauses it has no variables either.
+-- The outline of a product that is written out. A product without clauses (`true`) has no variables either.
 abbrev pub pairs_outline_of : Bool → ClauseOutline → ClauseOutline → ClauseOutline
 pairs_outline_of true a b = record { clauses = 0; largest = 0; defining = max a.defining b.defining; variables = [] }
 pairs_outline_of false a b =
@@ -82,14 +82,14 @@ abbrev mutual
   outline_of (conjunction ms) = outlines_of true 0 (constant_outline true) ms
   outline_of (disjunction began ms) = outlines_of false began (constant_outline false) ms
 
-  -- what is there with the clauses of each matrix, one after the other or multiplied
+  -- the outline of the clauses at hand with those of each matrix, one after the other (`listed`) or multiplied
   pub outlines_of : Bool → ℕ → ClauseOutline → MatrixTrees → ClauseOutline
   outlines_of listed began a no_matrices = a
   outlines_of listed began a (matrix_then m ms) = outlines_of listed began (joined_outline listed began a (outline_of m)) ms
 
 -- ---- the program's outlines, of which sizes over the limit are not told apart
 
--- the same numbers, but for the last of a u32, which no variable has
+-- two lists have the same numbers, except for the last of a u32, which no variable has
 abbrev pub AreSame : List ℕ → List ℕ → Type 0
 AreSame xs ys = (v : ℕ) → v < 2 ^ 32 - 1 → list_any (λ w. v == w) xs ≡ list_any (λ w. v == w) ys
 
@@ -104,11 +104,11 @@ pub record IsOutline (a : Outline) (t : ClauseOutline) : Type 0 where
   pub largest : t.defining ≤ MOST_SYMBOLS → a.largest ≡ told t.largest
   pub variables : t.defining ≤ MOST_SYMBOLS → t.largest ≤ MOST_SYMBOLS → AreSame a.variables.items t.variables
 
--- the largest of the clauses that stay as large in what is made of them: those that define names, and all in a part that stands in clauses
+-- the size of the largest clause that stays as large in the result: one that defines a name, or any in a part that stands in clauses
 abbrev pub lasting : Bool → ℕ → ℕ → ℕ
 lasting in_clauses largest defining = max defining (if in_clauses then largest else 0)
 
--- Nothing is said of out of memory. Else such a clause is over the limit.
+-- Out of memory says nothing. Too heavy: such a clause is over the limit.
 abbrev pub IsOutlineEnd : OutlineEnd → Bool → ClauseOutline → Type 0
 IsOutlineEnd NoMemory in_clauses t = ⊤
 IsOutlineEnd TooHeavy in_clauses t = MOST_SYMBOLS < lasting in_clauses t.largest t.defining

@@ -11,7 +11,7 @@ use Rattle.formula_nnf.specs.NormalForm.{normal_form}
 use Rattle.skolem.specs.Skolemized.{Skolemized, skolemized, skolemized_form, skolemized_symbols, AreKnown}
 use Rattle.skolem.specs.MatrixClauses.{matrix_clauses}
 
--- What was made in a problem after a form: the Skolem symbols of the form come after those that were made before it, and no name is made
+-- The state of a problem after a form: the Skolem symbols of the form come after those that were made before it, and no name is made
 -- with them.
 abbrev pub made_after : Made → Made → Made
 made_after m own =

@@ -1,4 +1,4 @@
--- What the program's work on a form is: the variables in force, and what was made.
+-- The state of the program's work on a form: the variables in force, and the variables and symbols that were made.
 use Rattle.std.specs.Prelude.{◌≡◌, ℕ, zero, suc, ◌+◌, ◌≤◌, List, [], ◌∷◌, ◌++◌, length, take, get_or, flat_map}
 use Rattle.tptp_tree.specs.Formula.{FormulaTree, truth, falsity, predicate, equation, negation, conjunction, disjunction, connected, quantified, FormulaTrees, no_formulas, formula_then}
 use Rattle.fol_base.specs.Tree.{variable, tree_variables, true_tree}

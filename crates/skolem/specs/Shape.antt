@@ -1,4 +1,4 @@
--- What the program's matrices are, over trees.
+-- The program's matrices as matrices over trees.
 use Rattle.skolem.specs.Matrix.{MatrixTree, truth, falsity, literal, conjunction, disjunction, matrices_of}
 use Rattle.skolem.specs.declared.matrix.Matrix.{Matrix}
 use Rattle.skolem.specs.declared.matrix.Matrix.TheVariants.{True, False, Lit, And, Or}

@@ -11,18 +11,18 @@ use Rattle.signature.specs.Clausal.{SymbolNumbers, Made, Scope, atom_literal, ma
 use Rattle.signature.specs.Form.{nothing_made, numbered_symbols}
 use Rattle.skolem.specs.Matrix.{MatrixTree, truth as true_matrix, falsity as false_matrix, literal, conjunction as all_of, disjunction as some_of, MatrixTrees, no_matrices, matrix_then, negated}
 
--- a matrix, and what was made by then
+-- a matrix, and the state after the work on it
 pub record Skolemized : Type 0 where
   pub matrix : MatrixTree
   pub made : Made
 
--- matrices, and what was made by then
+-- matrices, and the state after the work on them
 pub record SkolemizedList : Type 0 where
   pub matrices : MatrixTrees
   pub made : Made
 
--- The matrix of a formula in negation normal form. Negation stands before predicates alone, and there is no other connective; where one
--- stands, the matrix is `$true`, which says nothing.
+-- The matrix of a formula in negation normal form: negation stands before predicates alone, and there is no connective but `&` and `|`.
+-- Where another connective stands, the matrix is `$true`, which says nothing.
 abbrev mutual
   pub skolemized : SymbolNumbers → FormulaTree → Environment → Made → Skolemized
   skolemized n truth env m = record { matrix = true_matrix; made = m }
@@ -67,7 +67,7 @@ numbers_after known = record { symbols = known; first_skolem = length known; fir
 abbrev pub skolemized_form : List Symbol → FormulaTree → Skolemized
 skolemized_form known f = skolemized (numbers_after known) f [] nothing_made
 
--- the known symbols with the form's Skolem symbols, named from that number on
+-- the known symbols with the form's Skolem symbols, named by the prefix and the numbers from `next` on
 abbrev pub skolemized_symbols : List Symbol → List ℕ → ℕ → FormulaTree → List Symbol
 skolemized_symbols known prefix next f = known ++ numbered_symbols function_symbol prefix next (skolemized_form known f).made.skolem_arities
 

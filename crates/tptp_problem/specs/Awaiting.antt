@@ -12,7 +12,7 @@ use Rattle.tptp_problem.specs.declared.include.Ending.TheVariants.{Whole, Stoppe
 abbrev pub when : Bool → Awaited → Option Awaited → Option Awaited
 when test next otherwise = if test then Some next else otherwise
 
--- what may come after a token, where that token may come
+-- the symbol that may come after a token, if that token may come
 abbrev pub after : Awaited → Lexeme → Option Awaited
 after Keyword t = when (is_lexeme Lower (codes "include") t) Open None
 after Open t = when (is_mark (codes "(") t) File None

@@ -1,4 +1,4 @@
--- What reading an include says.
+-- The answers of reading an include.
 use Rattle.std.specs.Prelude.{◌≡◌, ◌≤◌, ◌<◌, ◌+◌, ◌*◌, ◌^◌, ⊤, ℕ, List, ◌∷◌, length, drop}
 use Rattle.std.specs.Str.{IsAscii}
 use Rattle.tptp_token.specs.Lexemes.{Lexeme}

@@ -1,4 +1,4 @@
--- How deep the formulas of a problem are nested.
+-- The nesting of a problem's formulas is limited.
 use Rattle.std.specs.Prelude.{ℕ, zero, suc, List}
 use Rattle.tptp_tree.specs.declared.limits.TheConstants.{MOST_NESTING, MOST_PRINTED_NESTING}
 use Rattle.tptp_tree.specs.Formula.{FormulaTree, truth, negation}
@@ -12,7 +12,7 @@ pub record HasFewLevels (f : FormulaTree) : Type 0 where
 
 -- ---- a worked example
 
--- `$true` after so many `~`
+-- `$true` after n `~`
 abbrev pub negated_times : ℕ → FormulaTree
 negated_times zero = truth
 negated_times (suc n) = negation (negated_times n)
@@ -21,10 +21,10 @@ negated_times (suc n) = negation (negated_times n)
 abbrev pub TooManyLevels : Type 0
 TooManyLevels = HasFewLevels (negated_times (suc MOST_NESTING)) → ⊥
 
--- `~` 1,001 times is over the limit of what is printed
+-- `~` 1,001 times is over the limit of printed text
 abbrev pub TooManyPrinted : Type 0
 TooManyPrinted = (text : List ℕ) → SpellsFormulaWithin MOST_PRINTED_NESTING text (negated_times 1001) → ⊥
 
--- What is printed of a formula of few levels spells it within 1,000.
+-- The printed text of a formula of few levels spells it within 1,000.
 abbrev pub PrintedWithin : Type 0
 PrintedWithin = (f : FormulaTree) → HasFewLevels f → SpellsFormulaWithin 1000 (formula_text f) f

@@ -19,7 +19,7 @@ use Rattle.tptp_problem.specs.Files.{base_of, loaded_name, room_after, MayGive}
 use Rattle.tptp_problem.specs.Includes.{is_include, IsInclude, StopsInclude, CutsInclude}
 use Rattle.tptp_problem.specs.Formulas.{Placed, placed_in, selected, missing, counts, conjecture_begun, begun_counts}
 
--- ---- what is read
+-- ---- the state of the reading
 
 -- a file under the name under which it was loaded, with the selections around it, the outermost first
 pub record LoadedFile : Type 0 where
@@ -33,7 +33,7 @@ tokens_of source = (lexed_of source.bytes).tokens
 abbrev pub lexemes : LoadedFile → List Lexeme
 lexemes source = lexemes_of source.bytes (tokens_of source)
 
--- where a token begins; 0 after the last one
+-- the place at which a token begins; 0 after the last one
 abbrev pub start_of : Option Token → ℕ
 start_of None = 0
 start_of (Some token) = token.start
@@ -41,7 +41,7 @@ start_of (Some token) = token.start
 abbrev pub place_of : LoadedFile → ℕ → ℕ
 place_of source index = start_of (slice_get (tokens_of source) index)
 
--- how far the reading has come: the bytes of the files that were loaded, and whether a conjecture that counts was met
+-- the progress of the reading: the bytes of the files that were loaded, and whether a conjecture that counts was met
 pub record Progress : Type 0 where
   pub loaded : ℕ
   pub met : Bool
@@ -73,7 +73,7 @@ pub record IsFormulaStep (source : LoadedFile) (first : ℕ) (progress : Progres
   pub progress_is : step.progress ≡ with_formula source.around (placed_in source.name read.annotated) progress
   pub next_is : step.next ≡ read.next
 
--- what reading the file of a name tells, within selections and from some progress on
+-- a relation for the reading of the file of a name, within selections: from the progress before it to its formulas and the progress after it
 abbrev pub Reads : Type 1
 Reads = List ℕ → List (List (List ℕ)) → Progress → List Placed → Progress → Type 0
 
@@ -108,7 +108,7 @@ pub record Adds (is : Step → Type 0) (before after : List Placed) (progress : 
   pub joined : after ≡ before ++ added
   pub step : is (record { formulas = added; progress = progress; next = next })
 
--- where they lead
+-- the token after entries, the first of which begins at a token
 abbrev pub next_behind : ℕ → List Step → ℕ
 next_behind first [] = first
 next_behind first (s ∷ ss) = next_behind s.next ss
@@ -138,7 +138,7 @@ pub record Loads (told : Option Holdings) (base : List ℕ) (reads : Reads) (nam
   pub given : MayGive told name start.loaded bytes
   pub text : ReadsText base reads (record { name = name; bytes = bytes; around = around }) (with_file bytes start) formulas progress
 
--- the same, where files may be nested so deep
+-- the file of a name is loaded and its text read, if files are nested at most `depth` deep, itself counted
 abbrev pub ReadsNamed : Option Holdings → List ℕ → ℕ → Reads
 ReadsNamed told base zero = λ name around start formulas progress. ⊥
 ReadsNamed told base (suc depth) = Loads told base (ReadsNamed told base depth)
@@ -157,7 +157,7 @@ Faults = List ℕ → List (List (List ℕ)) → Progress → ReadCause → List
 abbrev pub EntryFaults : Type 1
 EntryFaults = ℕ → Progress → ReadCause → List ℕ → ℕ → Type 0
 
--- a second conjecture is refused before what is wrong after its role
+-- a second conjecture is refused before any fault after its role
 abbrev pub IsFormulaFault : LoadedFile → Bool → EntryFaults
 IsFormulaFault source true first progress cause file place =
     (cause ≡ SecondConjecture) × (file ≡ source.name) × (place ≡ place_of source (first + 4))
@@ -194,7 +194,7 @@ pub record IsIncludedFault (base : List ℕ) (reads : Reads) (faults : Faults) (
       ⊎ IsMissing source first (names_meant names)
       (reads (loaded_name base (name_of word)) (source.around ++ names_meant names ∷ []) progress) cause file place
 
--- where files may be nested so deep below
+-- an include at fault, if files may be nested `depth` deep below it
 abbrev pub IsIncludeFault : ℕ → List ℕ → Reads → Faults → LoadedFile → EntryFaults
 IsIncludeFault zero base reads faults source first progress cause file place =
     (cause ≡ IncludeDepth) × (file ≡ source.name) × (place ≡ place_of source first)
@@ -241,7 +241,7 @@ pub record IsTextFault (told : Option Holdings) (text : LoadedFile → Progress 
   pub given : MayGive told name start.loaded bytes
   pub fault : text (record { name = name; bytes = bytes; around = around }) (with_file bytes start) cause file place
 
--- the fault of the file of a name, where files may be nested so deep
+-- the fault of the file of a name, if files may be nested `depth` deep, itself counted
 abbrev pub FaultsNamed : Option Holdings → List ℕ → ℕ → ℕ → Faults
 FaultsNamed told base found zero = λ name around start cause file place. ⊥
 FaultsNamed told base found (suc depth) =

@@ -1,4 +1,4 @@
--- What the program's values are in the words of the definitions.
+-- The program's values in the words of the definitions.
 use Rattle.std.specs.Prelude.{◌≡◌, ◌≤◌, ℕ, List, map, length, Option, IfSome}
 use Rattle.outside.specs.Faults.{Rose}
 use Rattle.tptp_token.specs.declared.limits.TheConstants.{MOST_TEXT_BYTES}

@@ -1,5 +1,5 @@
--- What the files of a problem spell, told without how they are read: the bytes of each file spell entries; an annotated formula
--- gives itself, and an include the formulas of its file, or those of them whose names it lists.
+-- The formulas that the files of a problem spell, told without how they are read. The bytes of each file spell entries; an
+-- annotated formula gives itself, and an include the formulas of its file, or those of them whose names it lists.
 use Rattle.std.specs.Prelude.{◌≡◌, ℕ, zero, suc, List, [], ◌∷◌, ◌++◌, Option, None, Some}
 use Rattle.std.specs.List.{filter}
 use Rattle.outside.specs.Library.{Holdings, HoldsExactly}
@@ -16,7 +16,7 @@ pub record FromFile : Type 0 where
 abbrev pub from_file : Placed → FromFile
 from_file f = record { tree = f.tree; file = f.file }
 
--- what the file of a name gives
+-- a relation between the name of a file and the formulas that it gives
 abbrev pub Gives : Type 1
 Gives = List ℕ → List FromFile → Type 0
 
@@ -25,13 +25,13 @@ abbrev pub taken : Option (List (List ℕ)) → List FromFile → List FromFile
 taken None formulas = formulas
 taken (Some names) formulas = filter (λ (f : FromFile). selects names f.tree.name) formulas
 
--- what an entry of a file gives
+-- The formulas that an entry of a file gives. An annotated formula gives itself; an include gives those that it takes from its file.
 abbrev pub EntryGives : List ℕ → Gives → List ℕ → EntryTree → List FromFile → Type 0
 EntryGives base gives file (annotated_tree tree) formulas = formulas ≡ record { tree = tree; file = file } ∷ []
 EntryGives base gives file (include_tree word names) formulas =
     (all : List FromFile) × gives (loaded_name base word) all × (formulas ≡ taken names all)
 
--- entries, one after the other
+-- the formulas that a list of entries gives, in order
 abbrev pub EntriesGive : List ℕ → Gives → List ℕ → List EntryTree → List FromFile → Type 0
 EntriesGive base gives file [] formulas = formulas ≡ []
 EntriesGive base gives file (e ∷ es) formulas =
@@ -46,7 +46,7 @@ pub record FileGives (told : Option Holdings) (base : List ℕ) (gives : Gives) 
   pub spelled : SpellsEntries bytes entries
   pub given : EntriesGive base gives name entries formulas
 
--- the same, where files may be nested so deep
+-- The formulas that the file of a name gives, if files are nested at most `depth` deep, itself counted. At depth 0 no file gives any list.
 abbrev pub NamedGives : Option Holdings → List ℕ → ℕ → Gives
 NamedGives told base zero = λ name formulas. ⊥
 NamedGives told base (suc depth) = FileGives told base (NamedGives told base depth)

@@ -40,7 +40,7 @@ WholeFile =
     (record { tree = clause_named (codes "b") (codes "q"); file = codes "r/f" }
     ∷ record { tree = clause_named (codes "c") (codes "r"); file = codes "r/f" } ∷ [])
 
--- the same with a third file
+-- a library of three files, each included by the one before
 abbrev pub nested : Holdings
 nested file =
     if bytes_eq (codes "d/g") file then Some two_clauses

@@ -17,8 +17,8 @@ ghost use Rattle.tptp_problem.specs.SpelledExamples.{SelectedFormula, WholeFile,
 ghost use Rattle.tptp_problem.specs.FaultExamples.{TwoConjectures, IncludesItself, TooManyBytes, IncludeCutOff, QuoteLeftOpen};
 ghost use Rattle.tptp_problem.specs.Levels.{HasFewLevels, TooManyLevels, TooManyPrinted, PrintedWithin};
 
-/// Where a library tells what it holds, a file has one problem or one first fault, but that a load may fail: there is at most
-/// one problem, no other fault beside it, and at most one other fault.
+/// If a library tells its texts, a file has one problem or one first fault, except that a load may fail: there is at most one problem, no
+/// other fault beside it, and at most one other fault.
 pub fn one_outcome()
     ensures one_problem { (holds : Holdings) (file : List ℕ) (root : Option (List ℕ)) (f g : List Placed)
         → IsProblem (Some holds) file root f → IsProblem (Some holds) file root g → f ≡ g }

@@ -1,4 +1,4 @@
--- What reading an annotated formula from a text's tokens answers.
+-- The answers of reading an annotated formula from a text's tokens.
 use Rattle.std.specs.Prelude.{◌≡◌, ◌⊎◌, ℕ, ◌+◌, ◌≤◌, ◌++◌, List, [], drop, length, Some, None, IfSome, slice_get}
 use Rattle.tptp_token.specs.Lexemes.{lexemes_of}
 use Rattle.tptp_token.specs.declared.token.Token.{Token}
@@ -27,7 +27,7 @@ pub record IsReading (limit : ℕ) (bytes : List ℕ) (tokens : List Token) (fir
   pub place : IfSome (slice_get tokens first) (λ t. read.annotated.place ≡ t.start)
   pub file : read.annotated.file ≡ []
 
--- two answers of what is read say the same
+-- two readings agree on the formula, its file and place, and its tokens
 pub record IsSameReading (read other : Read) : Type 0 where
   pub tree : entry_of read.annotated ≡ entry_of other.annotated
   pub place : read.annotated.place ≡ other.annotated.place

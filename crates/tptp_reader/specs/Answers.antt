@@ -1,4 +1,4 @@
--- What reading one annotated formula from tokens answers: the formula, or the first token at which it can't go on, and why.
+-- The answers of reading one annotated formula from tokens: the formula, or the first token at which it can't go on, and why.
 use Rattle.std.specs.Prelude.{◌≡◌, ◌⊎◌, ℕ, suc, true, List, [], ◌∷◌, ◌++◌, map, length, take, codes, Option, None, Some, if◌then◌else◌}
 use Rattle.std.specs.List.{AllByRecursion}
 use Rattle.tptp_token.specs.Spelling.{is_one_of}

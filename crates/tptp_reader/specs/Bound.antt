@@ -1,4 +1,4 @@
--- How bound variables are counted, and when two names are the same.
+-- The count of each bound variable, and when two names are the same.
 use Rattle.std.specs.Prelude.{◌≡◌, ℕ, Bool, List, [], ◌∷◌, drop, count_by, bytes_eq, IsTrue}
 use Rattle.std.specs.Cmp.{IsEquivalence, decided, on_equiv}
 use Rattle.std.specs.Ordering.{on}
@@ -26,6 +26,6 @@ same_names = on_equiv bytes_of same_bytes
 pub same_names_hash_alike : (m n : Name) → IsTrue (same_name m n) → bytes_of m ∷ [] ≡ bytes_of n ∷ []
 same_names_hash_alike m n h = ap (λ (x : List ℕ). x ∷ []) ((bytes_eq-Decides (bytes_of m) (bytes_of n)).0 h)
 
--- The table has how often each name stands after the first ones.
+-- The table counts how often each name stands after the first `SCANNED` names.
 abbrev pub IsCounted : List Name → HashMap Name ℕ (BuildHasherDefault FoldHasher) → Type 0
 IsCounted names behind = (x : Name) → count_at (get same_name behind) x ≡ count_by (same_name x) (drop SCANNED names)

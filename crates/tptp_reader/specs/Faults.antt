@@ -1,4 +1,4 @@
--- What a fault tells: its cause, the name of its file and its place. Out of memory may be told anywhere.
+-- The contents of a fault: its cause, the name of its file and its place. Out of memory may be told anywhere.
 use Rattle.std.specs.Prelude.{◌≡◌, ⊤, ℕ, List, Option, None, Some}
 use Rattle.tptp_token.specs.declared.token.LexFault.{LexFault}
 use Rattle.tptp_token.specs.declared.token.LexFault.TheVariants.{BadByte as BadByteAt, Unclosed as UnclosedAt}

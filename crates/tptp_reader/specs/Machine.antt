@@ -1,5 +1,5 @@
--- The grammar of annotated formulas as a stack machine that takes token after token, as a reader does: on the stack stands what
--- has still to come. It says at which token the reading ends, and why.
+-- The grammar of annotated formulas as a stack machine that takes token after token, as a reader does: on the stack stand the
+-- symbols that have still to come. It says at which token the reading ends, and why.
 use Rattle.std.specs.Prelude.{ℕ, suc, Bool, true, false, ◌==◌, ◌&&◌, ◌||◌, List, [], ◌∷◌, ◌++◌, length, codes, bytes_eq, Option, None, Some, if◌then◌else◌}
 use Rattle.tptp_token.specs.Spelling.{is_one_of}
 use Rattle.tptp_token.specs.Words.{is_name}
@@ -9,7 +9,7 @@ use Rattle.tptp_token.specs.declared.token.Kind.TheVariants.{Lower, Variable, Qu
 use Rattle.tptp_tree.specs.Brackets.{Bracket, opened, open_after}
 use Rattle.tptp_tree.specs.Causes.{typed, number_form, distinct_form, dollar_form, Refusal, syntax, left_out, Surroundings, deeper, binding, begun, variable_cause, role_cause, note_cause, outermost}
 
--- What has still to come. A symbol in whose name stands `maybe` may be left out.
+-- A symbol of the grammar that has still to come. A symbol with `maybe` in its name may be left out.
 pub data Symbol : Type 0 where
   -- exactly this mark
   mark : List ℕ → Symbol
@@ -28,7 +28,7 @@ pub data Symbol : Type 0 where
   a_unit : Surroundings → Symbol
   -- after the first unit of a formula: a connective and what follows it
   maybe_connected : Surroundings → Symbol
-  -- a further unit after the same sign
+  -- that connective again, and a further unit after it
   maybe_more_units : List ℕ → Surroundings → Symbol
   -- the bracket of a quantifier's variables
   variables_bracket : Surroundings → Symbol
@@ -49,8 +49,8 @@ pub data Symbol : Type 0 where
   more_notes : ℕ → List Bracket → Symbol
   an_annotated : ℕ → Symbol
 
--- What a symbol does with a token: it takes it, with what has then to come and with what is wrong with the token, if anything
--- is; it is left out; or no text goes on so.
+-- The step of a symbol on a token. The symbol takes the token, with the symbols that then have to come and the token's fault,
+-- if it has one; or the symbol is left out; or no text goes on so.
 pub data Step : Type 0 where
   takes : List Symbol → Option Refusal → Step
   passes : Step
@@ -160,7 +160,8 @@ role_step is_clause Connective bytes = stops syntax
 role_step is_clause Mark bytes = stops syntax
 role_step is_clause Other bytes = stops syntax
 
--- with the brackets that are open before the token and after it, and what comes where the token closes none of them
+-- the step on a token of notes, by the brackets that are open before it and after it; `otherwise` is the step on a token that
+-- closes none of them
 abbrev pub note_step : ℕ → List Bracket → Option (List Bracket) → Step → Lexeme → Step
 note_step limit unclosed (Some behind) otherwise token =
     takes (more_notes limit behind ∷ []) (note_cause limit (length unclosed) (opened token))
@@ -241,14 +242,15 @@ step (first_note limit) token = note_step limit [] (open_after [] token) (stops 
 step (more_notes limit unclosed) token = note_step limit unclosed (open_after unclosed token) (end_of_notes_step unclosed token) token
 step (an_annotated limit) token = annotated_step limit token.kind token.bytes
 
--- The machine before a token: it goes on with a stack; or it has ended, and what was to come stands before the token of that
--- place; or the token of that place is refused.
+-- The machine before a token: it goes on with a stack; or it has ended, and all that was to come stands before the token of
+-- that place; or the token of that place is refused.
 pub data Run : Type 0 where
   going : List Symbol → Run
   over : ℕ → Run
   refused : ℕ → Refusal → Run
 
--- the place of the token, what stands below the symbol, what the symbol does, and the run in which it is left out
+-- the run after a symbol's step: from the place of the token, the stack below the symbol, the step, and the run in which the
+-- symbol is left out
 abbrev pub stepped : ℕ → List Symbol → Step → Run → Run
 stepped place below (takes new None) left_out_run = going (new ++ below)
 stepped place below (takes new (Some refusal)) left_out_run = refused place refusal
@@ -260,7 +262,7 @@ abbrev pub after_token : ℕ → List Symbol → Lexeme → Run
 after_token place [] token = over place
 after_token place (s ∷ ss) token = stepped place ss (step s token) (after_token place ss token)
 
--- how a reading ends: what was to come stands before the token of that place; the token is refused; or the tokens run out
+-- the end of a reading: all that was to come stands before the token of that place; the token of that place is refused; or the tokens run out
 pub data Verdict : Type 0 where
   read_up_to : ℕ → Verdict
   refused_at : ℕ → Refusal → Verdict

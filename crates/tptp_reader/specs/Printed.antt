@@ -1,4 +1,4 @@
--- What a printed formula spells, where its tree was spelled as an annotated formula.
+-- A printed formula spells its tree again, if the tree was spelled as an annotated formula.
 use Rattle.std.specs.Prelude.{◌≡◌, ℕ, Bool, true, List, []}
 use Rattle.tptp_token.specs.Lexemes.{IsLexedAs}
 use Rattle.tptp_tree.specs.Formula.{FormulaTree}

@@ -1,4 +1,4 @@
--- What the program's forms are, in the words of the definitions.
+-- The program's forms in the words of the definitions.
 use Rattle.tptp_tree.specs.Causes.{Form, typed, role_form, number_form, distinct_form, dollar_form}
 use Rattle.tptp_reader.specs.declared.cause.Form.{Form as ToldForm}
 use Rattle.tptp_reader.specs.declared.cause.Form.TheVariants.{Typed, RoleForm, Number, Distinct, Dollar}

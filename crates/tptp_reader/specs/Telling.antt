@@ -1,4 +1,5 @@
--- What the functions that read an annotated formula say of the tokens before and after, told by the stack machine.
+-- The contracts of the functions that read an annotated formula: what each says of the tokens before and after,
+-- told by the stack machine.
 use Rattle.std.specs.Prelude.{◌≡◌, ◌≤◌, ◌+◌, ⊤, ℕ, Bool, true, false, List, [], ◌∷◌, ◌++◌, map, drop, codes, bytes_eq, Option, None, Some, not, if◌then◌else◌}
 use Rattle.std.specs.List.{list_any}
 use Rattle.tptp_token.specs.Lexemes.{Lexeme, lexemes_of, lexeme, IsTokenAt}

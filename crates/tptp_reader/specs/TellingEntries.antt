@@ -1,4 +1,4 @@
--- What the functions that read an entry say of the tokens before and after.
+-- The contracts of the functions that read an entry: what each says of the tokens before and after.
 use Rattle.std.specs.Prelude.{◌≡◌, ◌<◌, ◌+◌, ⊤, ℕ, Bool, true, false, List, [], ◌∷◌, ◌++◌, drop, length, codes, Some, slice_get}
 use Rattle.tptp_token.specs.Lexemes.{Lexeme, lexeme}
 use Rattle.tptp_token.specs.declared.token.Kind.TheVariants.{Lower, Mark}
@@ -89,7 +89,7 @@ IsCauseBy bytes lexed (At refusal index) cause place =
     × ((token : Token) × (slice_get lexed.tokens index ≡ Some token) × (place ≡ token.start))
 IsCauseBy bytes lexed Ended cause place = IsEndFault lexed.fault (length bytes) cause place
 
--- the halt names a token, if any, that is one of so many
+-- the index of the token that a halt names, if any, is below the count
 abbrev pub IsWithin : ℕ → Halt → Type 0
 IsWithin count NoMemory = ⊤
 IsWithin count (At refusal index) = index < count

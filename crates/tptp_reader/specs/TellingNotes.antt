@@ -1,4 +1,4 @@
--- What the functions that read notes say of the tokens before and after.
+-- The contracts of the functions that read notes: what each says of the tokens before and after.
 use Rattle.std.specs.Prelude.{◌≡◌, ◌+◌, ⊤, ℕ, Bool, true, false, List, [], ◌∷◌, ◌++◌, map, drop, length, reverse, codes, Option, None, Some}
 use Rattle.tptp_token.specs.Lexemes.{Lexeme, is_mark, lexeme}
 use Rattle.tptp_token.specs.declared.token.Kind.TheVariants.{Mark}
@@ -62,7 +62,8 @@ pub record ReadsNotes (r : Reader) (at next : ℕ) : Type 0 where
   pub closed : IsNext r next (lexeme Mark (codes ")"))
   pub leads : Leads r (first_note r.limit ∷ []) at (mark (codes ".") ∷ []) (next + 1)
 
--- the same where the token doesn't close the innermost bracket
+-- a token of notes that doesn't close the innermost bracket: whether it goes on with them, and the
+-- brackets that are open after it
 abbrev pub EntersWith : ℕ → List Bracket → Lexeme → Bool → List Bracket → Type 0
 EntersWith limit unclosed token true behind =
     (with_opened (opened token) (is_closing token) unclosed ≡ Some behind)

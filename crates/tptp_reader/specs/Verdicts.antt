@@ -1,4 +1,4 @@
--- What the verdict of the machine says.
+-- The meaning of the machine's verdict.
 use Rattle.std.specs.Prelude.{◌≡◌, ◌≤◌, ℕ, suc, List, [], ◌∷◌, length, take, drop}
 use Rattle.tptp_token.specs.Lexemes.{Lexeme}
 use Rattle.tptp_tree.specs.Entries.{AnnotatedPhrase}

@@ -20,7 +20,7 @@ const SCANNED: usize = 16;
 #[derive(Drop)]
 pub struct Bound<'a> {
     names: Vec<Name<'a>>,
-    /// How often each name stands after the first `SCANNED`.
+    /// For each name, how often it stands after the first `SCANNED` names.
     behind: HashMap<Name<'a>, usize>,
 }
 

@@ -1,7 +1,8 @@
--- General terms (Sutcliffe 2017, this product's profile), as trees.
+-- General terms of TPTP annotations (Sutcliffe 2017, in the profile of this program), as trees.
 use Rattle.std.specs.Prelude.{ℕ, ◌+◌, List, [], ◌∷◌}
 use Rattle.tptp_source.specs.declared.sign.NumberSign.{NumberSign}
 
+-- A general term, and a list of general terms: for example `file('a.p',ax)`, `[X,~q]`, `bind(X,f(Y)):-1`.
 mutual
   pub data GeneralTree : Type 0 where
     variable : List ℕ → GeneralTree

@@ -1,4 +1,4 @@
--- A code for general terms: the steps of a small machine that builds one, read from the last step to the first.
+-- A code for general terms: the steps of a small machine that builds a term, read from the last step to the first.
 use Rattle.std.specs.Prelude.{◌≡◌, ℕ, zero, suc, List, [], ◌∷◌, refl}
 use Rattle.std.specs.Coded.{Coded, code_by, coded×, coded_ℕ, coded_list}
 use Rattle.std.proofs.Common.{◌∙◌, ap}
@@ -6,7 +6,8 @@ use Rattle.tptp_source.specs.declared.sign.NumberSign.{NumberSign}
 use Rattle.tptp_source.specs.declared.sign.NumberSign.TheVariants.{Unsigned, Plus, Minus}
 use Rattle.tptp_source.specs.General.{GeneralTree, variable, word, dollar, number, distinct, negated, listed, joined, GeneralTrees, no_trees, tree_then}
 
--- 4 begins a list of terms; 5 to 8 end it with what stands before it; each other number puts a term without terms in front
+-- a step of that machine: 4 begins a list of terms; 5 to 8 end it as the arguments or members of a new term; each other
+-- number puts a term without terms in front
 abbrev pub TermStep : Type 0
 TermStep = ℕ × List ℕ
 
@@ -76,7 +77,7 @@ sign-step Unsigned n s = refl
 sign-step Plus n s = refl
 sign-step Minus n s = refl
 
--- the list of terms is built, and what stands before it ends it
+-- a list of terms is built, and becomes the arguments or members of a new term
 closed :
     (f : GeneralTrees → GeneralTree) (ts : GeneralTrees) (rest after : List TermStep)
     → after_steps after ≡ (joined_trees ts no_trees, (after_steps rest).0 ∷ (after_steps rest).1)

@@ -1,4 +1,4 @@
--- What small items say.
+-- Small items, read.
 use Rattle.std.specs.Prelude.{◌≡◌, ℕ, true, false, List, [], ◌∷◌, codes, None, Some}
 use Rattle.tptp_tree.specs.Term.{variable as variable_term, application, no_terms, term_then}
 use Rattle.tptp_source.specs.declared.sign.NumberSign.TheVariants.{Unsigned, Minus}

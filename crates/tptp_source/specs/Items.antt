@@ -1,4 +1,4 @@
--- What the items of an inference say: terms of formulas, numbers, sides and signed names.
+-- The items of an inference, read from general terms: terms of formulas, numbers, sides and signed names.
 use Rattle.std.specs.Prelude.{ℕ, ◌+◌, ◌-◌, ◌*◌, ◌^◌, Bool, true, false, not, ◌&&◌, ◌==◌, nat_lt, List, [], ◌∷◌, codes, bytes_eq, Option, None, Some, if◌then◌else◌}
 use Rattle.std.specs.Option.{option_map}
 use Rattle.std.specs.List.{list_all}
@@ -12,12 +12,13 @@ use Rattle.tptp_source.specs.General.{GeneralTree, variable, word, dollar, numbe
 
 -- ---- sides
 
+-- the side that a word names, if it has no arguments
 abbrev pub side_by : List ℕ → GeneralTrees → Option SideName
 side_by f no_trees =
     if bytes_eq f (codes "left") then Some Left else (if bytes_eq f (codes "right") then Some Right else None)
 side_by f (tree_then t ts) = None
 
--- the words `left` and `right`
+-- the side that a general term names: the word `left` or the word `right`
 abbrev pub side_in : GeneralTree → Option SideName
 side_in (variable x) = None
 side_in (word f ts) = side_by f ts
@@ -34,11 +35,12 @@ side_in (joined ts) = None
 abbrev pub SignedName : Type 0
 SignedName = Bool × List ℕ
 
+-- the name that a word is, with positive sign, if it has no arguments
 abbrev pub positive_by : List ℕ → GeneralTrees → Option SignedName
 positive_by f no_trees = Some (true, f)
 positive_by f (tree_then t ts) = None
 
--- a word without arguments, or one after `~`
+-- the signed name that a general term is: a word without arguments, as `spl0`, or one after `~`, as `~spl0`
 abbrev pub signed_name_in : GeneralTree → Option SignedName
 signed_name_in (variable x) = None
 signed_name_in (word f ts) = positive_by f ts
@@ -57,23 +59,26 @@ is_decimal [] = false
 is_decimal (d ∷ []) = is_digit d
 is_decimal (d ∷ e ∷ es) = not (d == 48) && list_all is_digit (d ∷ e ∷ es)
 
--- the number of digits after those of a number
+-- the value of a numeral whose first digits have the value `value` and whose other digits are these
 abbrev pub value_behind : ℕ → List ℕ → ℕ
 value_behind value [] = value
 value_behind value (d ∷ ds) = value_behind (value * 10 + (d - 48)) ds
 
+-- a number, if it fits 64 bits
 abbrev pub below_word : ℕ → Option ℕ
 below_word n = if nat_lt n (2 ^ 64) then Some n else None
 
--- the number that they are, below 2 ^ 64
+-- the number that a numeral spells, if it is decimal and below 2 ^ 64
 abbrev pub decimal_in : List ℕ → Option ℕ
 decimal_in ds = if is_decimal ds then below_word (value_behind 0 ds) else None
 
+-- the number that a numeral spells, if it has no sign
 abbrev pub unsigned_by : NumberSign → List ℕ → Option ℕ
 unsigned_by Unsigned n = decimal_in n
 unsigned_by Plus n = None
 unsigned_by Minus n = None
 
+-- the number that a general term is: an unsigned decimal numeral below 2 ^ 64, as `17`
 abbrev pub number_in : GeneralTree → Option ℕ
 number_in (variable x) = None
 number_in (word f ts) = None
@@ -84,23 +89,26 @@ number_in (negated f) = None
 number_in (listed ts) = None
 number_in (joined ts) = None
 
+-- A number in front of a list of numbers. There is none if the number or the list is missing.
 abbrev pub number_before : Option ℕ → Option (List ℕ) → Option (List ℕ)
 number_before None ns = None
 number_before (Some n) None = None
 number_before (Some n) (Some ns) = Some (n ∷ ns)
 
+-- the numbers that general terms are, if each of them is one
 abbrev pub all_numbers : List GeneralTree → Option (List ℕ)
 all_numbers [] = Some []
 all_numbers (t ∷ ts) = number_before (number_in t) (all_numbers ts)
 
 -- ---- terms of formulas
 
+-- A term in front of a list of terms. There is none if the term or the list is missing.
 abbrev pub term_before : Option TermTree → Option TermTrees → Option TermTrees
 term_before None ts = None
 term_before (Some t) None = None
 term_before (Some t) (Some ts) = Some (term_then t ts)
 
--- variables, and words with terms as arguments
+-- The term of a formula that a general term is: a variable, or a word with such terms as arguments, as `f(X,a)`.
 abbrev mutual
   pub term_in : GeneralTree → Option TermTree
   term_in (variable x) = Some (variable_term x)

@@ -1,4 +1,4 @@
--- How deep the brackets of general terms and of sources are nested, and that a reader's limit on notes is one of these levels.
+-- The levels of brackets of general terms and of sources; a reader's limit on notes is a limit of these levels.
 use Rattle.std.specs.Prelude.{◌≡◌, ℕ, suc, ◌≤◌, max, List, [], Some, ◌↔◌}
 use Rattle.tptp_token.specs.Lexemes.{Lexeme}
 use Rattle.tptp_tree.specs.Causes.{notes_causes}

@@ -1,5 +1,5 @@
--- The grammar of general terms as a machine that takes token after token, as a reader does, and builds the term. Its state is
--- what has been read, with the brackets that are open.
+-- The grammar of general terms as a machine that takes token after token, as a reader does, and builds the term. Its state
+-- has the parts that were read and the brackets that are open.
 use Rattle.std.specs.Prelude.{ℕ, Bool, true, false, List, [], ◌∷◌, ◌++◌, codes, bytes_eq, Option, None, Some, if◌then◌else◌}
 use Rattle.tptp_token.specs.Words.{is_word, token_name}
 use Rattle.tptp_token.specs.Lexemes.{Lexeme, is_mark}
@@ -13,7 +13,7 @@ use Rattle.tptp_source.specs.General.{GeneralTree, variable, word, dollar, numbe
 
 -- ---- states
 
--- what stands before a bracket: a word, a dollar word, or nothing before that of a list
+-- the opener of a bracket: a word or a dollar word before it, or nothing before that of a list
 pub data Opener : Type 0 where
   word_opens : List ℕ → Opener
   dollar_opens : List ℕ → Opener
@@ -81,7 +81,7 @@ is_number Connective = false
 is_number Mark = false
 is_number Other = false
 
--- what the token begins, where a part may stand
+-- the part that a token begins, where a part may stand
 abbrev pub beginning_of : Lexeme → Beginning
 beginning_of token = beginning_by token.kind token.bytes
 

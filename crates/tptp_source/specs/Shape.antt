@@ -1,4 +1,4 @@
--- What the program's general terms are: trees.
+-- The program's general terms as trees.
 use Rattle.tptp_source.specs.General.{GeneralTree, variable, word, dollar, number, distinct, negated, listed, joined, trees_of}
 use Rattle.tptp_source.specs.declared.term.GeneralTerm.{GeneralTerm}
 use Rattle.tptp_source.specs.declared.term.GeneralTerm.TheVariants.{Variable, Word, Dollar, Number, Distinct, Negated, Listed, Joined}

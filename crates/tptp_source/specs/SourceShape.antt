@@ -1,4 +1,4 @@
--- What the program's sources are.
+-- The program's sources as trees.
 use Rattle.tptp_source.specs.Shape.{tree_of}
 use Rattle.tptp_source.specs.Sources.{SourceTree, file_source, inference_source, component_source, opposite_source}
 use Rattle.tptp_source.specs.declared.source.Source.{Source}

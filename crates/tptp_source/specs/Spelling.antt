@@ -1,5 +1,5 @@
--- The general terms that tokens spell (Sutcliffe 2017, this product's profile). The grammar's cases are trees of phrases; a
--- phrase has its tokens and its term.
+-- The general terms that tokens spell (Sutcliffe 2017, in the profile of this program). The grammar's cases are trees of
+-- phrases; a phrase has its tokens and its term.
 use Rattle.std.specs.Prelude.{◌≡◌, ℕ, List, [], ◌∷◌, codes}
 use Rattle.tptp_token.specs.Words.{Word, name_of}
 use Rattle.tptp_token.specs.Lexemes.{Lexeme, lexeme, word_lexeme}
@@ -34,11 +34,14 @@ mutual
 
 -- ---- tokens, in front of those that follow
 
+-- the tokens of a number: its sign `+` or `-` if it has one, and its digits
 abbrev pub number_lexemes : NumberSign → List ℕ → List Lexeme → List Lexeme
 number_lexemes Unsigned n rest = lexeme Number n ∷ rest
 number_lexemes Plus n rest = lexeme Other (codes "+") ∷ lexeme Number n ∷ rest
 number_lexemes Minus n rest = lexeme Other (codes "-") ∷ lexeme Number n ∷ rest
 
+-- The tokens of a phrase, as in `f(a,X):[+1,~q]`: a part, the arguments of a word, the items of a list, the terms after a
+-- comma, a whole term, and the parts after a `:`. The tokens that follow are given.
 abbrev mutual
   pub part_lexemes : PartPhrase → List Lexeme → List Lexeme
   part_lexemes (variable_part x) rest = lexeme Variable x ∷ rest
@@ -74,6 +77,7 @@ abbrev mutual
 
 -- ---- terms
 
+-- The general terms that phrases spell: of a part, of the parts after the first, of a whole term, and of a list of terms.
 abbrev mutual
   pub part_meant : PartPhrase → GeneralTree
   part_meant (variable_part x) = variable x

@@ -1,4 +1,5 @@
--- What the functions that read a general term say of the tokens before and after, told by the machine.
+-- The contracts of the functions that read a general term: what each says of the tokens before and
+-- after, told by the machine.
 use Rattle.std.specs.Prelude.{◌≡◌, ⊤, ℕ, List, [], ◌∷◌, ◌++◌, drop, codes, Option, None, Some}
 use Rattle.tptp_token.specs.Lexemes.{Lexeme, lexemes_of, IsTokenAt}
 use Rattle.tptp_source.specs.General.{GeneralTree}
@@ -23,7 +24,7 @@ abbrev pub IsHalt : Halt → Option GeneralTree → Type 0
 IsHalt NoMemory answer = ⊤
 IsHalt NoTerm answer = answer ≡ None
 
--- ---- what has to come leads to what was read, whatever was read before
+-- ---- symbols that have to come lead to terms that were read, whatever was read before
 
 -- a state of the machine, by the parts that were read of the innermost term, and the open brackets
 abbrev pub Place : Type 0
@@ -39,7 +40,7 @@ pub record Leads (r : Reader) (first : Place) (at : ℕ) (last : Place) (next : 
 pub record Halts (r : Reader) (first : Place) (at : ℕ) (halt : Halt) : Type 0 where
   pub by : (before : List GeneralTree) (levels : List Level) → IsHalt halt (told r (first before levels) at)
 
--- ---- what a function that reads says
+-- ---- the contracts of the reading functions
 
 abbrev pub ReadsPart : Reader → Place → ℕ → ℕ → GeneralTree → Type 0
 ReadsPart r first at next t = Leads r first at (behind t) next

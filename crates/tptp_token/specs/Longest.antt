@@ -6,11 +6,11 @@ abbrev pub greatest : (ℕ → Bool) → ℕ → ℕ
 greatest test zero = zero
 greatest test (suc n) = if test (suc n) then suc n else greatest test n
 
--- the length of the longest front that passes, and 0 where none but the empty one does
+-- the length of the longest beginning that passes, and 0 where none but the empty one does
 unfoldable pub longest : (List ℕ → Bool) → List ℕ → ℕ
 longest test bytes = greatest (λ n. test (take n bytes)) (length bytes)
 
--- a length after a front of so many bytes, and 0 where it is 0
+-- the length of `front` bytes and the bytes after them together, and 0 where none are after them
 abbrev pub behind : ℕ → ℕ → ℕ
 behind front zero = zero
 behind front (suc n) = front + suc n

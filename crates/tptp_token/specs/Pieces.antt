@@ -1,4 +1,4 @@
--- What stands at the beginning of a text: a token, a blank or a comment, or a fault.
+-- The piece at the beginning of a text: a token, a blank or a comment, or a fault.
 use Rattle.std.specs.Prelude.{◌≡◌, ◌≢◌, ◌<◌, ◌≤◌, ℕ, zero, suc, ◌+◌, ◌==◌, Bool, true, false, ◌&&◌, ◌||◌, not, Option, None, Some, List, [], ◌∷◌, ◌++◌, take, drop, option_map, if◌then◌else◌, bytes_eq}
 use Rattle.std.specs.List.{prefix_len, list_any}
 use Rattle.tptp_token.specs.Spelling.{is_between, is_lower, is_upper, is_digit, marks, is_end, begins, is_quoted_rest}
@@ -21,17 +21,17 @@ starts_with byte = begins (λ first. first == byte) (λ rest. true)
 abbrev pub starts_with_either : ℕ → ℕ → List ℕ → Bool
 starts_with_either one other = begins (λ first. (first == one) || (first == other)) (λ rest. true)
 
--- `%` opens a comment up to the end of the line, which is a line feed or the end of the text
+-- how many bytes a comment has after its `%`, up to the end of the line, which is a line feed or the end of the text
 unfoldable pub line_length : List ℕ → ℕ
 line_length bytes = prefix_len (λ byte. not (byte == 10)) bytes
 
--- how far the first `*/` ends
+-- how many bytes there are up to the end of the first `*/`; none where there is no `*/`
 unfoldable pub block_end : List ℕ → Option ℕ
 block_end [] = None
 block_end (byte ∷ bytes) =
     if (byte == 42) && starts_with 47 bytes then Some 2 else option_map (λ n. n + 1) (block_end bytes)
 
--- after `/*`
+-- the piece of a block comment, by the number of bytes after its `/*`; unclosed where no `*/` ends it
 abbrev pub block_piece : Option ℕ → Piece
 block_piece None = Unclosed
 block_piece (Some n) = Space (n + 2)
@@ -40,7 +40,7 @@ block_piece (Some n) = Space (n + 2)
 abbrev pub is_quote : ℕ → Bool
 is_quote byte = (byte == 39) || (byte == 34)
 
--- the kind of what the byte opens
+-- the kind of the token that the quote opens
 abbrev pub IsQuoteKind : Kind → ℕ → Type 0
 IsQuoteKind Quoted byte = byte ≡ 39
 IsQuoteKind Distinct byte = byte ≡ 34
@@ -62,28 +62,29 @@ pub record IsSignStart (byte : ℕ) : Type 0 where
   pub no_double_quote : byte ≢ 34
   pub no_dollar : byte ≢ 36
 
--- bytes that are right inside quotes, so that a closing quote may follow them
+-- bytes that may stand inside quotes, so that a closing quote may follow them
 unfoldable pub fills : ℕ → List ℕ → Bool
 fills quote inside = is_quoted_rest quote false (inside ++ quote ∷ [])
 
--- how many bytes after a quote are right
+-- how many bytes after the quote may stand inside quotes
 abbrev pub filled_length : ℕ → List ℕ → ℕ
 filled_length quote bytes = longest (fills quote) bytes
 
--- A quote is unclosed where the text ends after what is right, or after a `\` there. Else the next byte is bad.
+-- The fault of a quote that the first n bytes after it fill: unclosed where the text ends there, or after one more `\`. Else the next
+-- byte is bad.
 abbrev pub quote_fault : List ℕ → ℕ → Piece
 quote_fault bytes n = if is_end (drop n bytes) || bytes_eq (drop n bytes) (92 ∷ []) then Unclosed else Bad (n + 1)
 
--- where no token begins
+-- the fault where no token begins
 abbrev pub fault_piece : ℕ → List ℕ → Piece
 fault_piece byte bytes = if is_quote byte then quote_fault bytes (filled_length byte bytes) else Bad 0
 
--- the longest token, by its length
+-- the piece of the longest token, by its length; where that is 0 no token begins
 abbrev pub token_piece : ℕ → List ℕ → ℕ → Piece
 token_piece byte bytes zero = fault_piece byte bytes
 token_piece byte bytes (suc n) = Token (kind_of (take (suc n) (byte ∷ bytes))) (suc n)
 
--- where neither a blank nor a comment stands
+-- the piece where neither a blank nor a comment begins
 abbrev pub plain_piece : ℕ → List ℕ → Piece
 plain_piece byte bytes = token_piece byte bytes (longest is_token (byte ∷ bytes))
 
@@ -95,7 +96,7 @@ piece_of byte bytes =
     else if (byte == 47) && starts_with 42 bytes then block_piece (block_end (drop 1 bytes))
     else plain_piece byte bytes
 
--- a token or a space takes up some of so many bytes, and a bad byte is one of them
+-- a token or a space takes up at least one byte and at most `limit`, and a bad byte stands at most `limit` bytes on
 abbrev pub StaysWithin : ℕ → Piece → Type 0
 StaysWithin limit (Token kind length) = (0 < length) × (length ≤ limit)
 StaysWithin limit (Space length) = (0 < length) × (length ≤ limit)

@@ -14,7 +14,7 @@ pub fn line_length(bytes: &[u8]) -> usize
         .unwrap_or(bytes.len())
 }
 
-/// How far the first `*/` ends; None where there is none.
+/// How many bytes there are up to the end of the first `*/`; None where there is no `*/`.
 pub fn block_end(bytes: &[u8]) -> Option<usize>
     ensures found { result ≡ end_of_block bytes.now }
     ensures within { IfSome result (λ end. end ≤ length bytes.now) }

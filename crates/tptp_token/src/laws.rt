@@ -25,7 +25,7 @@ pub fn spelling_examples()
     ensures other_sign { IsTrue (spells Other (codes "*")) }
 {}
 
-/// Worked examples of names: what names tokens are, and how names are printed.
+/// Worked examples of names: which names tokens stand for, and how names are printed.
 pub fn name_examples()
     ensures word { IsTrue (is_name Quoted (codes "'A b'")) }
     ensures digits { IsTrue (is_name Number (codes "012")) }

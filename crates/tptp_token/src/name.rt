@@ -7,7 +7,7 @@ use crate::word::is_lower_word;
 use plain_types::{Mem, Text};
 use std::alloc::Global;
 
-/// The name that a quoted word stands for: what stands between its quotes, with each escaping `\` left out.
+/// The name that a quoted word stands for: the text between its quotes, with each escaping `\` left out.
 pub fn unquoted(alloc: Global, word: &[u8]) -> Mem<Text>
     ensures { IfOk result (λ name. name ≡ name_in_quotes word.now) }
 {

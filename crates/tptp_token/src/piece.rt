@@ -19,7 +19,7 @@ pub enum Piece {
     Space(usize),
     /// A bad byte, and its distance in bytes from the beginning.
     Bad(usize),
-    /// No end to what begins here.
+    /// A quote or a block comment begins here and has no end.
     Unclosed,
 }
 

@@ -35,7 +35,7 @@ fn is_cut_off(left: &[u8]) -> bool
     left.is_empty() || left == b"\\".as_slice()
 }
 
-/// How many bytes are right so far: printable ones but for the quote and `\`, and pairs of `\` and one of these two.
+/// How many bytes at the front may stand inside quotes: printable ones but for the quote and `\`, and pairs of `\` and one of these two.
 fn filled_length(quote: u8, inside: &[u8]) -> usize
     requires { is_quote quote ≡ true }
     ensures length { result ≡ length_filled quote inside.now }
@@ -51,7 +51,7 @@ fn filled_length(quote: u8, inside: &[u8]) -> usize
     at
 }
 
-/// How long the next right byte or pair is; 0 where there is none.
+/// How long the next byte or pair is that may stand inside quotes; 0 where there is none.
 fn unit_length(quote: u8, bytes: &[u8]) -> usize
     requires { is_quote quote ≡ true }
     ensures within { result ≤ length bytes.now }

@@ -3,18 +3,19 @@ use Rattle.std.specs.Prelude.{Bool, true, false, ◌||◌, List, [], ◌∷◌, 
 use Rattle.tptp_token.specs.Lexemes.{Lexeme, is_lexeme, is_mark}
 use Rattle.tptp_token.specs.declared.token.Kind.TheVariants.{Other}
 
--- round, square and curly
+-- the kinds of brackets: round, square and curly
 pub data Bracket : Type 0 where
   round : Bracket
   square : Bracket
   curly : Bracket
 
+-- the token closes a bracket of this kind: `]` closes a square one
 abbrev pub closes : Bracket → Lexeme → Bool
 closes round token = is_mark (codes ")") token
 closes square token = is_mark (codes "]") token
 closes curly token = is_lexeme Other (codes "}") token
 
--- the bracket that a token opens
+-- the kind of bracket that a token opens; none where it opens none
 abbrev pub opened : Lexeme → Option Bracket
 opened token =
     if is_mark (codes "(") token then Some round
@@ -26,23 +27,26 @@ opened token =
 abbrev pub is_closing : Lexeme → Bool
 is_closing token = closes round token || (closes square token || closes curly token)
 
+-- The open brackets after a token that closes none of them: those before it, and one that it opens. None where the token is a
+-- closing bracket.
 abbrev pub with_opened : Option Bracket → Bool → List Bracket → Option (List Bracket)
 with_opened (Some b) closing unclosed = Some (b ∷ unclosed)
 with_opened None true unclosed = None
 with_opened None false unclosed = Some unclosed
 
--- The brackets that are open after a token, where these are before it, innermost first. None where the token closes another
--- bracket than the innermost.
+-- The open brackets after a token, innermost first, by those that are open before it. None where the token is a closing bracket but
+-- doesn't close the innermost.
 abbrev pub open_after : List Bracket → Lexeme → Option (List Bracket)
 open_after [] token = with_opened (opened token) (is_closing token) []
 open_after (b ∷ bs) token = if closes b token then Some bs else with_opened (opened token) (is_closing token) (b ∷ bs)
 
--- the brackets that are open after a run of tokens
+-- the open brackets after a run of tokens, by those before it; none where some token closes a wrong bracket
 abbrev pub open_behind : Option (List Bracket) → List Lexeme → Option (List Bracket)
 open_behind None tokens = None
 open_behind (Some unclosed) [] = Some unclosed
 open_behind (Some unclosed) (t ∷ ts) = open_behind (open_after unclosed t) ts
 
+-- no token closed a wrong bracket, and no bracket is left open
 abbrev pub is_nothing_open : Option (List Bracket) → Bool
 is_nothing_open None = false
 is_nothing_open (Some []) = true

@@ -8,6 +8,7 @@ use Rattle.tptp_tree.specs.Formula.{BinaryConnective, implies, implied, equivale
 
 -- ---- connectives, signs and quantifiers by numbers
 
+-- a number for each connective
 abbrev pub connective_number : BinaryConnective → ℕ
 connective_number implies = 0
 connective_number implied = 1
@@ -16,6 +17,7 @@ connective_number different = 3
 connective_number nor = 4
 connective_number nand = 5
 
+-- the connective of a number
 abbrev pub connective_of : ℕ → BinaryConnective
 connective_of zero = implies
 connective_of (suc zero) = implied
@@ -32,10 +34,12 @@ connective_of-number different = refl
 connective_of-number nor = refl
 connective_of-number nand = refl
 
+-- a number for each sign: 1 for `=`, 0 for `!=`
 abbrev pub sign_number : Bool → ℕ
 sign_number true = 1
 sign_number false = 0
 
+-- the sign of a number
 abbrev pub sign_of : ℕ → Bool
 sign_of zero = false
 sign_of (suc n) = true
@@ -44,10 +48,12 @@ pub sign_of-number : (b : Bool) → sign_of (sign_number b) ≡ b
 sign_of-number true = refl
 sign_of-number false = refl
 
+-- a number for each quantifier
 abbrev pub quantifier_number : Quantifier → ℕ
 quantifier_number for_all = 0
 quantifier_number exists_some = 1
 
+-- the quantifier of a number
 abbrev pub quantifier_of : ℕ → Quantifier
 quantifier_of zero = for_all
 quantifier_of (suc n) = exists_some
@@ -58,18 +64,22 @@ quantifier_of-number exists_some = refl
 
 -- ---- texts
 
+-- the first number of a name, 0 where it is empty
 abbrev pub number_first : List ℕ → ℕ
 number_first [] = 0
 number_first (n ∷ ns) = n
 
+-- texts as terms: each is a variable's name
 abbrev pub text_terms : List (List ℕ) → TermTrees
 text_terms [] = no_terms
 text_terms (x ∷ xs) = term_then (variable x) (text_terms xs)
 
+-- the name at the head of a term
 abbrev pub text_of : TermTree → List ℕ
 text_of (variable x) = x
 text_of (application f ts) = f
 
+-- the names at the heads of terms
 abbrev pub texts_of : TermTrees → List (List ℕ)
 texts_of no_terms = []
 texts_of (term_then t ts) = text_of t ∷ texts_of ts
@@ -80,6 +90,8 @@ texts_of-terms (x ∷ xs) = ap (λ ys. x ∷ ys) (texts_of-terms xs)
 
 -- ---- formulas
 
+-- A formula as a term: the head's name begins with a number for the kind of the formula, and the arguments are its parts. Formulas
+-- that differ have codes that differ.
 abbrev mutual
   pub encoded : FormulaTree → TermTree
   encoded truth = application (0 ∷ []) no_terms
@@ -102,6 +114,7 @@ decoded_equation sign no_terms = truth
 decoded_equation sign (term_then s no_terms) = truth
 decoded_equation sign (term_then s (term_then t ts)) = equation (sign_of sign) s t
 
+-- the formula of a code
 abbrev mutual
   pub decoded : TermTree → FormulaTree
   decoded (variable x) = truth

@@ -102,7 +102,7 @@ Balanced =
 abbrev pub Crossed : Type 0
 Crossed = are_balanced (lexeme Mark (codes "(") ∷ lexeme Mark (codes "[") ∷ lexeme Mark (codes ")") ∷ lexeme Mark (codes "]") ∷ []) ≡ false
 
--- what the axiom `$true` says, wherever it stands
+-- the content of the axiom `$true`, at any place
 abbrev pub EntryOfTruth : Type 0
 EntryOfTruth =
     entry_of (record { name = codes "a"; role = Axiom; clause = false; formula = True; file = codes "f.p"; place = 7 })

@@ -4,6 +4,7 @@ use Rattle.tptp_tree.specs.Term.{TermTree, variable, application, TermTrees, no_
 use Rattle.tptp_tree.specs.Formula.{FormulaTree}
 use Rattle.tptp_tree.specs.Codes.{encoded}
 
+-- whether two terms, or two lists of terms, are equal
 abbrev mutual
   pub same_term : TermTree → TermTree → Bool
   same_term (variable x) (variable y) = bytes_eq x y
@@ -17,10 +18,10 @@ abbrev mutual
   same_terms (term_then t ts) no_terms = false
   same_terms (term_then t ts) (term_then u us) = same_term t u && same_terms ts us
 
--- two formulas are the same where the terms are that encode them
+-- whether two formulas are equal: the terms that encode them are
 abbrev pub same_formula : FormulaTree → FormulaTree → Bool
 same_formula f g = same_term (encoded f) (encoded g)
 
--- formulas are the same exactly where they are equal
+-- the test passes exactly where the formulas are equal
 abbrev pub SameFormulasAreEqual : Type 0
 SameFormulasAreEqual = (f g : FormulaTree) → IsTrue (same_formula f g) ↔ (f ≡ g)

@@ -24,7 +24,7 @@ BoundImplication =
     formula_text (quantified for_all (codes "X" ∷ []) (connected implies (predicate (codes "p") (term_then (variable (codes "X")) no_terms)) q))
     ≡ codes "! [X] : (p(X) => q)"
 
--- what is negated in parentheses
+-- a negated formula in parentheses
 abbrev pub NegatedConjunction : Type 0
 NegatedConjunction = formula_text (negation (conjunction (formula_then p (formula_then q no_formulas)))) ≡ codes "~(p & q)"
 

@@ -16,7 +16,8 @@ pub data Quantifier : Type 0 where
   for_all : Quantifier
   exists_some : Quantifier
 
--- An equation has its sign. A list of operands and a list of variables may have any length here.
+-- A formula: `$true`, `$false`, a predicate with its arguments, an equation with its sign, or one made of other formulas. A list of
+-- operands and a list of variables may have any length here.
 mutual
   pub data FormulaTree : Type 0 where
     truth : FormulaTree
@@ -33,7 +34,7 @@ mutual
     no_formulas : FormulaTrees
     formula_then : FormulaTree → FormulaTrees → FormulaTrees
 
--- the formula, or its negation
+-- the formula for the sign true, its negation for the sign false
 abbrev pub with_sign : Bool → FormulaTree → FormulaTree
 with_sign true f = f
 with_sign false f = negation f
@@ -48,7 +49,7 @@ abbrev pub list_of_formulas : FormulaTrees → List FormulaTree
 list_of_formulas no_formulas = []
 list_of_formulas (formula_then f fs) = f ∷ list_of_formulas fs
 
--- the formulas in a formula, itself included
+-- how many formulas there are in a formula, itself included: 4 in `~p & q`
 abbrev mutual
   pub formula_size : FormulaTree → ℕ
   formula_size truth = 1

@@ -10,12 +10,13 @@ use Rattle.tptp_tree.specs.Entries.{atom_of, LiteralPhrase, positive_literal, ne
 
 -- ---- terms
 
+-- how deep the brackets of a term, of arguments, and of the deepest of several terms are nested: 2 in `f(g(a))`, 0 in `a`
 abbrev mutual
   pub term_levels : TermTree → ℕ
   term_levels (variable x) = 0
   term_levels (application f ts) = arguments_levels ts
 
-  -- arguments with their brackets
+  -- arguments together with their brackets
   pub arguments_levels : TermTrees → ℕ
   arguments_levels no_terms = 0
   arguments_levels (term_then t ts) = suc (max (term_levels t) (terms_levels ts))
@@ -26,11 +27,13 @@ abbrev mutual
 
 -- ---- printed formulas
 
+-- one level more where there are parentheses
 abbrev pub with_parentheses : Bool → ℕ → ℕ
 with_parentheses true levels = suc levels
 with_parentheses false levels = levels
 
--- A quantifier's variables stand in a bracket below it.
+-- How deep the levels of a printed formula, or of the deepest of several operands, are nested: 2 in `~p(a)`. A quantifier is a level,
+-- and the bracket of its variables is a level inside it.
 abbrev mutual
   pub formula_levels : FormulaTree → ℕ
   formula_levels truth = 0
@@ -50,10 +53,11 @@ abbrev mutual
 
 -- ---- phrases
 
--- an atom is written as it is printed
+-- the levels of an atom, which is written as it is printed
 abbrev pub atom_levels : Atom → ℕ
 atom_levels a = formula_levels (atom_meant a)
 
+-- how deep the levels of a unit, of the deepest of several units, and of a formula are nested as they are written
 abbrev mutual
   pub unit_levels : UnitPhrase → ℕ
   unit_levels (negated u) = suc (unit_levels u)
@@ -71,30 +75,34 @@ abbrev mutual
   phrase_levels (some_of u v us) = max (unit_levels u) (max (unit_levels v) (units_levels us))
   phrase_levels (joined_by c u v) = max (unit_levels u) (unit_levels v)
 
+-- how deep the levels of a literal are nested: 2 in `~p(a)`, 3 in `~(p(a))`
 abbrev pub literal_levels : LiteralPhrase → ℕ
 literal_levels (positive_literal a) = atom_levels a
 literal_levels (negated_literal a) = suc (atom_levels (atom_of a))
 literal_levels (negated_in_brackets a) = suc (suc (atom_levels (atom_of a)))
 
+-- the levels of the deepest literal
 abbrev pub literals_levels : List LiteralPhrase → ℕ
 literals_levels [] = 0
 literals_levels (l ∷ ls) = max (literal_levels l) (literals_levels ls)
 
+-- the levels of a clause: each pair of brackets round it is one more
 abbrev pub clause_levels : ClausePhrase → ℕ
 clause_levels (literals l ls) = literals_levels (l ∷ ls)
 clause_levels (clause_in_brackets c) = suc (clause_levels c)
 
+-- the levels of the body of an annotated formula
 abbrev pub body_levels : Body → ℕ
 body_levels (formula_body p) = phrase_levels p
 body_levels (clause_body c) = clause_levels c
 
 -- ---- texts
 
--- the text spells the formula within that many levels
+-- the text spells the formula, nested at most `levels` deep
 abbrev pub SpellsFormulaWithin : ℕ → List ℕ → FormulaTree → Type 0
 SpellsFormulaWithin levels text f =
     (p : Phrase) × IsLexedAs text (phrase_lexemes p []) × (meant p ≡ f) × (phrase_levels p ≤ levels)
 
--- a formula or a clause of at most that many levels says it
+-- the formula is written by some formula or clause that is nested at most `levels` deep
 abbrev pub IsWrittenWithin : ℕ → FormulaTree → Type 0
 IsWrittenWithin levels f = (b : Body) × (body_meant b ≡ f) × (body_levels b ≤ levels)

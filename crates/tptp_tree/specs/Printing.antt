@@ -25,10 +25,12 @@ abbrev mutual
 
 -- ---- formulas
 
+-- the sign of an equation between blanks
 abbrev pub equals_text : Bool → List ℕ
 equals_text true = codes " = "
 equals_text false = codes " != "
 
+-- a connective between blanks
 abbrev pub connective_text : BinaryConnective → List ℕ
 connective_text implies = codes " => "
 connective_text implied = codes " <= "
@@ -37,20 +39,22 @@ connective_text different = codes " <~> "
 connective_text nor = codes " ~| "
 connective_text nand = codes " ~& "
 
+-- a quantifier with the bracket before its variables
 abbrev pub quantifier_text : Quantifier → List ℕ
 quantifier_text for_all = codes "! ["
 quantifier_text exists_some = codes "? ["
 
--- the variables from the second on
+-- the variables from the second on, each with the comma before it
 abbrev pub more_variables_text : List (List ℕ) → List ℕ
 more_variables_text [] = []
 more_variables_text (x ∷ xs) = codes "," ++ x ++ more_variables_text xs
 
+-- variables with a comma between two of them
 abbrev pub variables_text : List (List ℕ) → List ℕ
 variables_text [] = []
 variables_text (x ∷ xs) = x ++ more_variables_text xs
 
--- made by a connective of two or more operands
+-- the formula is made by a connective of two or more operands
 abbrev pub is_joined : FormulaTree → Bool
 is_joined truth = false
 is_joined falsity = false
@@ -62,7 +66,7 @@ is_joined (disjunction fs) = true
 is_joined (connected c f g) = true
 is_joined (quantified q xs f) = false
 
--- what stands after `~` without parentheses: an atom that is no equation, or a negation
+-- the formula stands after `~` without parentheses: an atom that is no equation, or a negation
 abbrev pub is_bare : FormulaTree → Bool
 is_bare truth = true
 is_bare falsity = true
@@ -74,12 +78,13 @@ is_bare (disjunction fs) = false
 is_bare (connected c f g) = false
 is_bare (quantified q xs f) = false
 
+-- the text, in parentheses or not
 abbrev pub in_parentheses : Bool → List ℕ → List ℕ
 in_parentheses true text = codes "(" ++ text ++ codes ")"
 in_parentheses false text = text
 
--- An operand of a connective and the body of a quantifier stand in parentheses where they are joined, what is negated
--- where it isn't bare.
+-- The printed formula. An operand of a connective and the body of a quantifier stand in parentheses where they are joined, a negated
+-- formula where it isn't bare.
 abbrev mutual
   pub formula_text : FormulaTree → List ℕ
   formula_text truth = codes "$true"
@@ -110,10 +115,10 @@ operand_text f = in_parentheses (is_joined f) (formula_text f)
 
 -- ---- names of formulas
 
--- of digits alone
+-- a name of digits alone
 abbrev pub is_number_name : List ℕ → Bool
 is_number_name name = begins is_digit (list_all is_digit) name
 
--- digits stand bare, every other name as elsewhere
+-- the printed name of a formula: digits stand bare, every other name is printed as elsewhere
 abbrev pub formula_name_text : List ℕ → List ℕ
 formula_name_text name = if is_number_name name then name else name_text name

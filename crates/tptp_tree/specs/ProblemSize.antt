@@ -24,6 +24,7 @@ abbrev mutual
   all_occurrences no_formulas = 0
   all_occurrences (formula_then f fs) = occurrences f + all_occurrences fs
 
+-- the occurrences in all formulas of a problem
 abbrev pub total_occurrences : List Annotated → ℕ
 total_occurrences [] = 0
 total_occurrences (a ∷ fs) = occurrences (formula_of a.formula) + total_occurrences fs
@@ -32,6 +33,6 @@ total_occurrences (a ∷ fs) = occurrences (formula_of a.formula) + total_occurr
 abbrev pub problem_size : List Annotated → ℕ
 problem_size fs = length fs + total_occurrences fs
 
--- what every problem that is handed in meets
+-- the bound on the size of every problem that a call is handed
 abbrev pub HasProblemSize : List Annotated → Type 0
 HasProblemSize fs = problem_size fs ≤ MOST_PROBLEM_SIZE

@@ -1,6 +1,7 @@
 -- Terms over names, as trees: a variable, or a name applied to a list of trees.
 use Rattle.std.specs.Prelude.{ℕ, ◌+◌, List, [], ◌∷◌}
 
+-- A term is a variable, by its name, or a name applied to a list of terms; a constant is a name applied to none.
 mutual
   pub data TermTree : Type 0 where
     variable : List ℕ → TermTree
@@ -20,7 +21,7 @@ abbrev pub list_of_terms : TermTrees → List TermTree
 list_of_terms no_terms = []
 list_of_terms (term_then t ts) = t ∷ list_of_terms ts
 
--- the occurrences of names and variables
+-- how many occurrences of names and variables there are: 3 in `f(X,a)`
 abbrev mutual
   pub term_size : TermTree → ℕ
   term_size (variable x) = 1

@@ -19,7 +19,7 @@ pub fn same_formula(left: &Formula, right: &Formula) -> bool
     are_same(left, right)
 }
 
-/// Whether two formulas are the same.
+/// Whether two formulas are equal, down to their terms.
 #[cycle(same_formula)]
 fn are_same(left: &Formula, right: &Formula) -> bool
     ensures { result ≡ same_formula (formula_of left.now) (formula_of right.now) }
@@ -47,7 +47,7 @@ fn are_same(left: &Formula, right: &Formula) -> bool
     }
 }
 
-/// Whether two lists of formulas are the same.
+/// Whether two lists of formulas are equal.
 #[cycle(same_formula)]
 fn same_formulas(left: &[Formula], right: &[Formula]) -> bool
     ensures { result ≡
@@ -64,7 +64,7 @@ fn same_formulas(left: &[Formula], right: &[Formula]) -> bool
     true
 }
 
-/// Whether two formulas after `~` are the same.
+/// Whether two formulas after `~` are equal.
 #[cycle(same_formula)]
 fn same_negated(left: &FormulaBox, right: &FormulaBox) -> bool
     ensures { result ≡ same_terms (encoded_formulas (formulas_of (left.now ∷ []))) (encoded_formulas (formulas_of (right.now ∷ []))) }
@@ -72,7 +72,7 @@ fn same_negated(left: &FormulaBox, right: &FormulaBox) -> bool
     are_same(left.get(), right.get())
 }
 
-/// Whether two pairs of formulas are the same.
+/// Whether two pairs of formulas are equal.
 #[cycle(same_formula)]
 fn same_pair(
     first: &FormulaBox,
@@ -86,7 +86,7 @@ fn same_pair(
     are_same(first.get(), first_other.get()) && are_same(second.get(), second_other.get())
 }
 
-/// Whether two formulas are the same, and the variables that are bound in them.
+/// Whether two formulas are equal, and the variables that are bound in them.
 #[cycle(same_formula)]
 fn same_bound(
     names: &Texts,
@@ -100,7 +100,7 @@ fn same_bound(
     are_same(body.get(), other_body.get()) && same_names(names.as_slice(), other_names.as_slice())
 }
 
-/// Whether two lists of variables' names are the same.
+/// Whether two lists of variables' names are equal.
 fn same_names(left: &[Text], right: &[Text]) -> bool
     ensures { result ≡ same_terms (text_terms left.now) (text_terms right.now) }
 {
@@ -115,14 +115,14 @@ fn same_names(left: &[Text], right: &[Text]) -> bool
     true
 }
 
-/// Whether two predicates are the same, with their arguments.
+/// Whether two predicates are equal, with their arguments.
 fn same_atom(name: &Text, arguments: &TreeTerms, other: &Text, others: &TreeTerms) -> bool
     ensures { result ≡ (bytes_eq name.now other.now && same_terms (terms_of arguments.now) (terms_of others.now)) }
 {
     name.as_slice() == other.as_slice() && same_terms(arguments.as_slice(), others.as_slice())
 }
 
-/// Whether two pairs of sides are the same.
+/// Whether two pairs of sides are equal.
 fn same_sides(
     left: &TreeTerm,
     right: &TreeTerm,
@@ -135,7 +135,7 @@ fn same_sides(
     same_term(left, other_left) && same_term(right, other_right)
 }
 
-/// Whether two terms are the same.
+/// Whether two terms are equal.
 #[cycle(same_term)]
 fn same_term(left: &TreeTerm, right: &TreeTerm) -> bool
     ensures { result ≡ same_term (term_of left.now) (term_of right.now) }
@@ -153,7 +153,7 @@ fn same_term(left: &TreeTerm, right: &TreeTerm) -> bool
     }
 }
 
-/// Whether two lists of terms are the same.
+/// Whether two lists of terms are equal.
 #[cycle(same_term)]
 fn same_terms(left: &[TreeTerm], right: &[TreeTerm]) -> bool
     ensures { result ≡ same_terms (terms_of (map term_of left.now)) (terms_of (map term_of right.now)) }

@@ -46,7 +46,7 @@ pub fn formula_name_examples()
     ensures bare { BareName }
 {}
 
-/// Worked examples of formulas that are the same or aren't.
+/// Worked examples of formulas that are equal or aren't.
 pub fn equality_examples()
     ensures same { SameImplication }
     ensures turned { TurnedImplication }
@@ -69,7 +69,7 @@ pub fn one_formula_name()
     ensures { (text name other : List ℕ) → SpellsFormulaName text name → SpellsFormulaName text other → name ≡ other }
 {}
 
-/// Worked examples of entries: their tokens, what they say, and what is wrong with their tokens.
+/// Worked examples of entries: their tokens, their contents, and the causes for which their tokens are refused.
 pub fn entry_examples()
     ensures clause_tokens { ClauseTokens }
     ensures clause_meaning { ClauseMeaning }
@@ -88,7 +88,7 @@ pub fn entry_examples()
     ensures negative_sign { NegativeSign }
 {}
 
-/// Worked examples of what texts spell, with includes.
+/// Worked examples of the entries that texts spell, with includes.
 pub fn include_examples()
     ensures whole_include { WholeInclude }
     ensures selected_include { SelectedInclude }
@@ -130,7 +130,7 @@ pub fn limit_is_of_levels()
     ensures { LimitIsOfLevels }
 {}
 
-/// Formulas are the same exactly where they are equal.
+/// The test of equality passes exactly where the formulas are equal.
 pub fn same_formulas_are_equal()
     ensures { SameFormulasAreEqual }
 {}

@@ -54,7 +54,7 @@ pub fn push_formula_name(page: &mut Vec<u8>, name: &[u8]) -> Mem<()>
 
 /// The text of a formula. Arguments are separated by `,`, the signs of connectives and equations stand between single
 /// blanks, a quantifier is `! [X,Y] : ` before its body. An operand of a connective and the body of a quantifier stand in
-/// parentheses exactly where they are made by a connective of two or more operands, what is negated where it is no atom
+/// parentheses exactly where they are made by a connective of two or more operands, a negated formula where it is no atom
 /// without equality and no negation. Where some text spells the formula, this one does, within at most twice as many levels.
 pub fn print_formula(alloc: Global, formula: &Formula) -> Mem<Text>
     ensures printed { IfOk result (λ text. text ≡ formula_text (formula_of formula.now)) }
@@ -215,7 +215,7 @@ fn push_formula(page: &mut Vec<u8>, formula: &Formula) -> Mem<()>
     }
 }
 
-/// Adds a negation, by what is negated.
+/// Adds a negation, by the negated formula.
 #[cycle(print)]
 fn push_negation(page: &mut Vec<u8>, inner: &Formula) -> Mem<()>
     ensures { IfOk result (λ _. page.new.items ≡ page.old.items ++ formula_text (negation (formula_of inner.now))) }

@@ -1,4 +1,4 @@
--- What taking one line of a derivation answers, and what checking the whole of it does.
+-- The answers of taking one line of a derivation, and of checking the whole.
 use Rattle.std.specs.Prelude.{◌≡◌, ◌⊎◌, ⊤, ℕ, ◌+◌, ◌<◌, ◌≤◌, List, [], ◌∷◌, length, drop, Option, None, Some, if◌then◌else◌}
 use Rattle.tptp_token.specs.Lexing.{lexed_of}
 use Rattle.tptp_token.specs.Lexemes.{Lexeme}
@@ -13,7 +13,7 @@ use Rattle.tstp_checker.specs.Causes.{cause_meant}
 use Rattle.tstp_checker.specs.declared.derivation.CheckFault.{CheckFault}
 use Rattle.tstp_checker.specs.declared.derivation.CheckFault.TheVariants.{NoMemory, Refused}
 
--- what is told of a refusal; out of memory may be answered anywhere
+-- the line and cause of a refusal pass a test; out of memory may be answered anywhere
 abbrev pub IsRefusalWhere : (ℕ → LineCause → Type 0) → CheckFault → Type 0
 IsRefusalWhere is NoMemory = ⊤
 IsRefusalWhere is (Refused line cause) = is line (cause_meant cause)

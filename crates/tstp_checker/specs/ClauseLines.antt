@@ -1,4 +1,4 @@
--- What lines of clauses come from.
+-- The sources of lines of clauses.
 use Rattle.std.specs.Prelude.{ℕ, Bool, true, false, ◌&&◌, List, [], ◌∷◌, Option, None, Some, option_map, option_and_then, unwrap_or, slice_get, if◌then◌else◌}
 use Rattle.plain_types.specs.Names.{positive_of}
 use Rattle.fol_base.specs.Clause.{TreeLiteral, TreeClause, clause_eq}
@@ -28,7 +28,7 @@ is_form_clause s c i = unwrap_or (option_map (λ d. clause_eq d c) (slice_get (s
 abbrev pub ground_atom : TreeLiteral → Option TreeLiteral
 ground_atom l = if l.positive && is_ground_literal l then Some l else None
 
--- what a name was introduced for, where it is one ground positive literal
+-- the ground positive literal for which a name was introduced, if it was introduced for one alone
 abbrev pub atom_named : Taken → ℕ → Option TreeLiteral
 atom_named e n =
     option_and_then ground_atom (option_and_then (λ (c : TreeClause). only_one c.literals) (component_clause n (kernel_lines e)))

@@ -1,5 +1,5 @@
--- Annotated formulas that say the same: an equivalence, and alike in all that is compared or fed to a hasher. The proofs stand here, since
--- an implementation's laws cite them; that of formulas stands in tptp_tree.
+-- Equality of annotated formulas is an equivalence, and equal ones are alike in all that is compared or fed to a hasher. The proofs stand
+-- here, since an implementation's laws cite them; that of formulas stands in tptp_tree.
 use mathlib.Core.Bool.{beq}
 use Rattle.std.proofs.Common.{◌≡◌, ℕ, Bool, true, false, ◌&&◌, ◌↔◌, List, ◌∷◌, refl, ap, ap₂, sym, ◌∙◌, subst}
 use Rattle.std.specs.Prelude.{bytes_eq, IsTrue}
@@ -50,12 +50,12 @@ same_entry-refl a =
     (bytes-refl (role_word a.role))
     (both (beq a.is_clause a.is_clause) (same_formula a.formula a.formula) (beq-refl a.is_clause) (same_formula-refl a.formula)))
 
--- what is asked of an entry's parts
+-- the test of an entry's parts against another entry
 abbrev same_parts : List ℕ → List ℕ → Bool → TermTree → AnnotatedTree → Bool
 same_parts name role is_clause code b =
     bytes_eq name b.name && (bytes_eq role (role_word b.role) && (beq is_clause b.is_clause && same_term code (encoded b.formula)))
 
--- what says the same as another says the same as whatever that does
+-- two equal entries are equal to the same entries
 pub same_entry-like : (a b x : AnnotatedTree) → same_entry a b ≡ true → same_entry a x ≡ same_entry b x
 same_entry-like a b x h =
     let first = and_parts (bytes_eq a.name b.name) (bytes_eq (role_word a.role) (role_word b.role) && (beq a.is_clause b.is_clause && same_formula a.formula b.formula)) h in

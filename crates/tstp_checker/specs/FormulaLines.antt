@@ -1,4 +1,4 @@
--- What the sources of lines of formulas name.
+-- The sources of lines of formulas.
 use Rattle.std.specs.Prelude.{ℕ, List, Option, None, Some, option_map, option_and_then, slice_get, if◌then◌else◌}
 use Rattle.tptp_tree.specs.Formula.{FormulaTree}
 use Rattle.tptp_tree.specs.Shape.{formula_of}

@@ -1,5 +1,5 @@
--- What an annotated formula feeds to a hasher: its names in their order, a number before each for what it is, and a mark where a list
--- ends, so that different formulas feed different writes.
+-- The writes that an annotated formula feeds to a hasher: its names in their order, each after a number for its sort, and a mark at
+-- the end of a list, so that different formulas feed different writes.
 use Rattle.std.specs.Prelude.{◌+◌, true, false, [], ◌∷◌, ◌++◌}
 use Rattle.std.specs.Hash.{HashWrites, u8}
 use Rattle.tptp_tree.specs.Term.{TermTree, variable, application, TermTrees, no_terms, term_then}

@@ -1,4 +1,4 @@
--- What a table of a problem's formulas knows.
+-- A table of a problem's formulas.
 use Rattle.std.specs.Prelude.{◌≡◌, ℕ, ◌+◌, Bool, List, [], ◌∷◌, Option, None, Some, if◌then◌else◌}
 use Rattle.indexmap.specs.IndexMap.{get}
 use Rattle.tptp_tree.specs.declared.problem.Annotated.{Annotated}
@@ -13,7 +13,7 @@ abbrev pub first_from : (Annotated → Bool) → ℕ → List Annotated → Opti
 first_from P i [] = None
 first_from P i (f ∷ fs) = if P f then Some i else first_from P (i + 1) fs
 
--- whether a formula says the same
+-- whether an entry of the table equals a formula
 abbrev pub says : Entry → Annotated → Bool
 says e f = same_entry (entry_meant e) (entry_of f)
 

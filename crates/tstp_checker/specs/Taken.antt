@@ -1,4 +1,4 @@
--- The lines that were taken, and what their tables know.
+-- The lines that were taken, and their tables.
 use Rattle.std.specs.Prelude.{◌≡◌, ◌<◌, ℕ, List, [], ◌∷◌, ◌++◌, length, Option, Some, option_map, option_and_then, slice_get}
 use Rattle.fol_base.specs.Clause.{TreeClause}
 use Rattle.fol_base.specs.Literal.{clause_of}
@@ -38,7 +38,7 @@ abbrev pub IsNext : ℕ → Step → Type 0
 IsNext n (Component name) = name ≡ n
 IsNext n _ = Unit {0}
 
--- how many names a step introduces
+-- the number of names that a step introduces
 abbrev pub introduced_by : Step → ℕ
 introduced_by (Component name) = 1
 introduced_by _ = 0

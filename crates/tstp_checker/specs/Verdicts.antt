@@ -23,20 +23,20 @@ IsVerdict v (Ok line) = v ≡ taken line
 IsVerdict v (Err (Cause cause)) = v ≡ refused (cause_meant cause)
 IsVerdict v (Err NoMemory) = Unit {0}
 
--- unless memory was refused
+-- a statement of an answer, which holds unless the answer is out of memory
 abbrev pub IfAnswered : {X : Type 0} → Result X Refusal → Type 0 → Type 0
 IfAnswered (Ok x) P = P
 IfAnswered (Err (Cause cause)) P = P
 IfAnswered (Err NoMemory) P = Unit {0}
 
--- what is asked of a line's name and its parents' names, before a verdict
+-- a verdict that is given only after the tests of the line's name and its parents' names
 abbrev pub with_names_asked : Taken → LineTree → LineVerdict → LineVerdict
 with_names_asked e t v =
     if list_any (λ (l : NamedLine). bytes_eq (t.entry).name l.name) e.lines then refused order
     else if not (list_all is_some (parent_places e t)) then refused unknown_parent
     else v
 
--- the places of the parents, or why the line is refused whatever else it is
+-- the places of the parents, or the cause for which the line is refused before its source is asked
 abbrev pub AreParents : Taken → LineTree → Result (List ℕ) Refusal → Type 0
 AreParents e t (Ok places) = ((v : LineVerdict) → with_names_asked e t v ≡ v) × (places ≡ parents_of e t)
 AreParents e t (Err (Cause cause)) = (v : LineVerdict) → with_names_asked e t v ≡ refused (cause_meant cause)

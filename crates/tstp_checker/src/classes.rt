@@ -1,4 +1,4 @@
-// Which formulas of a problem say the same.
+// Equal formulas of a problem.
 
 ghost use Rattle.std.specs.Prelude.{◌≡◌, List, IfOk, option_and_then, slice_get};
 ghost use Rattle.tptp_tree.specs.declared.problem.Annotated.{Annotated};
@@ -11,7 +11,7 @@ use plain_types::Mem;
 use std::alloc::Global;
 use tptp_tree::Annotated;
 
-/// For each formula of a problem the place of the first that says the same, so that two are compared in no time however large they are.
+/// For each formula of a problem the place of the first that equals it, so that two are compared in constant time, however large they are.
 #[derive(Drop)]
 pub(crate) struct Classes {
     firsts: Vec<Option<u32>>,
@@ -30,7 +30,7 @@ impl Classes {
         Ok(Classes { firsts })
     }
 
-    /// Whether the formulas at two places say the same.
+    /// Whether the formulas at two places are equal.
     pub(crate) fn same(&self, place: u32, other: u64) -> bool
         ensures { (formulas : List Annotated) → AreClasses formulas self.now → result ≡ same_at formulas place other }
     {
@@ -39,7 +39,7 @@ impl Classes {
         same_place(first, other_first)
     }
 
-    /// The place of the first formula that says the same as that at a place.
+    /// The place of the first formula that equals the one at a place.
     fn first(&self, place: u64) -> Option<u32>
         ensures { result ≡ option_and_then (λ first. first) (slice_get self.now.firsts.items place) }
     {

@@ -166,7 +166,7 @@ impl<'a> Lines<'a> {
         }
     }
 
-    /// Whether the formulas at two places say the same.
+    /// Whether the formulas at two places are equal.
     fn fits(&self, place: u32, origin: u64) -> bool
         requires { AreClasses self.now.inputs.formulas.now self.now.classes }
         ensures { result ≡ fits (setting_in self.now) place origin }

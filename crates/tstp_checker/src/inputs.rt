@@ -42,7 +42,7 @@ impl<'a> Inputs<'a> {
         Ok(Inputs { formulas, first })
     }
 
-    /// The place of the first formula that says the same.
+    /// The place of the first formula that equals the entry.
     pub(crate) fn place_of(&self, entry: Entry<'_>) -> Option<u32>
         requires { KnowsAll self.now }
         ensures { result ≡ position (λ b. same_entry (entry_meant entry.entry) (entry_of b)) self.now.formulas.now }

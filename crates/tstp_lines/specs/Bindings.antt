@@ -1,4 +1,4 @@
--- What items bind, by the numbers of a line and by all that go on from them.
+-- The bindings of items, by the numbers of a line and by all numbers that extend them.
 use Rattle.std.specs.Prelude.{◌≡◌, ℕ, Bool, true, false, ◌&&◌, List, [], map, flat_map, codes, Option, None, Some, option_map, option_and_then, unwrap_or}
 use Rattle.fol_base.specs.Tree.{Tree}
 use Rattle.tptp_tree.specs.Term.{TermTree, variable, application, TermTrees, no_terms, term_then}
@@ -62,7 +62,7 @@ list_at g = None
 abbrev pub list_of_item : GeneralTree → Option (List GeneralTree)
 list_of_item g = option_and_then list_at (only_one (arguments g))
 
--- what an item binds
+-- the terms that an item binds, if its only argument is a list of terms
 abbrev pub binding_in : GeneralTree → Option (List TermTree)
 binding_in g = option_and_then (list_in term_in) (only_one (arguments g))
 

@@ -1,4 +1,4 @@
--- Words of items, and what is lent of items.
+-- Words of items, and items that are lent.
 use Rattle.std.specs.Prelude.{ℕ, List, codes, map}
 use Rattle.std.specs.Borrow.{Bor}
 use Rattle.tptp_source.specs.General.{GeneralTree}

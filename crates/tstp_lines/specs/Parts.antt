@@ -1,4 +1,4 @@
--- How the symbols and variables of a line's parts are numbered.
+-- The numbers of the symbols and variables in a line's parts.
 use Rattle.std.specs.Prelude.{ℕ, List}
 use Rattle.tptp_tree.specs.Formula.{FormulaTree}
 use Rattle.tptp_source.specs.General.{GeneralTree}

@@ -1,4 +1,4 @@
--- What of a source is judged.
+-- The parts of a source that are judged.
 use Rattle.std.specs.Prelude.{◌==◌, List, [], if◌then◌else◌}
 use Rattle.tptp_source.specs.General.{GeneralTree}
 use Rattle.tptp_source.specs.Sources.{SourceTree}

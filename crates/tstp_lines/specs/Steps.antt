@@ -1,4 +1,4 @@
--- The program's kinds of lines, and what is bound.
+-- The program's kinds of lines and its bindings.
 use Rattle.std.specs.Prelude.{List, [], ◌∷◌, Option, None, Some, unwrap_or}
 use Rattle.fol_base.specs.Tree.{Tree}
 use Rattle.clausal_form.specs.DerivationSteps.{LineKind, input_kind, negate_kind, clausify_kind, para_kind, refl_kind, factor_kind, merge_kind, component_kind, opposite_kind, split_kind, chain_kind, no_rule_kind}

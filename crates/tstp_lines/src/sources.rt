@@ -46,7 +46,7 @@ pub fn bound_items<'a>(kind: Kind<'_>, source: &'a Source) -> &'a [GeneralTerm]
     items_of(source)
 }
 
-/// How many parents a rule binds.
+/// The number of parents whose variables a rule binds.
 pub fn bindings_count(kind: Kind<'_>) -> usize
     ensures { result ≡ bindings_count (kind_meant kind.entry) }
 {

@@ -79,8 +79,8 @@ fn rule_kind(rule: &GeneralTerm) -> Kind<'_>
     }
 }
 
-/// The step of a rule with parents, by a line's items, the numbers of its parents and what is bound; none where the rule has no such
-/// row, or there is no such rule. What doesn't bind is taken as binding no variables.
+/// The step of a rule with parents, by a line's items, the numbers of its parents and the bindings; none if the rule has no such
+/// row, or there is no such rule. A binding that can't be read counts as one without variables.
 pub fn rule_step(
     alloc: Global,
     kind: Kind<'_>,

@@ -19,7 +19,7 @@ needs_step step n other = has_number (step_parents step) n
 abbrev pub needs : Step → ℕ → Line → Bool
 needs step n line = needs_step step n line.step
 
--- The same of steps alone and of the lines of a derivation: each item has a step.
+-- Need among items that have a step each, which serves for steps alone and for the lines of a derivation.
 module _ {X : Type 0} (step_of : X → Step) where
   -- an item needs earlier ones alone
   abbrev pub NeedEarlierBy : List X → Type 0
@@ -34,7 +34,7 @@ module _ {X : Type 0} (step_of : X → Step) where
       → slice_get items n ≡ Some item → slice_get items m ≡ Some other → IsTrue (set n)
       → IsTrue (needs_step (step_of item) m (step_of other)) → IsTrue (set m)
 
-  -- What the item `last` needs is itself, and what these items need in turn: all that stands in each closed set that has it.
+  -- The item `last` needs itself, the items that its step needs, and so on: an item is needed if it is in each closed set that has `last`.
   abbrev pub IsNeededBy : List X → ℕ → ℕ → Type 0
   IsNeededBy items last n = (set : ℕ → Bool) → IsTrue (set last) → IsClosedBy items set → IsTrue (set n)
 

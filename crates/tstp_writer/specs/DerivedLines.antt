@@ -64,7 +64,7 @@ pub record OriginIsTaken (problem : List Annotated) (script : Script) (layout : 
   pub taken : slice_get e.lines place ≡ Some source
   pub is_its : is_line_of (setting_of problem) (origin script i) (source.line).step ≡ true
 
--- what the step of the line with that number goes on from was taken: the formula of its clause, its name's component line, or its parents
+-- the lines that a line's step goes on from were taken: that of its clause's formula, the component line of its name, or its parents
 abbrev pub SourcesAreTaken : List Annotated → Script → Layout → List ℕ → List ℕ → List Line → Taken → ℕ → Step → Type 0
 SourcesAreTaken problem script layout names known lines e n (Clausify i) = OriginIsTaken problem script layout e i
 SourcesAreTaken problem script layout names known lines e n (Opposite name) = ComponentIsTaken names known lines e n name

@@ -1,4 +1,4 @@
--- How the lines of a derivation are printed.
+-- The printed texts of the lines of a derivation.
 use Rattle.std.specs.Prelude.{ℕ, List, [], ◌∷◌, ◌++◌, flat_map, codes, Option, None, Some}
 use Rattle.tptp_tree.specs.Entries.{AnnotatedTree, language_word, role_word}
 pub use Rattle.tptp_tree.specs.Printing.{formula_name_text}

@@ -1,5 +1,5 @@
--- The lines of a written derivation: the formulas of the problem that it stands on, the negation of the conjecture where it is one of
--- them, and lines that the kernel made. They are named c0, c1 and so on, in that order.
+-- The lines of a written derivation: the formulas of the problem that it stands on, the negation of the conjecture if it is one of them, and
+-- lines that the kernel made. They are named c0, c1 and so on, in that order.
 use Rattle.std.specs.Prelude.{ℕ, ◌+◌, Bool, true, false, ◌==◌, List, [], ◌∷◌, ◌++◌, map, filter, filter_map, length, codes, Option, None, Some, option_map, option_and_then, unwrap_or, slice_get, if◌then◌else◌}
 use Rattle.std.specs.Fmt.{decimal}
 use Rattle.std.specs.List.{list_any, position_or_len}
@@ -30,7 +30,7 @@ use Rattle.clausal_form.specs.DerivationLine.{LineTree}
 use Rattle.tptp_tree.specs.Shape.{entry_of}
 use Rattle.tstp_writer.specs.ClauseTrees.{term_tree, introduced_name, clause_formula}
 
--- ---- what lines are written over
+-- ---- the script of a derivation
 
 -- The name of the problem's file, the problem's formulas, the symbols of its clausal form by their numbers, for each clause of the form
 -- the place of its formula, and the prefix of the names that the derivation introduces.
@@ -60,7 +60,7 @@ is_conjecture_at script place =
 abbrev pub origin : Script → ℕ → ℕ
 origin script i = unwrap_or (slice_get script.origins i) 0
 
--- ---- which lines there are, and their names
+-- ---- the layout: the lines and their names
 
 -- the formulas that are cited, by their places; those of them that are negated; and the lines of the derivation, by their numbers
 pub record Layout : Type 0 where

@@ -1,4 +1,4 @@
--- What the pass backwards knows: marked steps, and names whose component steps are needed.
+-- The state of the pass backwards: marked steps, and names whose component steps are needed.
 use Rattle.std.specs.Prelude.{◌≡◌, ℕ, suc, ◌<◌, ◌≤◌, Bool, false, ◌||◌, ◌&&◌, ◌==◌, List, length, Some, slice_get, option_map, unwrap_or, IsTrue}
 use Rattle.std.specs.List.{list_any}
 use Rattle.kernel_steps.specs.Marks.{is_marked}
@@ -18,20 +18,20 @@ defines_one names _ = false
 abbrev pub has_step : Marks → ℕ → Step → Bool
 has_step marks n step = is_marked marks.steps.items n || defines_one marks.names.keys step
 
--- the marks after what a step needs was added
+-- the marks after the needs of a step were added
 abbrev pub IsAdded : Step → Marks → Marks → Type 0
 IsAdded step before after =
     (n : ℕ) (other : Step) → n < length before.steps.items → has_step after n other ≡ (has_step before n other || needs_step step n other)
 
--- the marks after the visit of a step: where it was needed it is marked, and what it needs was added
+-- the marks after the visit of a step: if it is needed, it is marked, and its needs were added
 abbrev pub IsVisited : ℕ → Step → Marks → Marks → Type 0
 IsVisited place visited before after =
     (n : ℕ) (other : Step) → n < length before.steps.items
     → has_step after n other
     ≡ (has_step before n other || (has_step before place visited && (place == n || needs_step visited n other)))
 
--- What holds after the items from one place on were visited: what is known to be needed is needed; the item `last` is marked; and of
--- the visited ones those that are known to be needed are marked, and what they need is known.
+-- The invariant after the items from one place on were visited. Every item that is known to be needed is needed; the item `last` is
+-- marked; and of the visited items those that are known to be needed are marked, and their needs are known.
 pub record IsPassed {X : Type 0} (step_of : X → Step) (items : List X) (last from : ℕ) (marks : Marks) : Type 0 where
   pub room : length marks.steps.items ≡ suc last
   pub first : IsTrue (is_marked marks.steps.items last)

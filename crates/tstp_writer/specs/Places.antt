@@ -1,8 +1,8 @@
--- What a table tells of the places of numbers in a list.
+-- A table of the places of numbers in a list.
 use Rattle.std.specs.Prelude.{◌≡◌, ℕ, ◌+◌, ◌<◌, ◌^◌, List, length, slice_get, unwrap_or}
 use Rattle.tstp_writer.specs.LineTrees.{Layout, place_in}
 
--- what stands in the table at a number, and how many numbers there are where nothing stands there
+-- the place of a number by the table; the count of numbers if the table has none for it
 abbrev pub told_place : List ℕ → ℕ → ℕ → ℕ
 told_place table count n = unwrap_or (slice_get table n) count
 

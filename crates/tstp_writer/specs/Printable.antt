@@ -1,4 +1,4 @@
--- Which lines are spelled by their printed texts, and that they are.
+-- The lines that are spelled by their printed texts.
 use Rattle.std.specs.Prelude.{◌≡◌, ℕ, ◌<◌, ◌≤◌, Bool, true, false, ◌&&◌, List, [], length}
 use Rattle.std.specs.List.{list_all, AllByRecursion}
 use Rattle.tptp_token.specs.Spelling.{is_printable, is_variable_word}

@@ -1,5 +1,5 @@
--- Clause lines whose text can be read again: canonical clauses over the symbols of a form; and what is taken of them when they are read
--- again.
+-- Clause lines whose text can be read again: canonical clauses over the symbols of a form; and the kernel's lines as which their texts are
+-- taken.
 use Rattle.std.specs.Prelude.{ℕ, ◌+◌, ◌^◌, ◌<◌, Bool, false, ◌&&◌, ◌==◌, List, [], ◌∷◌, ◌++◌, map, filter_map, flat_map, length, Option, option_map, unwrap_or, slice_get, position, IsTrue}
 use Rattle.std.specs.List.{list_all, AllByRecursion}
 use Rattle.plain_types.specs.declared.sequence.NameLit.{NameLit}
@@ -27,7 +27,7 @@ use Rattle.tstp_writer.specs.LineTrees.{Layout, line_name, place_in, derived_nam
 
 -- ---- symbols
 
--- the list has a symbol of that number, with so many arguments
+-- the list has a symbol of number f, with n arguments
 abbrev pub is_symbol_in : List Symbol → ℕ → ℕ → Bool
 is_symbol_in symbols f n = unwrap_or (option_map (λ (s : Symbol). s.arity == n) (slice_get symbols f)) false
 
@@ -104,9 +104,9 @@ read_name names n = record { positive = n.positive; name = place_in n.name names
 abbrev pub read_clause : List ℕ → TreeClause → TreeClause
 read_clause names c = record { literals = c.literals; names = map (read_name names) c.names }
 
--- ---- what is taken when they are read again
+-- ---- the lines that are taken when the text is read again
 
--- the place of the line of a derivation's line among all that are written
+-- the place of a derivation's line among all lines that are written
 abbrev pub written_place : Layout → ℕ → ℕ
 written_place layout n = length layout.cited + length layout.negated + place_in n layout.numbers
 
@@ -137,7 +137,7 @@ placed_step layout names σ step = step
 abbrev pub placed_line : Layout → List ℕ → Step → TreeClause → Line
 placed_line layout names step c = line_of (placed_step layout names (read_renaming step c) step) (read_clause names c)
 
--- the first formula that says the same as the one at a place
+-- the place of the first formula that equals the one at a place
 abbrev pub first_place : List Annotated → ℕ → ℕ
 first_place problem place =
     unwrap_or
@@ -159,14 +159,14 @@ negations_taken problem k [] = []
 negations_taken problem k (place ∷ places) =
     taken_as (line_name k) (line_of (Negate (first_place problem place)) empty_clause) ∷ negations_taken problem (k + 1) places
 
--- and a derivation's line
+-- the line as which a derivation's line is taken
 abbrev pub derived_taken : Layout → List ℕ → List Line → ℕ → Option NamedLine
 derived_taken layout names lines n =
     option_map
     (λ (l : Line). taken_as (derived_name layout n) (placed_line layout names l.step (clause_of l.clause)))
     (slice_get lines n)
 
--- all that is taken, with the lines of these numbers of the derivation
+-- all lines that are taken, those of the derivation with these numbers among them
 abbrev pub all_written : List Annotated → Layout → List ℕ → List Line → List ℕ → List NamedLine
 all_written problem layout names lines numbers =
     inputs_taken problem 0 layout.cited

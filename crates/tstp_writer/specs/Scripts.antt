@@ -1,4 +1,4 @@
--- What the program's scripts are.
+-- The program's scripts in the words of the definitions.
 use Rattle.std.specs.Prelude.{map}
 use Rattle.tptp_tree.specs.Shape.{entry_of}
 use Rattle.tstp_writer.specs.LineTrees.{Script}

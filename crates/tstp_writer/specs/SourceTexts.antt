@@ -1,4 +1,4 @@
--- How general terms and sources are printed.
+-- The printed texts of general terms and of sources.
 use Rattle.std.specs.Prelude.{ℕ, List, [], ◌∷◌, ◌++◌, map, codes, if◌then◌else◌}
 use Rattle.tptp_token.specs.Words.{name_text}
 use Rattle.tptp_tree.specs.Printing.{is_number_name}

@@ -11,7 +11,7 @@ use Rattle.tstp_writer.specs.Printable.{IsShown}
 use Rattle.tstp_writer.specs.ProblemLaws.{ArePrintableEntries}
 use Rattle.tstp_writer.specs.WrittenLaws.{IsReadableRefutation}
 
--- What is written for the lines that the line `last` needs. The lines are counted by a machine word.
+-- The text that is written for the lines that the line `last` needs. The lines are counted by a machine word.
 pub record IsWritten (file : List ℕ) (problem : List Annotated) (lines : List Line) (last : ℕ) (text : List ℕ) : Type 0 where
   pub numbers : List ℕ
   pub cone : IsCone lines last numbers

@@ -35,7 +35,7 @@ pub record IsReadableRefutation (problem : List Annotated) (lines : List Line) (
   pub is_clause : IsTrue (is_clause_step line.step)
   pub is_empty : clause_of line.clause ≡ empty_clause
 
--- what is written of such a refutation is accepted, where its lines are counted by a machine word
+-- the lines that are written of such a refutation are accepted, where they are counted by a machine word
 abbrev pub WrittenLinesAreAccepted : Type 0
 WrittenLinesAreAccepted =
     (file : List ℕ) (problem : List Annotated) (lines : List Line) (last : ℕ) (numbers : List ℕ)

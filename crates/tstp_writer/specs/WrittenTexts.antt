@@ -27,7 +27,7 @@ FormSymbolsAreShown =
 
 -- ---- lines
 
--- what is written for a clause line that can be read again, under whatever layout
+-- the line that is written for a clause line that can be read again can be printed, under any layout
 abbrev pub ReadableLinesArePrintable : Type 0
 ReadableLinesArePrintable =
     (problem : List Annotated) → ArePrintableEntries problem → (name : List ℕ) → IsShown name → (layout : Layout) (lines : List Line) (n : ℕ)
@@ -53,7 +53,7 @@ ReadableDerivationsAreSpelled =
     → AllByRecursion (IsReadableClauseLine (clausal_form problem).symbols) (lines_at lines numbers)
     → IsSpelledByText (derivation_trees (script_of name problem) lines numbers)
 
--- what is written of a refutation that can be read again is an accepted derivation
+-- the text of a refutation that can be read again is an accepted derivation
 abbrev pub WrittenTextsAreAccepted : Type 0
 WrittenTextsAreAccepted =
     (file : List ℕ) (problem : List Annotated) (lines : List Line) (last : ℕ) (text : List ℕ)

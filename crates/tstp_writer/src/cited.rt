@@ -1,4 +1,4 @@
-// Which formulas of the problem lines of a derivation stand on.
+// The formulas of the problem on which the lines of a derivation stand.
 
 ghost use Rattle.std.specs.Prelude.{◌≡◌, ◌<◌, ◌||◌, ℕ, length, filter, IfOk};
 ghost use Rattle.std.specs.List.{list_any};

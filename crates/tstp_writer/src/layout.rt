@@ -1,4 +1,4 @@
-// Which lines a text has, and their names.
+// The lines of a text, and their names.
 
 ghost use Rattle.std.specs.Prelude.{◌≡◌, ◌<◌, ◌+◌, ◌++◌, length, IfOk};
 ghost use Rattle.std.specs.List.{AllByRecursion};

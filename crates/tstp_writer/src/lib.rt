@@ -4,12 +4,12 @@
 //! names and sources: first the formulas of the problem that the lines stand on, then the negation of the conjecture, where one of them
 //! is the conjecture, then the lines. It goes in four stages, one after another:
 //!
-//! - *What is needed* (`needed.rt`): one pass from the last line backwards marks the parents of each marked step. A step's parents are
+//! - *The needed lines* (`needed.rt`): one pass from the last line backwards marks the parents of each marked step. A step's parents are
 //!   earlier, so each step is settled when the pass comes to it. An opposite line has no parent by number: it needs the component line of
-//!   its name, so the pass also keeps the names that are wanted. `cone_of` does this for anything that has steps, for the lines of a
-//!   derivation (`cone`) and for the steps of a pool alone (`pool_writer`). Who knows that all lines are needed asks for none of it
-//!   (`write_all_lines`).
-//! - *Which formulas are cited* (`cited.rt`): the places of the problem from which the clausify lines take their clauses.
+//!   its name, so the pass also keeps the names that are needed. `cone_of` does this for anything that has steps, for the lines of a
+//!   derivation (`cone`) and for the steps of a pool alone (`pool_writer`). A caller that knows that all lines are
+//!   needed skips this pass (`write_all_lines`).
+//! - *The cited formulas* (`cited.rt`): the places of the problem from which the clausify lines take their clauses.
 //! - *The layout* (`layout.rt`, `places.rt`): each formula, negation and line gets its place in the text, which is its name `cN`. Here the
 //!   parents' numbers become places among the needed lines.
 //! - *The text* (`text.rt`, `lines.rt`, `sources.rt`, `items.rt`, `clauses.rt`, over `page.rt`): formulas, sources, items and clauses are

@@ -13,7 +13,7 @@ use kernel_steps::{Derivation, Line, Step, last_marked, marked};
 use plain_types::{Mem, Numbers};
 use std::alloc::Global;
 
-/// What has a step: a step is its own, and a line has the one by which it comes.
+/// An item that has a step: a step is its own, and a line has the step by which it comes.
 pub trait HasStep {
     /// The step.
     ghost meaning: { Self → Step };
@@ -53,8 +53,8 @@ pub fn cone(alloc: Global, lines: &Derivation, last: u64) -> Mem<Numbers>
     cone_of(alloc, lines.as_slice(), last as usize)
 }
 
-/// The steps that the one of a number needs, as `cone` tells them of lines. A byte is taken for each step up to it, and a step that
-/// isn't needed is not looked at but for the name that it introduces.
+/// The numbers of the steps that the step `last` needs: `cone` does this for lines. It takes a byte for each step up to `last`. Of a step
+/// that isn't needed only the name that it introduces is looked at.
 pub fn cone_of<S: HasStep>(alloc: Global, items: &[S], last: usize) -> Mem<Numbers>
     requires last { last < length items.now }
     requires earlier { NeedEarlierBy S.meaning items.now }
@@ -91,7 +91,7 @@ impl Marks {
         })
     }
 
-    /// Marks a step and what it needs, where it is needed.
+    /// If a step is needed, marks it and its needs.
     fn visit(&mut self, place: usize, step: &Step) -> Mem<()>
         requires { place < length self.old.steps.items }
         ensures room { length self.new.steps.items ≡ length self.old.steps.items }

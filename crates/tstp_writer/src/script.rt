@@ -1,4 +1,4 @@
-// What the lines of a derivation are written over.
+// The script of a derivation: the problem's formulas and symbols, over which its lines are written.
 
 ghost use Rattle.std.specs.Prelude.{◌≡◌};
 ghost use Rattle.tstp_writer.specs.LineTrees.{origin, is_conjecture_at};

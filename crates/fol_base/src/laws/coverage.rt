@@ -12,7 +12,7 @@ pub fn coverage_by_more()
     ensures { CoversMore }
 {}
 
-/// What is covered by clauses whose ground instances are covered is covered.
+/// A list covers each clause that is covered by clauses whose ground instances the list covers.
 pub fn coverage_composes()
     ensures { CoversAcross }
 {}

@@ -33,13 +33,13 @@ pub fn agreement_of_instances()
     ensures below { InstancesAgreeBelow }
 {}
 
-/// The size of an instance: the symbols, and for each occurrence of a variable the size of what is put in.
+/// The size of an instance: the symbols, and for each occurrence of a variable the size of the tree put in.
 pub fn sizes_of_instances()
     ensures trees { SizesOfInstances }
     ensures clauses { SizesOfClauseInstances }
 {}
 
-/// The variables of an instance are those of what is put in.
+/// The variables of an instance are those of the trees put in.
 pub fn variables_of_instances()
     ensures variables { VariablesOfInstances }
     ensures occurrences { OccurrencesInInstances }
@@ -58,7 +58,7 @@ pub fn replaced_where_there()
     ensures { ReplacedWhereThere }
 {}
 
-/// A ground instance of an instance is one of the clause, where what was put in for its variables is over the function symbols.
+/// A ground instance of an instance is one of the clause, where the trees put in for its variables are over the function symbols.
 pub fn ground_instances_of_instances()
     ensures { GroundInstancesOfInstances }
 {}

@@ -21,13 +21,13 @@ pub fn congruence()
     ensures { CongruenceOfValues }
 {}
 
-/// The value of an instance is that of the tree, where each variable has the value of what is put in.
+/// The value of an instance is that of the tree, where each variable has the value of the tree put in for it.
 #[tactic(auto, using(crate::proofs::AboutClauses::MeaningLemmas::values_of_instances))]
 pub fn values_of_instances()
     ensures { ValuesOfInstances }
 {}
 
-/// An instance of a clause is true where the clause is, each variable having the value of what is put in.
+/// An instance of a clause is true where the clause is, each variable having the value of the tree put in for it.
 #[tactic(auto, using(crate::proofs::AboutClauses::MeaningLemmas::truth_of_instances))]
 pub fn truth_of_instances()
     ensures { TruthOfInstances }
@@ -49,7 +49,7 @@ pub fn entailment_of_more()
     ensures { EntailsMonotone }
 {}
 
-/// What is entailed by entailed clauses is entailed.
+/// A clause that entailed clauses entail is entailed.
 pub fn entailment_cuts()
     ensures { EntailsCut }
 {}

@@ -15,7 +15,7 @@ ghost use Rattle.fol_base.specs.Order.{
   NotGreaterIsTransitive,
 };
 
-/// The tests of equality and of the order say what the same definitions as types do.
+/// The tests of equality and of the order agree with the types of the same meaning.
 pub fn order_tests_decide()
     ensures equal_trees { TreeEqualityDecided }
     ensures trees { TreeGreaterDecided }
@@ -23,7 +23,7 @@ pub fn order_tests_decide()
     ensures clauses { ClauseGreaterDecided }
 {}
 
-/// What is the same for the order: equal trees, literals up to the order of their sides, and clauses up to that of their literals.
+/// Equality in the order is an equivalence: of trees, of literals up to the order of their sides, of clauses up to that of their literals.
 pub fn order_equivalences()
     ensures trees { TreesEquivalence }
     ensures literals { LiteralsEquivalence }

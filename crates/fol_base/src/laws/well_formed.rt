@@ -11,14 +11,14 @@ ghost use Rattle.fol_base.specs.WellFormed.{
 };
 ghost use Rattle.fol_base.specs.Kind.{GroundTreesAreFunctionTerms};
 
-/// The sides of a well-formed literal are well-formed terms; and ground trees over function symbols that are used so are what
-/// instances may be made with.
+/// The sides of a well-formed literal are well-formed terms; and ground trees over function symbols with their numbers of arguments
+/// may stand for variables in instances.
 pub fn terms_are_well_formed()
     ensures sides { WellFormedSides }
     ensures ground_trees { GroundTreesAreOfUse }
 {}
 
-/// Instances under function terms, and what the rules conclude, stay well-formed, whatever the rules' other conditions.
+/// Instances under function terms, and conclusions of the rules, stay well-formed, whatever the rules' other conditions.
 pub fn conclusions_are_well_formed()
     ensures instances { WellFormedInstances }
     ensures superpositions { WellFormedSuperpositions }

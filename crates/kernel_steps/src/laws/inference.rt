@@ -43,7 +43,7 @@ pub fn kind_examples()
     ensures truths { IsFalse (have_heads_of_one_kind is_predicate true_tree true_tree) }
 {}
 
-/// Reducing steps, and what is none.
+/// Reducing steps, and steps that aren't.
 pub fn reduction_examples()
     ensures trivial_literal { Reduces is_predicate (λ d. ⊥) (clause (disequation a a ∷ r ∷ [])) (clause (r ∷ [])) }
     ensures merged_literals { Reduces is_predicate (λ d. ⊥) (clause (p a ∷ p a ∷ [])) (clause (p a ∷ [])) }

@@ -1,4 +1,4 @@
-// Soundness: what derivations prove.
+// Soundness of the rules, of derivations and of refutations.
 
 ghost use Rattle.kernel_steps.specs.Soundness.{ParaIsSound, ReflIsSound, FactorIsSound, MergeIsSound, ChainIsSound, DerivationsAreSound, GroundLinesAreGrounded, RefutationsRefute, GroundRefutationsRefute, GroundRefutationsHerbrandRefute, HerbrandRefuted};
 ghost use Rattle.kernel_steps.specs.Examples.{unrelated, general};

@@ -2,7 +2,7 @@
 
 ghost use Rattle.kernel_steps.specs.Symbols.{ConclusionsKeepSymbols, StepsKeepSymbols, DerivationsKeepSymbols};
 
-/// Lines have no symbols but those of what they go on from and of what their steps bind.
+/// Each symbol of a line is one of the clauses from which the lines go on, or of the terms that their steps bind.
 pub fn lines_keep_symbols()
     ensures conclusions { ConclusionsKeepSymbols }
     ensures steps { StepsKeepSymbols }

@@ -39,8 +39,8 @@ pub fn steps_examples()
     ensures no_step { end_of (clause (r ∷ [])) [] ≡ clause (r ∷ []) }
 {}
 
-/// A literal `t = t`; what is a member; and clauses that have, or don't have, one conclusion of each inference that is named among
-/// members, or cover its instances.
+/// A literal `t = t`; members; and clauses that have, or don't have, one conclusion of each inference that is named among members, or
+/// cover its instances.
 pub fn closure_examples()
     ensures equal_sides { IsTrue (has_equal_sides (equation (f a) (f a))) }
     ensures other_sides { IsFalse (has_equal_sides (equation (f a) a)) }
