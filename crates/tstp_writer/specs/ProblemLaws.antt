@@ -54,7 +54,7 @@ abbrev pub ProblemLinesArePrintable : Type 0
 ProblemLinesArePrintable =
     (formulas : List Annotated) → ArePrintableEntries formulas → AllByRecursion (λ (a : Annotated). HasPrintableLines (entry_of a)) formulas
 
--- the formulas of a script can be printed by their places, where the file's name is shown
+-- the same by places, where the file's name is shown
 abbrev pub ScriptFormulasArePrintable : Type 0
 ScriptFormulasArePrintable =
     (formulas : List Annotated) → ArePrintableEntries formulas → (name : List ℕ) → IsShown name → HasPrintableFormulas (script_of name formulas)
