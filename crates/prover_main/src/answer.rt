@@ -3,9 +3,7 @@
 ghost use Rattle.std.specs.Prelude.{◌≡◌};
 ghost use Rattle.prover_main.specs.Reports.{status_of, read_status};
 
-use crate::status::{
-    GAVE_UP, INAPPROPRIATE, INPUT_ERROR, LOAD_FAILED, PROVED, REFUSED, SATURATED,
-};
+use crate::status::{GAVE_UP, INAPPROPRIATE, INPUT_ERROR, LOAD_FAILED, PROVED, REFUSED, SATURATED};
 use clausal_form::FormCause;
 use plain_types::Text;
 use tptp_reader::ReadCause;

@@ -61,8 +61,11 @@ pub enum Command<'a> {
     },
 }
 
-const PROVE_OPTIONS: [OptionName; 3] =
-    [OptionName::Inferences, OptionName::Tptp, OptionName::Select];
+const PROVE_OPTIONS: [OptionName; 3] = [
+    OptionName::Inferences,
+    OptionName::Tptp,
+    OptionName::Select,
+];
 
 const CHECK_OPTIONS: [OptionName; 1] = [OptionName::Tptp];
 
@@ -274,7 +277,11 @@ fn selection_in(value: &str) -> Option<Selection>
 }
 
 /// What options give, and one word more.
-fn given_with<'a>(given: Option<Given<'a>>, options: &[OptionName], word: &'a str) -> Option<Given<'a>>
+fn given_with<'a>(
+    given: Option<Given<'a>>,
+    options: &[OptionName],
+    word: &'a str,
+) -> Option<Given<'a>>
     ensures { option_map given_meant result ≡ option_and_then (λ g. with_option options.now g word.now) (option_map given_meant given.entry) }
 {
     given?.with(options, word)
