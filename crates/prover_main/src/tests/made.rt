@@ -58,8 +58,8 @@ fn made_problems_are_answered(rt: HostRuntime) {
     };
     let problem = made_problem(alloc).expect(&rt, "memory");
     made_is_admissible(&problem);
-    let proved = prove_problem(&rt, alloc, &problem, options);
-    assert!(rt; proved.is_ok_and(|proved| matches!(proved.outcome, Outcome::Refuted)));
+    let proved = prove_problem(&rt, alloc, &problem, options).ok().expect(&rt, "a pool");
+    assert!(rt; matches!(proved.outcome, Outcome::Refuted));
     let form = clausal(alloc, &problem).ok().expect(&rt, "a clausal form");
     let formed = FormedProblem { problem, form };
     let answer = formed_answer(&rt, alloc, "made", &formed, options).expect(&rt, "memory");
