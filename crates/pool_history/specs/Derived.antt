@@ -1,13 +1,14 @@
 -- Laws of a pool's lines, for every list of events: a derivation from the inputs, and a refutation once the pool is refuted.
-use Rattle.std.specs.Prelude.{◌≡◌, ℕ, Bool, true, false, ◌&&◌, List, [], Some, All, IsTrue}
+use Rattle.std.specs.Prelude.{◌≡◌, ℕ, Bool, ◌&&◌, List, Some, All, IsTrue}
 use Rattle.std.specs.List.{list_all}
 use Rattle.fol_base.specs.Tree.{Tree, true_symbol}
 use Rattle.fol_base.specs.Clause.{TreeClause}
 use Rattle.fol_base.specs.Kind.{is_function_term}
 use Rattle.fol_base.specs.Literal.{clause_of}
 use Rattle.fol_base.specs.WellFormed.{SymbolUse, has_arities, are_literals_of}
-use Rattle.kernel_steps.specs.Derivation.{IsDerivation, IsRefutation}
-use Rattle.kernel_steps.specs.Lines.{is_plain_step, has_small_terms, IsNumbered}
+use Rattle.kernel_steps.specs.Names.{are_sorted}
+use Rattle.kernel_steps.specs.Derivation.{is_clause_step, IsDerivation, IsRefutation}
+use Rattle.kernel_steps.specs.Lines.{has_small_terms, IsNumbered}
 use Rattle.kernel_steps.specs.Soundness.{binds_each}
 use Rattle.kernel_steps.specs.Symbols.{clause_symbols_pass, bound_symbols_pass}
 use Rattle.kernel_steps.specs.declared.step.Step.{Step}
@@ -22,11 +23,11 @@ use Rattle.pool_history.specs.declared.outcome.Outcome.TheVariants.{Refuted}
 abbrev pub is_function_term_of : SymbolUse → Tree → Bool
 is_function_term_of usage t = is_function_term usage.is_predicate t && has_arities usage.arity t
 
--- A line of a pool where nothing is split: it has no names, is canonical and well-formed, and binds small function terms, whose own variables
--- have the next numbers.
-pub record IsPlainLine (usage : SymbolUse) (l : Line) : Type 0 where
-  pub step : IsTrue (is_plain_step l.step)
-  pub no_names : (clause_of l.clause).names ≡ []
+-- A line of a pool, of any kind but those of formulas: it is canonical and well-formed, its names are sorted, and it binds small function terms,
+-- whose own variables have the next numbers.
+pub record IsPoolLine (usage : SymbolUse) (l : Line) : Type 0 where
+  pub step : IsTrue (is_clause_step l.step)
+  pub sorted : IsTrue (are_sorted (clause_of l.clause).names)
   pub formed : IsTrue (are_literals_of usage (clause_of l.clause).literals)
   pub terms : IsTrue (binds_each (is_function_term_of usage) l.step)
   pub numbered : IsNumbered l
@@ -41,22 +42,20 @@ HaveInputSymbols inputs lines =
 
 pub record ArePoolLines (usage : SymbolUse) (inputs : List TreeClause) (lines : List Line) : Type 0 where
   pub derived : IsDerivation inputs lines
-  pub plain : All (IsPlainLine usage) lines
+  pub each : All (IsPoolLine usage) lines
   pub symbols : HaveInputSymbols inputs lines
 
--- ---- laws, where nothing is split
+-- ---- laws
 
 abbrev pub LinesAreDerived : Type 0
 LinesAreDerived =
     (usage : SymbolUse) (origin : Origin) (history : List Event)
-    → AreInputs origin.inputs → IsUseOf origin.inputs usage → origin.options.split ≡ false
-    → IsLawful usage.is_predicate origin history
+    → AreInputs origin.inputs → IsUseOf origin.inputs usage → IsLawful usage.is_predicate origin history
     → ArePoolLines usage origin.inputs (replay origin history).lines
 
 -- once the pool is refuted, its last line is the empty clause
 abbrev pub RefutedIsRefutation : Type 0
 RefutedIsRefutation =
     (usage : SymbolUse) (origin : Origin) (history : List Event)
-    → AreInputs origin.inputs → IsUseOf origin.inputs usage → origin.options.split ≡ false
-    → IsLawful usage.is_predicate origin history
+    → AreInputs origin.inputs → IsUseOf origin.inputs usage → IsLawful usage.is_predicate origin history
     → (replay origin history).ended ≡ Some Refuted → IsRefutation origin.inputs (replay origin history).lines

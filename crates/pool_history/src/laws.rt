@@ -3,6 +3,7 @@
 mod chains;
 mod components;
 mod histories;
+mod models;
 mod telling;
 
 pub use chains::chains_are_steps;
@@ -14,4 +15,5 @@ pub use histories::{
     refuted_is_refutation, registered_are_whole, replaced_were_reduced, set_aside_are_heavy,
     spent_is_the_count, told_have_positions,
 };
+pub use models::{models_are_right, propositional_clauses_stay};
 pub use telling::{given_are_told, jobs_were_told, news_are_registered, told_are_news};

@@ -39,17 +39,17 @@ pub fn heavy_or_not()
     ensures { HeavyOrNot }
 {}
 
-/// Where nothing is split, the registered clauses are canonical, small, without names, and well-formed together.
+/// The registered clauses are canonical, small and well-formed together, and their names are assertions of parts that were met.
 pub fn registered_are_whole()
     ensures { RegisteredAreWhole }
 {}
 
-/// Where nothing is split, the lines are a derivation from the inputs, of small terms over their symbols alone.
+/// The lines are a derivation from the inputs, of small terms over their symbols alone.
 pub fn lines_are_derived()
     ensures { LinesAreDerived }
 {}
 
-/// Where nothing is split, the lines of a pool that is refuted are a refutation of the inputs.
+/// The lines of a pool that is refuted are a refutation of the inputs.
 pub fn refuted_is_refutation()
     ensures { RefutedIsRefutation }
 {}
@@ -90,7 +90,7 @@ pub fn positions_stay()
     ensures { PositionsStay }
 {}
 
-/// Where nothing is split, the numbers of clauses and their positions have 32 bits.
+/// The numbers of clauses and their positions have 32 bits.
 pub fn numbers_fit()
     ensures { NumbersFit }
 {}
