@@ -8,6 +8,7 @@ pub mod LogLemmas
 pub mod NamedStepLemmas
 pub mod NameTableLemmas
 pub mod NewNameLemmas
+pub mod OnePartLemmas
 pub mod PartLemmas
 pub mod PoolLineLemmas
 pub mod ReachedLemmas
@@ -16,4 +17,5 @@ pub mod SizeLemmas
 pub mod SoundLemmas
 pub mod SplitLineLemmas
 pub mod SplitSoundLemmas
+pub mod UnsplitLemmas
 pub mod WrittenLemmas

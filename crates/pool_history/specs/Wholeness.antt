@@ -1,5 +1,5 @@
 -- Laws of what is registered, for every list of events: whole clauses, and positions and jobs that hold their numbers.
-use Rattle.std.specs.Prelude.{◌≢◌, ℕ, ◌<◌, ◌≤◌, Bool, ◌&&◌, nat_lt, List, length, All, AllPairs, IsTrue}
+use Rattle.std.specs.Prelude.{◌≢◌, ℕ, ◌<◌, ◌≤◌, Bool, ◌&&◌, nat_lt, List, length, All, AllPairs, IsTrue, IsFalse}
 use Rattle.std.specs.List.{list_all}
 use Rattle.fol_base.specs.Clause.{TreeClause, clause_size}
 use Rattle.fol_base.specs.Canonical.{IsCanonical}
@@ -7,6 +7,7 @@ use Rattle.fol_base.specs.WellFormed.{SymbolUse, are_literals_of}
 use Rattle.fol_base.specs.declared.limits.TheConstants.{MOST_SYMBOLS}
 use Rattle.kernel_steps.specs.Split.{has_number}
 use Rattle.bank_clause.specs.Clause.{AreAssertions}
+use Rattle.pool_history.specs.Components.{is_to_split}
 use Rattle.pool_history.specs.Record.{Registered, GivenJob}
 use Rattle.pool_history.specs.Replay.{Origin, replay}
 use Rattle.pool_history.specs.Lawful.{IsLawful}
@@ -32,6 +33,13 @@ RegisteredAreWhole =
     → AreInputs origin.inputs → IsUseOf origin.inputs usage → IsLawful usage.is_predicate origin history
     → let r = replay origin history in
     All (λ (c : Registered). IsWhole usage (length r.parts) c.clause) r.registered
+
+-- Where splitting is on no registered clause, and so no member, falls into two parts: none is to be split. So for every list of events, lawful or
+-- not.
+abbrev pub RegisteredAreOnePart : Type 0
+RegisteredAreOnePart =
+    (origin : Origin) (history : List Event)
+    → All (λ (c : Registered). IsFalse (is_to_split origin.options.split c.clause.literals)) (replay origin history).registered
 
 -- ---- positions and jobs
 

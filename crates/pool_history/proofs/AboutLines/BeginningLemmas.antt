@@ -21,7 +21,7 @@ use Rattle.kernel_steps.specs.FromTrees.{term_from, literal_from, clause_from, l
 use Rattle.pool_history.specs.Registering.{comes, unless_ended, with_inputs}
 use Rattle.pool_history.specs.Inputs.{AreInputs, IsUseOf}
 use Rattle.pool_history.specs.Wholeness.{IsWhole, RegisteredAreWhole}
-use Rattle.pool_history.specs.Derived.{IsPoolLine, LinesAreDerived, RefutedIsRefutation}
+use Rattle.pool_history.specs.Derived.{IsPoolLine, LinesAreDerived, NamesRise, RefutedIsRefutation}
 use Rattle.pool_history.specs.Lawful.{IsLawful}
 use Rattle.pool_history.specs.Replay.{Origin, start, replay}
 use Rattle.pool_history.specs.declared.event.Event.{Event}
@@ -101,9 +101,11 @@ module _ (usage : SymbolUse) (inputs : List TreeClause) where
     named = record {
       table = record { told = λ m n line there does. absurd (none-some line there); components = λ k within. absurd (omega (arith, within)) };
       signed = λ part there. absurd (true≢false (sym there));
+      rise = refl;
     };
     over_names = λ n p there. absurd (none-some p there);
     handed_few = λ s none. absurd (none-some s none);
+    bare = λ none. refl;
     refuted = λ h. absurd (none-some Refuted h);
   }
 
@@ -136,6 +138,9 @@ registered_are_whole usage origin history inputs used lawful = (replay-sound usa
 
 pub lines_are_derived : LinesAreDerived
 lines_are_derived usage origin history inputs used lawful = (replay-sound usage origin history inputs used lawful).made
+
+pub names_rise : NamesRise
+names_rise usage origin history inputs used lawful = (replay-sound usage origin history inputs used lawful).named.rise
 
 pub refuted_is_refutation : RefutedIsRefutation
 refuted_is_refutation usage origin history inputs used lawful refuted =

@@ -1,9 +1,10 @@
 -- Which names the lines of a pool introduce: those of the parts that were met, each by the line of its definition.
 use Rattle.std.proofs.Common.{◌≡◌, ℕ, zero, suc, ◌+◌, ◌<◌, ◌≤◌, Bool, true, false, not, ◌&&◌, ◌||◌, ◌==◌, ◌⊎◌, List, [], ◌∷◌, ◌++◌, map, length, append-nil, append_assoc, refl, ap, ap₂, sym, ◌∙◌, subst, inl, inr, ⊎_elim, arith}
 use Rattle.std.specs.Prelude.{Option, None, Some, cond, slice_get, slice_index_or, if◌then◌else◌}
-use Rattle.std.specs.List.{list_any, position_or_len}
+use Rattle.std.specs.List.{list_any, position_or_len, range_with_len, cons_option}
 use Rattle.std.proofs.lemmas.Bool.{true≢false, and_parts, and_from, or_left, or_right, or_cases, or_parts, cond-true, cond-false, cases_Bool, cases_lt, eq-eqb, eqb-true}
 use Rattle.std.proofs.lemmas.List.{length-append, get_or_append_left}
+use Rattle.std.proofs.lemmas.List.Elements.{filter_map-append}
 use Rattle.std.proofs.lemmas.List.Folds.{list_any-append}
 use Rattle.std.proofs.lemmas.Option.{none-some, same_Some, get_or_from_slice_get}
 use Rattle.plain_types.specs.declared.sequence.NameLit.{NameLit}
@@ -25,7 +26,7 @@ use Rattle.split_parts.proofs.AboutTags.TagLawLemmas.{stands-at, met-there}
 use Rattle.split_parts.proofs.AboutTags.SignedLemmas.{named-end, named-there, tag-below, next-name, complements-back}
 use Rattle.split_parts.proofs.AboutTags.SignedLawLemmas.{signed_names_stay}
 use Rattle.pool_history.specs.Lines.{introduces, definition_of}
-use Rattle.pool_history.specs.Registering.{definitions}
+use Rattle.pool_history.specs.Derived.{component_name, component_names}
 use Rattle.pool_history.proofs.AboutLines.JoinedLemmas.{get-left, get-cases, BehindAt}
 use Rattle.pool_history.proofs.AboutLines.WrittenLemmas.{clause-written}
 
@@ -170,6 +171,8 @@ pub record AreTold (parts : List (List TreeLiteral)) (lines : List Line) : Type 
 pub record AreNamed (parts : List (List TreeLiteral)) (lines : List Line) : Type 0 where
   pub table : AreTold parts lines
   pub signed : (part : List TreeLiteral) → has_part part parts ≡ true → introduced_in lines (signed_name parts part) ≡ true
+  -- in the order of the names
+  pub rise : component_names lines ≡ range_with_len 0 (length (named parts))
 
 pub component-told : (parts : List (List TreeLiteral)) (lines : List Line) (k : ℕ) → AreTold parts lines → k < length (named parts) → component_clause k lines ≡ Some (definition parts (positive_of k))
 component-told parts lines k is within =
@@ -219,6 +222,26 @@ told-joined parts lines more each is = record {
       ∙ or_left (introduced_in lines (positive_of k)) (introduced_in more (positive_of k)) (is.components k within);
 }
 
+no-component : (step : Step) → introduces_name step ≡ false → component_name step ≡ None
+no-component (Component n) h = absurd (true≢false h)
+no-component (Opposite n) h = refl
+no-component (Input place) h = refl
+no-component (Negate place) h = refl
+no-component (Clausify i) h = refl
+no-component (Para n m j s l z place first second) h = refl
+no-component (Refl n l bind) h = refl
+no-component (Factor n j s l z bind) h = refl
+no-component (Merge n j l bind) h = refl
+no-component (Split parent definitions parts) h = refl
+no-component (Chain numbers pivots) h = refl
+
+no-components :
+    (more : List Line) → ((n : ℕ) (line : Line) → slice_get more n ≡ Some line → introduces_name line.step ≡ false) → component_names more ≡ []
+no-components [] none = refl
+no-components (l ∷ ls) none =
+    ap (λ (o : Option ℕ). cons_option o (component_names ls)) (no-component l.step (none 0 l refl))
+    ∙ no-components ls (λ n line there. none (suc n) line there)
+
 pub named-joined :
     (parts : List (List TreeLiteral)) (lines more : List Line)
     → ((n : ℕ) (line : Line) → slice_get more n ≡ Some line → introduces_name line.step ≡ false) → AreNamed parts lines → AreNamed parts (lines ++ more)
@@ -230,4 +253,7 @@ named-joined parts lines more none is = record {
       λ part there.
       list_any-append (λ (l : Line). introduces (signed_name parts part) l.step) lines more
       ∙ or_left (introduced_in lines (signed_name parts part)) (introduced_in more (signed_name parts part)) (is.signed part there);
+  rise =
+      filter_map-append (λ (l : Line). component_name l.step) lines more
+      ∙ ap (λ ns. component_names lines ++ ns) (no-components more none) ∙ append-nil (component_names lines) ∙ is.rise;
 }

@@ -1,9 +1,10 @@
 -- A part that is met for the first time: the lines that define its signed name.
-use Rattle.std.proofs.Common.{◌≡◌, ℕ, zero, suc, ◌+◌, ◌<◌, ◌≤◌, Bool, true, false, not, ◌&&◌, ◌||◌, ◌==◌, List, [], ◌∷◌, ◌++◌, map, length, append_assoc, refl, ap, ap₂, sym, ◌∙◌, subst, ⊎_elim, arith}
+use Rattle.std.proofs.Common.{◌≡◌, ℕ, zero, suc, ◌+◌, ◌<◌, ◌≤◌, Bool, true, false, not, ◌&&◌, ◌||◌, ◌==◌, List, [], ◌∷◌, ◌++◌, map, length, append-nil, append_assoc, refl, ap, ap₂, sym, ◌∙◌, subst, ⊎_elim, arith}
 use Rattle.std.specs.Prelude.{Some, slice_get, slice_index_or, if◌then◌else◌}
-use Rattle.std.specs.List.{list_any}
+use Rattle.std.specs.List.{list_any, range_with_len}
 use Rattle.std.proofs.lemmas.Bool.{true≢false, and_parts, or_left, or_right, or_cases, cond-true, cond-false, cases_Bool, cases_lt, eq-eqb, not_from_false, not-true}
 use Rattle.std.proofs.lemmas.List.{length-append, get_or_append_left}
+use Rattle.std.proofs.lemmas.List.Elements.{filter_map-append}
 use Rattle.std.proofs.lemmas.List.Folds.{list_any-append}
 use Rattle.std.proofs.lemmas.Option.{none-some, same_Some}
 use Rattle.plain_types.specs.declared.sequence.NameLit.{NameLit}
@@ -22,6 +23,7 @@ use Rattle.split_parts.proofs.AboutTags.TagLawLemmas.{met-there}
 use Rattle.split_parts.proofs.AboutTags.SignedLemmas.{named-end, named-there, tag-below, next-name, complements-back}
 use Rattle.split_parts.proofs.AboutTags.SignedLawLemmas.{signed_names_stay}
 use Rattle.pool_history.specs.Lines.{introduces}
+use Rattle.pool_history.specs.Derived.{component_name, component_names}
 use Rattle.pool_history.proofs.AboutLines.JoinedLemmas.{get-cases, BehindAt}
 use Rattle.pool_history.proofs.AboutLines.WrittenLemmas.{clause-written}
 use Rattle.pool_history.proofs.AboutLines.NameTableLemmas.{introduced_in, of-component, of-opposite, named_literals, definition, of-part, at-tag, AreTold, AreNamed, component-told, component-free, told-joined}
@@ -51,6 +53,12 @@ affirmed-some part some none = some (by (is_ground_negative part) none)
     by : (g : Bool) → length (if g then map complement part else part) ≡ 0 → length part ≡ 0
     by true h = sym (lengths part) ∙ h
     by false h = h
+
+range-end : (first n : ℕ) → range_with_len first n ++ (first + n) ∷ [] ≡ range_with_len first (suc n)
+range-end first zero = ap (λ k. k ∷ []) (let same : first + zero ≡ first = omega arith in same)
+range-end first (suc n) =
+    let same : first + suc n ≡ first + 1 + n = omega arith in
+    ap (λ ks. first ∷ ks) (ap (λ k. range_with_len (first + 1) n ++ k ∷ []) same ∙ range-end (first + 1) n)
 
 -- ---- the new part
 
@@ -207,10 +215,35 @@ module _
   new-table = told-joined grown (lines ++ component_lines) opposite_lines opposite-tells component-table
 
   pub new-named : AreNamed grown (lines ++ (component_lines ++ opposite_lines))
-  new-named = subst (AreNamed grown) (append_assoc lines component_lines opposite_lines) (record { table = new-table; signed = signed })
+  new-named = subst (AreNamed grown) (append_assoc lines component_lines opposite_lines) (record { table = new-table; signed = signed; rise = rise })
     where
       all : List Line
       all = (lines ++ component_lines) ++ opposite_lines
+
+      next-in-range : has_part (affirmed part) (named parts) ≡ false → range_with_len 0 (length (named parts)) ++ next.name ∷ [] ≡ range_with_len 0 (length (named grown))
+      next-in-range fresh =
+          let count : suc (length (named parts)) ≡ length (named grown) = (let more = one-more fresh in omega (arith, more)) in
+          let name : next.name ≡ 0 + length (named parts) = (let last = next-last fresh in omega (arith, last)) in
+          ap (λ n. range_with_len 0 (length (named parts)) ++ n ∷ []) name ∙ range-end 0 (length (named parts)) ∙ ap (range_with_len 0) count
+
+      after-component : (b : Bool) → has_part (affirmed part) (named parts) ≡ b
+          → range_with_len 0 (length (named parts)) ++ component_names (if b then [] else line_of (Component next.name) component_defined ∷ [])
+          ≡ range_with_len 0 (length (named grown))
+      after-component true known = append-nil (range_with_len 0 (length (named parts))) ∙ ap (range_with_len 0) (sym (no-more known))
+      after-component false fresh = next-in-range fresh
+
+      no-opposite : (b : Bool) → component_names (if b then [] else line_of (Opposite next.name) opposite_defined ∷ []) ≡ []
+      no-opposite true = refl
+      no-opposite false = refl
+
+      rise : component_names all ≡ range_with_len 0 (length (named grown))
+      rise =
+          filter_map-append (λ (l : Line). component_name l.step) (lines ++ component_lines) opposite_lines
+          ∙ ap (λ ns. component_names (lines ++ component_lines) ++ ns) (no-opposite next.positive)
+          ∙ append-nil (component_names (lines ++ component_lines))
+          ∙ filter_map-append (λ (l : Line). component_name l.step) lines component_lines
+          ∙ ap (λ ns. ns ++ component_names component_lines) is.rise
+          ∙ after-component (has_part (affirmed part) (named parts)) refl
 
       in-all : (m : NameLit) → introduced_in lines m ≡ true → introduced_in all m ≡ true
       in-all m there =

@@ -131,6 +131,8 @@ module _ (usage : SymbolUse) (inputs : List TreeClause) where
     pub named : AreNamed parts lines
     pub over_names : (n : ℕ) (p : PropositionalClause) → slice_get propositional n ≡ Some p → HasNames lines p
     pub handed_few : (s : SolverJob) → solver ≡ Some s → s.clauses ≤ length propositional
+    -- where no part was met there is no propositional clause
+    pub bare : parts ≡ [] → propositional ≡ []
     pub refuted : ended ≡ Some Refuted → EndsWith lines empty_clause
 
   abbrev pub Sound : PoolRecord → Type 0
@@ -198,6 +200,7 @@ module _ (usage : SymbolUse) (inputs : List TreeClause) where
         let at = sound.over_names n p there in
         record { line = at.line; there = get-left r.lines more p.line at.line at.there; gives = at.gives };
     handed_few = sound.handed_few;
+    bare = sound.bare;
     refuted = λ h. absurd (not-refuted r.ended is_open h);
   }
 
@@ -217,13 +220,15 @@ module _ (usage : SymbolUse) (inputs : List TreeClause) where
     named = sound.named;
     over_names = sound.over_names;
     handed_few = sound.handed_few;
+    bare = sound.bare;
     refuted = sound.refuted;
   }
 
   -- a propositional clause, whose line is the last
   pub propositional-sound :
-      (r : PoolRecord) (names : List NameLit) → Sound r → EndsWith r.lines (under_names [] names) → Sound (with_propositional names r)
-  propositional-sound r names sound is = record {
+      (r : PoolRecord) (names : List NameLit)
+      → Sound r → (r.parts ≡ [] → ⊥) → EndsWith r.lines (under_names [] names) → Sound (with_propositional names r)
+  propositional-sound r names sound some_part is = record {
     whole = sound.whole;
     lined = sound.lined;
     made = sound.made;
@@ -240,6 +245,7 @@ module _ (usage : SymbolUse) (inputs : List TreeClause) where
         let count : length (r.propositional ++ record { names = names; line = length r.lines - 1 } ∷ []) ≡ length r.propositional + 1 =
         length-append r.propositional (record { names = names; line = length r.lines - 1 } ∷ []) in
         omega (arith, few, count);
+    bare = λ none. absurd (some_part none);
     refuted = sound.refuted;
   }
     where

@@ -306,5 +306,6 @@ module _ (usage : SymbolUse) (inputs : List TreeClause) (r : PoolRecord) (s : So
             let at = sound.over_names n p there in
             record { line = at.line; there = has.kept p.line at.line at.there; gives = at.gives };
         handed_few = λ j none. absurd (none-some j none);
+        bare = sound.bare;
         refuted = λ h. has.ends [] (last-empty None right.made right.empty);
       }

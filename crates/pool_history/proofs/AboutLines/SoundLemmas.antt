@@ -1,11 +1,12 @@
 -- Each event of a lawful history keeps the registered clauses whole and the lines a derivation.
 use Rattle.std.proofs.Common.{◌≡◌, ℕ, ◌-◌, ◌<◌, ◌≤◌, Bool, true, false, ◌==◌, List, [], ◌∷◌, ◌++◌, map, length, refl, ap, ap₂, sym, ◌∙◌, subst, arith}
-use Rattle.std.specs.Prelude.{Option, None, Some, is_none, slice_get, nat_le, flat_map, fold, find, if◌then◌else◌}
+use Rattle.std.specs.Prelude.{Option, None, Some, is_none, slice_get, nat_le, flat_map, fold, find, All, if◌then◌else◌}
 use Rattle.std.specs.List.{list_all, AllByRecursion, cons_option}
 use Rattle.std.proofs.lemmas.Bool.{true≢false, and_parts, or_left, or_right, eqb-true, eq-eqb}
-use Rattle.std.proofs.lemmas.List.Elements.{recursion_from_All}
+use Rattle.std.proofs.lemmas.List.Elements.{recursion_from_All, All-head}
 use Rattle.std.proofs.lemmas.List.Folds.{list_any-append}
 use Rattle.std.proofs.lemmas.Option.{none-some, same_Some}
+use Rattle.plain_types.specs.declared.sequence.NameLit.{NameLit}
 use Rattle.fol_base.specs.Tree.{true_symbol}
 use Rattle.fol_base.specs.Clause.{TreeClause, clause_size}
 use Rattle.fol_base.specs.Literal.{clause_of}
@@ -126,6 +127,14 @@ module _ (usage : SymbolUse) (inputs : List TreeClause) where
       registered : Holds (registered_last c (with_lines r lines))
       registered = continued-sound usage inputs r lines c is_open sound is
 
+      -- who asserts a part has one
+      some-part : (ns : List NameLit) → All (λ n. n.name < length r.parts) ns → has_none ns ≡ false → r.parts ≡ [] → ⊥
+      some-part [] met asserted none = true≢false asserted
+      some-part (n ∷ ns) met asserted none =
+          let below : n.name < length r.parts = All-head (λ m. m.name < length r.parts) n ns met in
+          let count : length r.parts ≡ 0 = ap length none in
+          absurd (omega (arith, below, count))
+
       -- the last line
       ends : EndsWith usage inputs (r.lines ++ lines) (on_line r.parts c)
       ends = ends_behind usage inputs r.lines lines (on_line r.parts c) is.ends
@@ -143,10 +152,11 @@ module _ (usage : SymbolUse) (inputs : List TreeClause) where
             named = registered.named;
             over_names = registered.over_names;
             handed_few = registered.handed_few;
+            bare = registered.bare;
             refuted = λ h. subst (EndsWith usage inputs (r.lines ++ lines)) (ap₂ under_names bare without) ends;
           })
           (λ asserted.
-          propositional-sound usage inputs (with_lines r lines) (line_names r.parts c.names) put
+          propositional-sound usage inputs (with_lines r lines) (line_names r.parts c.names) put (some-part c.names is.whole.met asserted)
           (subst (λ ls. EndsWith usage inputs (r.lines ++ lines) (under_names ls (line_names r.parts c.names))) bare ends))
 
   -- ---- results of a batch
@@ -189,6 +199,7 @@ module _ (usage : SymbolUse) (inputs : List TreeClause) where
       named = sound.named;
       over_names = sound.over_names;
       handed_few = sound.handed_few;
+      bare = sound.bare;
       refuted = λ (h : Some (Spent (length r.counted)) ≡ Some Refuted). absurd (spent-not-refuted (length r.counted) h);
     }
       where
@@ -351,6 +362,7 @@ module _ (usage : SymbolUse) (inputs : List TreeClause) where
       named = sound.named;
       over_names = sound.over_names;
       handed_few = λ s none. absurd (none-some s none);
+      bare = sound.bare;
       refuted = sound.refuted;
     }
 
@@ -385,6 +397,7 @@ module _ (usage : SymbolUse) (inputs : List TreeClause) where
           let all : length r.propositional ≡ s.clauses =
           ap (λ (j : SolverJob). j.clauses) (same_Some (record { job = job; clauses = length r.propositional; names = name_count r.parts }) s same) in
           omega (arith, all);
+      bare = sound.bare;
       refuted = sound.refuted;
     }
     after-sound r (ReturnModel job truths) allowed sound = modelled-sound r.solver truths r sound
@@ -397,6 +410,7 @@ module _ (usage : SymbolUse) (inputs : List TreeClause) where
       named = sound.named;
       over_names = sound.over_names;
       handed_few = kept r.solver sound.handed_few;
+      bare = sound.bare;
       refuted = sound.refuted;
     }
       where

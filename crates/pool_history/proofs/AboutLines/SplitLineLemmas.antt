@@ -236,5 +236,6 @@ module _ (usage : SymbolUse) (inputs : List TreeClause) where
           let at = sound.over_names n p there in
           record { line = at.line; there = get-left r.lines (first_lines ++ second_lines) p.line at.line at.there; gives = at.gives };
       handed_few = sound.handed_few;
+      bare = λ none. absurd (true≢false (sym (met-there r.parts part) ∙ ap (has_part part) none));
       refuted = λ h. absurd (not-refuted usage inputs r.ended is_open h);
     }

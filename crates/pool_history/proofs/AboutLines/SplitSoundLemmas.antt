@@ -3,7 +3,7 @@
 use Rattle.std.proofs.Common.{◌≡◌, ℕ, zero, suc, ◌+◌, ◌<◌, Bool, true, false, not, ◌&&◌, ◌==◌, List, [], ◌∷◌, ◌++◌, map, length, refl, ap, ap₂, sym, ◌∙◌, subst, arith}
 use Rattle.std.specs.Prelude.{Option, None, Some, nat_lt, slice_get, slice_index_or, option_map, option_and_then, flat_map, fold, if◌then◌else◌}
 use Rattle.std.specs.List.{list_any, list_all, AllByRecursion}
-use Rattle.std.proofs.lemmas.Bool.{true≢false, and_from, or_left, cond-true, not_from_false, ne_eqb, lt-ltb}
+use Rattle.std.proofs.lemmas.Bool.{true≢false, and_parts, and_from, eqb-true, or_left, cond-true, not_from_false, ne_eqb, lt-ltb}
 use Rattle.std.proofs.lemmas.List.Elements.{All-nil, All-cons}
 use Rattle.std.proofs.lemmas.List.Folds.{list_any-append}
 use Rattle.std.proofs.lemmas.Option.{none-some, same_Some}
@@ -18,7 +18,7 @@ use Rattle.kernel_steps.specs.Parents.{Parent, Parents, all_there}
 use Rattle.kernel_steps.specs.Conclusion.{verdict, concludes, verdict_of, clause_with, split_from}
 use Rattle.kernel_steps.specs.Derivation.{under_names, introduces_name, is_clause_step, line_parents}
 use Rattle.kernel_steps.specs.FromTrees.{line_of}
-use Rattle.kernel_steps.specs.Split.{is_split, there_defines, are_defined, literals_at, canonical_literals}
+use Rattle.kernel_steps.specs.Split.{has_all_below, share_out, is_split, are_defined, literals_at, canonical_literals}
 use Rattle.kernel_steps.specs.declared.step.Step.TheVariants.{Split}
 use Rattle.kernel_steps.specs.declared.step.Line.{Line}
 use Rattle.kernel_steps.proofs.AboutNames.NameRanks.{sorted_names-sorted}
@@ -53,8 +53,30 @@ has-stays parts part q there =
     by-if (λ cs. has_part q cs ≡ true) (has_part part parts) parts (parts ++ part ∷ []) there
     (list_any-append (literals_eq q) parts (part ∷ []) ∙ or_left (has_part q parts) (has_part q (part ∷ [])) there)
 
-abbrev AreThere : List (List TreeLiteral) → List (List TreeLiteral) → Type 0
+abbrev pub AreThere : List (List TreeLiteral) → List (List TreeLiteral) → Type 0
 AreThere parts ps = AllByRecursion (λ p. has_part p parts ≡ true) ps
+
+-- a clause with a literal has a component
+some-component : (ls : List TreeLiteral) → (length ls ≡ 0 → ⊥) → components_of ls ≡ [] → ⊥
+some-component ls some none =
+    let shared : share_out (length ls) [] ≡ true = ap (share_out (length ls)) (sym none) ∙ (computed-finest ls).shared_out in
+    some (sym (eqb-true 0 (length ls) (and_parts (0 == length ls) (has_all_below (length ls) []) shared).0))
+
+-- a part that gets its tag is among the parts, and stays there
+pub tag-parts : (r : PoolRecord) (part : List TreeLiteral) → (with_tag r part).parts ≡ with_part r.parts part
+tag-parts r part =
+    by-test (λ (s : PoolRecord). s.parts ≡ with_part r.parts part) (has_part part r.parts) r (with_new_part part (with_part r.parts part) r)
+    (λ known. parts-same part r.parts known) (λ new. refl)
+
+tags-keep : (ps : List (List TreeLiteral)) (r : PoolRecord) (q : List TreeLiteral) → has_part q r.parts ≡ true → has_part q (fold with_tag r ps).parts ≡ true
+tags-keep [] r q there = there
+tags-keep (p ∷ ps) r q there =
+    tags-keep ps (with_tag r p) q (ap (has_part q) (tag-parts r p) ∙ has-stays r.parts p q there)
+
+pub tags-there : (ps : List (List TreeLiteral)) (r : PoolRecord) → AreThere (fold with_tag r ps).parts ps
+tags-there [] r = tt
+tags-there (p ∷ ps) r =
+    (tags-keep ps (with_tag r p) p (ap (has_part p) (tag-parts r p) ∙ met-there r.parts p), tags-there ps (with_tag r p))
 
 -- ---- the step of a split
 
@@ -130,21 +152,6 @@ module _ (usage : SymbolUse) (inputs : List TreeClause) where
         line = line-grown usage inputs r is.sound part new part_is (record { clause = c; line = n }) is.whole is.line;
       })
 
-  tag-parts : (r : PoolRecord) (part : List TreeLiteral) → (with_tag r part).parts ≡ with_part r.parts part
-  tag-parts r part =
-      by-test (λ (s : PoolRecord). s.parts ≡ with_part r.parts part) (has_part part r.parts) r (with_new_part part (with_part r.parts part) r)
-      (λ known. parts-same part r.parts known) (λ new. refl)
-
-  tags-keep : (ps : List (List TreeLiteral)) (r : PoolRecord) (q : List TreeLiteral) → has_part q r.parts ≡ true → has_part q (fold with_tag r ps).parts ≡ true
-  tags-keep [] r q there = there
-  tags-keep (p ∷ ps) r q there =
-      tags-keep ps (with_tag r p) q (ap (has_part q) (tag-parts r p) ∙ has-stays r.parts p q there)
-
-  tags-there : (ps : List (List TreeLiteral)) (r : PoolRecord) → AreThere (fold with_tag r ps).parts ps
-  tags-there [] r = tt
-  tags-there (p ∷ ps) r =
-      (tags-keep ps (with_tag r p) p (ap (has_part p) (tag-parts r p) ∙ met-there r.parts p), tags-there ps (with_tag r p))
-
   tags-split :
       (c : TreeClause) (n : ℕ) (ps : List (List TreeLiteral)) (r : PoolRecord) → AllByRecursion (IsPart usage inputs) ps → Splits c n r
       → Splits c n (fold with_tag r ps)
@@ -178,8 +185,15 @@ module _ (usage : SymbolUse) (inputs : List TreeClause) where
         (sorted_names-sorted (line_names r.parts c.names ++ signed_names)) refl (omega arith))
         refl (λ test truth pass. refl))
         (alone line refl))
+        (some-part (components_of c.literals) there (some-component c.literals some))
         (record { last = line; ends = record { before = r.lines; ends = refl }; gives = clause-written split_clause })
       where
+        some-part :
+            (kss : List (List ℕ)) → AreThere r.parts (map (λ ks. canonical_literals (literals_at c.literals ks)) kss) → (kss ≡ [] → ⊥) → r.parts ≡ [] → ⊥
+        some-part [] there some none = some refl
+        some-part (ks ∷ kss) there some none =
+            true≢false (sym there.0 ∙ ap (has_part (canonical_literals (literals_at c.literals ks))) none)
+
         alone : (line : Line) → introduces_name line.step ≡ false → (k : ℕ) (l : Line) → slice_get (line ∷ []) k ≡ Some l → introduces_name l.step ≡ false
         alone line none zero l at = subst (λ (m : Line). introduces_name m.step ≡ false) (same_Some line l at) none
         alone line none (suc k) l at = absurd (none-some l at)

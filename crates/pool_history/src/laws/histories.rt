@@ -1,8 +1,8 @@
 // Laws of lawful histories: each is the contract of a function without arguments and with an empty body.
 
-ghost use Rattle.pool_history.specs.Derived.{LinesAreDerived, RefutedIsRefutation};
+ghost use Rattle.pool_history.specs.Derived.{LinesAreDerived, NamesRise, RefutedIsRefutation};
 ghost use Rattle.pool_history.specs.Laws.{BatchesStayRight, ClaimedInTime, CountedOnce, DeathsAreJustified, GivenJobsStayOut, HeavyOrNot, JobsAreCounted, JobsWereGiven, NumbersFit, OutcomesStay, PicksAreChosen, PositionsStay, ReplacedWereReduced, SetAsideAreHeavy, SolverJobsStayOut, SpentIsTheCount};
-ghost use Rattle.pool_history.specs.Wholeness.{PositionsAreRegistered, RegisteredAreWhole, ToldHavePositions};
+ghost use Rattle.pool_history.specs.Wholeness.{PositionsAreRegistered, RegisteredAreOnePart, RegisteredAreWhole, ToldHavePositions};
 
 /// A clause that stays awake and alive, with m older ones, is claimed within 6(m + 1) given claims, while no job is given up.
 pub fn claimed_in_time()
@@ -47,6 +47,16 @@ pub fn registered_are_whole()
 /// The lines are a derivation from the inputs, of small terms over their symbols alone.
 pub fn lines_are_derived()
     ensures { LinesAreDerived }
+{}
+
+/// Where splitting is on, no registered clause falls into two parts.
+pub fn registered_are_one_part()
+    ensures { RegisteredAreOnePart }
+{}
+
+/// The component lines introduce the names from 0 on, in order, each once.
+pub fn names_rise()
+    ensures { NamesRise }
 {}
 
 /// The lines of a pool that is refuted are a refutation of the inputs.
