@@ -12,11 +12,11 @@ use Rattle.demodulate.specs.Simplified.{IsSimplified}
 use Rattle.pool_history.specs.declared.batch.Fate.TheVariants.{Dropped as IsDropped}
 use Rattle.pool_history.specs.declared.batch.Redundancy.{Redundancy}
 use Rattle.pool_history.specs.declared.batch.Redundancy.TheVariants.{Tautology, Subsumed}
+use Rattle.pool_history.proofs.AboutRecords.ItemLemmas.{clauses-equal}
 use Rattle.given_work.specs.Dropped.{AreDropped, Knows, cause_if_same, cause_of, literals_hash, outcome_by}
 use Rattle.given_work.specs.Meeting.{IsFateBy}
 use Rattle.given_work.specs.declared.dropped.Dropped.{Dropped}
 use Rattle.given_work.specs.declared.dropped.DroppedConclusions.{DroppedConclusions}
-use Rattle.given_work.proofs.AboutBatches.NameLemmas.{clause_eq-says}
 
 module _ (es us ms : List Member) where
   abbrev Goes : TreeClause → Redundancy → Type 0
@@ -40,7 +40,7 @@ module _ (es us ms : List Member) where
     where
       by : (b : Bool) → clause_eq c (clause_of d.clause) ≡ b → (if b then Some d.cause else None) ≡ Some r → Goes c r
       by true equal e =
-          subst (λ (t : TreeClause). Goes t r) (sym (clause_eq-says c (clause_of d.clause) equal))
+          subst (λ (t : TreeClause). Goes t r) (sym (clauses-equal c (clause_of d.clause) equal))
           (subst (Goes (clause_of d.clause)) (same_Some d.cause r e) right)
       by false equal e = absurd (none-some r e)
 
