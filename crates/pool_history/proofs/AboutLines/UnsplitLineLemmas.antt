@@ -44,7 +44,7 @@ use Rattle.pool_history.proofs.AboutLines.PoolLineLemmas.{Sound}
 use Rattle.pool_history.proofs.AboutLines.SoundLemmas.{Comes, FateComes, all-entries-come, all-removals-come, after-sound}
 use Rattle.pool_history.proofs.AboutLines.UnsplitLemmas.{unsplit-after, unsplit-parts, unsplit-solved}
 
-abbrev is_plain : Line → Bool
+abbrev pub is_plain : Line → Bool
 is_plain l = is_plain_step l.step
 
 abbrev pub IsUnsplit : PoolRecord → Type 0
