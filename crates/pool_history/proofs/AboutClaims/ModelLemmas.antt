@@ -1,14 +1,13 @@
 -- The model makes true the propositional clauses that it is of: these stay, and others only come after them.
-use Rattle.std.proofs.Common.{◌≡◌, ℕ, zero, suc, ◌+◌, ◌<◌, ◌≤◌, Bool, true, false, not, ◌&&◌, ◌==◌, List, [], ◌∷◌, ◌++◌, map, length, take, refl, ap, ap₂, sym, ◌∙◌, subst, arith}
+use Rattle.std.proofs.Common.{◌≡◌, ℕ, zero, suc, ◌+◌, ◌≤◌, Bool, true, false, not, ◌&&◌, ◌==◌, List, [], ◌∷◌, ◌++◌, map, length, take, refl, ap, sym, ◌∙◌, subst, arith}
 use Rattle.std.specs.Prelude.{Option, None, Some, is_none, is_some, nat_lt, fold, if◌then◌else◌}
-use Rattle.std.proofs.lemmas.Bool.{and_parts, not-true, eqb-true, ltb-false, or_parts}
+use Rattle.std.proofs.lemmas.Bool.{and_parts, eqb-true, ltb-false}
 use Rattle.std.proofs.lemmas.List.{length-append, length-map, map-append, take-append-le}
-use Rattle.std.proofs.lemmas.Option.{none-some, same_Some}
+use Rattle.std.proofs.lemmas.Option.{same_Some}
 use Rattle.plain_types.specs.declared.sequence.NameLit.{NameLit}
 use Rattle.kernel_steps.specs.Split.{has_number}
 use Rattle.sat_core.specs.Clause.{valuation_of, clauses_true}
 use Rattle.sat_core.specs.Answer.{IsRightAnswer}
-use Rattle.sat_core.specs.declared.answer.Answer.{Answer}
 use Rattle.sat_core.specs.declared.answer.Answer.TheVariants.{Model}
 use Rattle.sat_core.specs.declared.answer.Chain as log
 use Rattle.pool_history.specs.Record.{PoolRecord, GivenJob, SolverJob, PropositionalClause, propositional_clauses, given_job, jobs_out, without_job, nothing_registered}

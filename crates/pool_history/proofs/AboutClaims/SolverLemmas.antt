@@ -1,5 +1,5 @@
 -- The solver's job stays out until an event ends it, and the clauses that it was handed stay: propositional clauses only come.
-use Rattle.std.proofs.Common.{◌≡◌, ℕ, ◌+◌, ◌≤◌, Bool, true, false, ◌&&◌, ◌==◌, List, [], ◌∷◌, ◌++◌, map, length, take, append-nil, refl, ap, sym, ◌∙◌, subst, arith}
+use Rattle.std.proofs.Common.{◌≡◌, ℕ, ◌+◌, ◌≤◌, Bool, true, false, ◌==◌, List, [], ◌∷◌, ◌++◌, map, length, take, append-nil, refl, ap, sym, ◌∙◌, subst, arith}
 use Rattle.std.specs.Prelude.{Option, None, Some, is_none, nat_lt, fold, if◌then◌else◌}
 use Rattle.std.specs.List.{list_any}
 use Rattle.std.proofs.lemmas.Bool.{true≢false, and_parts, or_parts, eqb-true, eq-eqb}
@@ -10,7 +10,7 @@ use Rattle.kernel_steps.specs.Split.{has_number}
 use Rattle.sat_core.specs.declared.answer.Answer.{Answer}
 use Rattle.sat_core.specs.declared.answer.Answer.TheVariants.{Model, Refuted}
 use Rattle.sat_core.specs.declared.answer.Chain as log
-use Rattle.pool_history.specs.Record.{PoolRecord, GivenJob, SolverJob, PropositionalClause, propositional_clauses, given_job, without_job, nothing_registered}
+use Rattle.pool_history.specs.Record.{PoolRecord, GivenJob, SolverJob, PropositionalClause, given_job, without_job, nothing_registered}
 use Rattle.pool_history.specs.Claiming.{next_given, given_out, claimed_by}
 use Rattle.pool_history.specs.Returning.{becomes_active, worked, returns_to}
 use Rattle.pool_history.specs.Solving.{handed, modelled_by, refuted_by}

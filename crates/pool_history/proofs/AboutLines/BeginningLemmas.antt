@@ -1,23 +1,19 @@
 -- The inputs that are registered first are whole, and their lines are a derivation; so the laws on whole clauses and on lines.
-use Rattle.std.proofs.Common.{◌≡◌, ℕ, zero, suc, ◌+◌, ◌-◌, ◌<◌, ◌≤◌, Bool, true, false, List, [], ◌∷◌, ◌++◌, map, length, take, append-nil, refl, ap, ap₂, sym, ◌∙◌, subst, arith}
+use Rattle.std.proofs.Common.{◌≡◌, ℕ, zero, suc, ◌+◌, ◌-◌, ◌<◌, ◌≤◌, Bool, false, List, [], ◌∷◌, length, refl, ap, sym, ◌∙◌, subst, arith}
 use Rattle.std.specs.Prelude.{Some, All, is_none, slice_get}
-use Rattle.std.specs.List.{list_all}
 use Rattle.std.proofs.lemmas.List.Elements.{All-nil}
 use Rattle.std.proofs.lemmas.Option.{none-some, same_Some}
-use Rattle.fol_base.specs.Tree.{Tree, variable, application, tree_size}
-use Rattle.fol_base.specs.Clause.{TreeLiteral, TreeClause, clause_size, literal_size, clause_variables}
-use Rattle.fol_base.specs.Canonical.{distinct, numbers_from, IsCanonical}
-use Rattle.fol_base.specs.Literal.{literal_of, clause_of}
+use Rattle.fol_base.specs.Clause.{TreeLiteral, TreeClause, clause_size}
+use Rattle.fol_base.specs.Canonical.{IsCanonical}
 use Rattle.fol_base.specs.WellFormed.{SymbolUse, are_literals_of}
 use Rattle.fol_base.specs.declared.limits.TheConstants.{MOST_SYMBOLS}
 use Rattle.fol_base.proofs.WorkedExamples.TestLemmas.{list_all-item}
 use Rattle.kernel_steps.specs.Derivation.{introduces_name, under_names}
-use Rattle.kernel_steps.specs.Lines.{is_small_term, has_small_sides}
 use Rattle.kernel_steps.specs.Symbols.{clause_symbols_pass}
 use Rattle.kernel_steps.specs.declared.step.Step.TheVariants.{Clausify}
 use Rattle.kernel_steps.specs.declared.step.Line.{Line}
 use Rattle.pool_history.specs.Record.{PoolRecord, Registered, nothing_registered}
-use Rattle.kernel_steps.specs.FromTrees.{term_from, literal_from, clause_from, line_of}
+use Rattle.kernel_steps.specs.FromTrees.{line_of}
 use Rattle.pool_history.specs.Registering.{comes, unless_ended, with_inputs}
 use Rattle.pool_history.specs.Inputs.{AreInputs, IsUseOf}
 use Rattle.pool_history.specs.Wholeness.{IsWhole, RegisteredAreWhole}

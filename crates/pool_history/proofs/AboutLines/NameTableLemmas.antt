@@ -1,34 +1,28 @@
 -- Which names the lines of a pool introduce: those of the parts that were met, each by the line of its definition.
-use Rattle.std.proofs.Common.{◌≡◌, ℕ, zero, suc, ◌+◌, ◌<◌, ◌≤◌, Bool, true, false, not, ◌&&◌, ◌||◌, ◌==◌, ◌⊎◌, List, [], ◌∷◌, ◌++◌, map, length, append-nil, append_assoc, refl, ap, ap₂, sym, ◌∙◌, subst, inl, inr, ⊎_elim, arith}
+use Rattle.std.proofs.Common.{◌≡◌, ℕ, suc, ◌+◌, ◌<◌, ◌≤◌, Bool, true, false, not, ◌||◌, ◌==◌, List, [], ◌∷◌, ◌++◌, map, length, append-nil, refl, ap, sym, ◌∙◌, ⊎_elim, arith}
 use Rattle.std.specs.Prelude.{Option, None, Some, cond, slice_get, slice_index_or, if◌then◌else◌}
-use Rattle.std.specs.List.{list_any, position_or_len, range_with_len, cons_option}
-use Rattle.std.proofs.lemmas.Bool.{true≢false, and_parts, and_from, or_left, or_right, or_cases, or_parts, cond-true, cond-false, cases_Bool, cases_lt, eq-eqb, eqb-true}
-use Rattle.std.proofs.lemmas.List.{length-append, get_or_append_left}
+use Rattle.std.specs.List.{list_any, range_with_len, cons_option}
+use Rattle.std.proofs.lemmas.Bool.{true≢false, and_parts, or_left, or_cases, eqb-true}
 use Rattle.std.proofs.lemmas.List.Elements.{filter_map-append}
 use Rattle.std.proofs.lemmas.List.Folds.{list_any-append}
-use Rattle.std.proofs.lemmas.Option.{none-some, same_Some, get_or_from_slice_get}
+use Rattle.std.proofs.lemmas.Option.{get_or_from_slice_get}
 use Rattle.plain_types.specs.declared.sequence.NameLit.{NameLit}
 use Rattle.plain_types.specs.Names.{opposite, positive_of, negative_of}
-use Rattle.fol_base.specs.Clause.{TreeLiteral, TreeClause, literals_eq}
-use Rattle.fol_base.specs.Ground.{is_ground_literal}
+use Rattle.fol_base.specs.Clause.{TreeLiteral, TreeClause}
 use Rattle.fol_base.specs.Literal.{clause_of}
-use Rattle.kernel_steps.specs.Derivation.{is_component_of, component_clause, complement, under_names, introduces_name, IsComponent, IsOpposite}
-use Rattle.kernel_steps.specs.FromTrees.{line_of}
+use Rattle.kernel_steps.specs.Derivation.{is_component_of, component_clause, complement, under_names, introduces_name}
 use Rattle.kernel_steps.specs.declared.step.Step.{Step}
 use Rattle.kernel_steps.specs.declared.step.Step.TheVariants.{Input, Negate, Clausify, Para, Refl, Factor, Merge, Component, Opposite, Split, Chain}
 use Rattle.kernel_steps.specs.declared.step.Line.{Line}
-use Rattle.kernel_steps.proofs.AboutSplits.SplitTests.{literals_eq-says}
 use Rattle.kernel_steps.proofs.AboutSplits.SplitTables.{eqb-comm}
-use Rattle.split_parts.specs.Tags.{has_part, with_part, tag_of}
+use Rattle.split_parts.specs.Tags.{has_part, tag_of}
 use Rattle.split_parts.specs.SignedNames.{is_ground_negative, affirmed, named, signed_name}
 use Rattle.split_parts.proofs.AboutTags.TagLemmas.{parts-same}
-use Rattle.split_parts.proofs.AboutTags.TagLawLemmas.{stands-at, met-there}
-use Rattle.split_parts.proofs.AboutTags.SignedLemmas.{named-end, named-there, tag-below, next-name, complements-back}
-use Rattle.split_parts.proofs.AboutTags.SignedLawLemmas.{signed_names_stay}
+use Rattle.split_parts.proofs.AboutTags.TagLawLemmas.{stands-at}
+use Rattle.split_parts.proofs.AboutTags.SignedLemmas.{named-there, complements-back}
 use Rattle.pool_history.specs.Lines.{introduces, definition_of}
 use Rattle.pool_history.specs.Derived.{component_name, component_names}
-use Rattle.pool_history.proofs.AboutLines.JoinedLemmas.{get-left, get-cases, BehindAt}
-use Rattle.pool_history.proofs.AboutLines.WrittenLemmas.{clause-written}
+use Rattle.pool_history.proofs.AboutLines.JoinedLemmas.{get-cases, BehindAt}
 
 -- ---- what introduces a name
 

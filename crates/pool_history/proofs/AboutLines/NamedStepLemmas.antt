@@ -1,7 +1,7 @@
 -- A step on literals whose parents get other numbers and other names: it concludes the same literals, with the names changed likewise. This is so
 -- where the change of names agrees with sorting and joining them.
-use Rattle.std.proofs.Common.{◌≡◌, ℕ, true, ◌&&◌, List, ◌++◌, refl, ap, ap₂, sym, ◌∙◌}
-use Rattle.std.specs.Prelude.{Option, Some, option_map, option_and_then}
+use Rattle.std.proofs.Common.{◌≡◌, ℕ, true, ◌&&◌, List, ◌++◌, ap, ap₂, sym, ◌∙◌}
+use Rattle.std.specs.Prelude.{Option, Some, option_map}
 use Rattle.std.proofs.lemmas.Bool.{true≢false, and_from}
 use Rattle.plain_types.specs.declared.sequence.NameLit.{NameLit}
 use Rattle.fol_base.specs.Tree.{Tree}
@@ -9,7 +9,7 @@ use Rattle.fol_base.specs.Clause.{TreeLiteral, TreeClause}
 use Rattle.fol_base.specs.Rules.{superposed, resolved, factored, merged}
 use Rattle.kernel_steps.specs.Names.{sorted_names, are_sorted}
 use Rattle.kernel_steps.specs.Parents.{Parent, Parents}
-use Rattle.kernel_steps.specs.Conclusion.{binds, binds_parent, bound_literals, verdict, concludes, verdict_if, clause_with, by_one, by_two}
+use Rattle.kernel_steps.specs.Conclusion.{binds, bound_literals, verdict, concludes, verdict_if, clause_with, by_one, by_two}
 use Rattle.kernel_steps.specs.Derivation.{line_parents, ComesBy}
 use Rattle.kernel_steps.specs.Lines.{is_on_literals}
 use Rattle.kernel_steps.specs.declared.step.Step.{Step}

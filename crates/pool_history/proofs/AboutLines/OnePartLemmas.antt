@@ -1,6 +1,6 @@
 -- The canonical form of a component is one component: so no clause that is registered is to be split.
-use Rattle.std.proofs.Common.{◌≡◌, ℕ, ◌+◌, ◌<◌, Bool, true, false, ◌&&◌, ◌==◌, List, [], ◌∷◌, ◌++◌, map, length, refl, ap, ap₂, sym, ◌∙◌, subst, ⊎_elim, arith}
-use Rattle.std.specs.Prelude.{Option, None, Some, nat_lt, slice_get, slice_index_or, option_map, filter_map, flat_map, fold, All, if◌then◌else◌}
+use Rattle.std.proofs.Common.{◌≡◌, ℕ, ◌<◌, Bool, true, false, ◌&&◌, ◌==◌, List, [], ◌∷◌, ◌++◌, map, length, refl, ap, ap₂, sym, ◌∙◌, subst, ⊎_elim, arith}
+use Rattle.std.specs.Prelude.{Option, None, Some, nat_lt, slice_get, slice_index_or, option_map, flat_map, fold, All, if◌then◌else◌}
 use Rattle.std.specs.List.{list_any, range_with_len, cons_option, AllByRecursion}
 use Rattle.std.proofs.lemmas.Bool.{true≢false, or_left, or_right, or_cases, eq-eqb, eqb-true}
 use Rattle.std.proofs.lemmas.List.{length-map}

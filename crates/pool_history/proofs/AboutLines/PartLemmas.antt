@@ -1,10 +1,10 @@
 -- The parts of a whole clause: canonical, no larger than it, well-formed, and of its symbols.
-use Rattle.std.proofs.Common.{◌≡◌, ℕ, zero, suc, ◌+◌, ◌-◌, ◌<◌, ◌≤◌, Bool, true, false, not, ◌&&◌, ◌==◌, List, [], ◌∷◌, ◌++◌, map, length, drop, refl, ap, ap₂, sym, ◌∙◌, subst, ⊎_elim, arith}
-use Rattle.std.specs.Prelude.{Option, None, Some, nat_lt, slice_get, flat_map, filter_map, sum_by, if◌then◌else◌}
-use Rattle.std.specs.List.{list_all, cons_option, AllByRecursion}
+use Rattle.std.proofs.Common.{◌≡◌, ℕ, zero, suc, ◌+◌, ◌-◌, ◌<◌, ◌≤◌, Bool, true, ◌==◌, List, [], ◌∷◌, map, length, drop, refl, ap, sym, ◌∙◌, subst, arith}
+use Rattle.std.specs.Prelude.{Option, None, Some, nat_lt, slice_get, flat_map, sum_by}
+use Rattle.std.specs.List.{list_all, cons_option}
 use Rattle.std.proofs.lemmas.Bool.{true≢false, and_parts, and_from, or_left, eq-eqb, ltb-true}
 use Rattle.std.proofs.lemmas.List.Sums.{sum_by-cons}
-use Rattle.fol_base.specs.Tree.{variable, true_symbol}
+use Rattle.fol_base.specs.Tree.{true_symbol}
 use Rattle.fol_base.specs.Instance.{Substitution}
 use Rattle.fol_base.specs.Clause.{TreeLiteral, TreeClause, clause_size, clause_variables, literal_size, literal_instance}
 use Rattle.fol_base.specs.Canonical.{distinct, canonical_renaming, canonical_clause, IsCanonical}
@@ -12,14 +12,12 @@ use Rattle.fol_base.specs.WellFormed.{SymbolUse, is_literal_of, are_literals_of}
 use Rattle.fol_base.specs.declared.limits.TheConstants.{MOST_SYMBOLS}
 use Rattle.fol_base.proofs.AboutCanonical.CanonicalLemmas.{canonical_forms_are_canonical, canonical_forms_keep_sizes}
 use Rattle.fol_base.proofs.AboutTerms.WellFormedLemmas.{well_formed_instances}
-use Rattle.kernel_steps.specs.Derivation.{complement, under_names}
+use Rattle.kernel_steps.specs.Derivation.{under_names}
 use Rattle.kernel_steps.specs.Split.{has_number, is_part, rises_from, literals_at, canonical_literals}
 use Rattle.kernel_steps.specs.Symbols.{literal_symbols_pass, clause_symbols_pass}
 use Rattle.fol_base.proofs.WorkedExamples.TestLemmas.{list_all-item}
 use Rattle.laws_calculus.proofs.AboutCovering.SymbolLemmas.{renamed-pass}
-use Rattle.split_parts.specs.Components.{IsComponents}
-use Rattle.split_parts.specs.SignedNames.{is_ground_negative, affirmed}
-use Rattle.pool_history.specs.Components.{components_of, parts_of}
+use Rattle.pool_history.specs.Components.{components_of}
 use Rattle.split_parts.proofs.AboutParts.UniqueLemmas.{none-past, shared}
 use Rattle.pool_history.proofs.AboutRecords.ItemLemmas.{item-at}
 use Rattle.pool_history.proofs.AboutLines.FinestLemmas.{computed-finest}

@@ -1,5 +1,5 @@
 -- Lines that are put among a pool's, those of a batch among them, and what a record keeps of its lines.
-use Rattle.std.proofs.Common.{◌≡◌, ℕ, ◌+◌, ◌-◌, ◌<◌, ◌≤◌, true, false, ◌&&◌, List, [], ◌∷◌, ◌++◌, map, length, take, refl, ap, ap₂, sym, ◌∙◌, subst, ⊎_elim, arith}
+use Rattle.std.proofs.Common.{◌≡◌, ℕ, ◌+◌, ◌-◌, ◌<◌, ◌≤◌, true, false, ◌&&◌, List, [], ◌∷◌, ◌++◌, map, length, take, refl, ap, sym, ◌∙◌, subst, ⊎_elim, arith}
 use Rattle.std.specs.Prelude.{Option, None, Some, slice_get, option_map, option_and_then, unwrap_or, nat_lt, flat_map, All}
 use Rattle.std.specs.List.{list_all, last_or}
 use Rattle.std.proofs.Math.Seq.{take-append-add}
@@ -7,18 +7,17 @@ use Rattle.std.proofs.lemmas.Bool.{true≢false, cond-true, cond-false, cases_Bo
 use Rattle.std.proofs.lemmas.List.{take-append-le, take-map, map-append}
 use Rattle.std.proofs.lemmas.List.Elements.{All-append, All-push}
 use Rattle.std.proofs.lemmas.Option.{slice_get_within, slice_get-map}
-use Rattle.fol_base.specs.Tree.{Tree, trees_of, trees_variables}
+use Rattle.fol_base.specs.Tree.{trees_of, trees_variables}
 use Rattle.fol_base.specs.Clause.{TreeLiteral, TreeClause, clause_size, clause_variables}
 use Rattle.fol_base.specs.Canonical.{distinct, numbers_from}
-use Rattle.fol_base.specs.Literal.{literal_of, clause_of}
-use Rattle.fol_base.specs.Rules.{superposed, resolved, factored, merged}
+use Rattle.fol_base.specs.Literal.{clause_of}
 use Rattle.fol_base.specs.WellFormed.{SymbolUse}
 use Rattle.fol_base.specs.declared.limits.TheConstants.{MOST_SYMBOLS}
 use Rattle.fol_base.proofs.WorkedExamples.TestLemmas.{option_map-some, list_all-item, list_all-joined, list_all-map_from}
-use Rattle.kernel_steps.specs.Parents.{Parent, Parents}
-use Rattle.kernel_steps.specs.Conclusion.{empty_clause, binds, bound_literals, verdict, concludes, verdict_if, clause_with, by_one, by_two}
-use Rattle.kernel_steps.specs.Derivation.{is_clause_step, introduces_name, line_parent, line_parents, continued, ComesBy, IsDerivation, under_names}
-use Rattle.kernel_steps.specs.Lines.{clause_parents, is_on_literals, is_small_term, has_small_sides, has_small_terms, IsNumbered, is_plain_step}
+use Rattle.kernel_steps.specs.Parents.{Parent}
+use Rattle.kernel_steps.specs.Conclusion.{empty_clause}
+use Rattle.kernel_steps.specs.Derivation.{is_clause_step, introduces_name, line_parent, line_parents, continued, ComesBy, under_names}
+use Rattle.kernel_steps.specs.Lines.{clause_parents, is_on_literals, is_small_term, has_small_sides, has_small_terms, IsNumbered}
 use Rattle.kernel_steps.specs.Soundness.{bindings_of, binds_each}
 use Rattle.kernel_steps.specs.Symbols.{symbols_pass, clause_symbols_pass}
 use Rattle.kernel_steps.specs.declared.step.TheConstants.{CLAUSE_NUMBERS}
@@ -26,7 +25,6 @@ use Rattle.kernel_steps.specs.declared.step.Step.{Step}
 use Rattle.kernel_steps.specs.declared.step.Step.TheVariants.{Input, Negate, Clausify, Para, Refl, Factor, Merge, Component, Opposite, Split, Chain}
 use Rattle.kernel_steps.specs.declared.step.Line.{Line}
 use Rattle.kernel_steps.proofs.AboutCalls.LineLemmas.{parent_line}
-use Rattle.kernel_steps.proofs.AboutCalls.VerdictParts.{by_one-parts, by_two-parts}
 use Rattle.pool_history.specs.Tags.{name_of_tag, line_names}
 use Rattle.pool_history.specs.Record.{PoolRecord, Registered, SolverJob, PropositionalClause}
 use Rattle.pool_history.specs.Lines.{with_lines, line_number, with_parents, pool_line, result_of}

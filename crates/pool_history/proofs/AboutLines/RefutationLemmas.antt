@@ -1,23 +1,21 @@
 -- The chains of a right log become lines: each is a kernel step on the names of the lines that it cites, and the last line is empty.
-use Rattle.std.proofs.Common.{◌≡◌, ℕ, zero, suc, ◌+◌, ◌-◌, ◌<◌, ◌≤◌, Bool, true, false, ◌==◌, List, [], ◌∷◌, ◌++◌, map, length, take, refl, ap, ap₂, sym, ◌∙◌, subst, ⊎_elim, arith}
+use Rattle.std.proofs.Common.{◌≡◌, ℕ, zero, suc, ◌+◌, ◌-◌, ◌≤◌, true, false, ◌==◌, List, [], ◌∷◌, ◌++◌, map, length, take, refl, ap, ap₂, sym, ◌∙◌, subst, ⊎_elim, arith}
 use Rattle.std.specs.Prelude.{Option, None, Some, nat_lt, slice_get, option_map, option_and_then, unwrap_or, fold, if◌then◌else◌}
-use Rattle.std.specs.List.{list_all, last_or, AllByRecursion}
+use Rattle.std.specs.List.{last_or, AllByRecursion}
 use Rattle.std.proofs.lemmas.Bool.{true≢false, cond-true, cond-false, lt-ltb, le-ltb}
 use Rattle.std.proofs.lemmas.List.{length-append}
-use Rattle.std.proofs.lemmas.Option.{none-some, same_Some, option_and_then_some, slice_get_within}
+use Rattle.std.proofs.lemmas.Option.{none-some, same_Some, option_and_then_some}
 use Rattle.plain_types.specs.declared.sequence.NameLit.{NameLit}
 use Rattle.plain_types.specs.Names.{has_name, can_resolve, resolvent}
-use Rattle.fol_base.specs.Clause.{TreeLiteral, TreeClause}
+use Rattle.fol_base.specs.Clause.{TreeClause}
 use Rattle.fol_base.specs.Literal.{clause_of}
 use Rattle.fol_base.specs.WellFormed.{SymbolUse}
 use Rattle.fol_base.proofs.WorkedExamples.TestLemmas.{option_map-some}
 use Rattle.kernel_steps.specs.Names.{sorted_names, chained}
-use Rattle.kernel_steps.specs.Parents.{Parent, Parents, all_there}
-use Rattle.kernel_steps.specs.Conclusion.{empty_clause, verdict, verdict_of, concludes, names_alone, names_at, clause_of_names}
+use Rattle.kernel_steps.specs.Parents.{Parent, all_there}
+use Rattle.kernel_steps.specs.Conclusion.{verdict, verdict_of, concludes, names_alone, names_at, clause_of_names}
 use Rattle.kernel_steps.specs.Derivation.{under_names, introduces_name, is_clause_step, line_parent, line_parents}
 use Rattle.kernel_steps.specs.FromTrees.{line_of}
-use Rattle.kernel_steps.specs.declared.step.Step.{Step}
-use Rattle.kernel_steps.specs.declared.step.Step.TheVariants.{Chain}
 use Rattle.kernel_steps.specs.declared.step.Line.{Line}
 use Rattle.kernel_steps.proofs.AboutNames.NameTruth.{has_name-sorted_names}
 use Rattle.kernel_steps.proofs.AboutNames.NameRanks.{sorted_names-sorted}
@@ -30,11 +28,11 @@ use Rattle.sat_core.specs.declared.answer.Link.{Link}
 use Rattle.sat_core.specs.declared.answer.Chain as log
 use Rattle.pool_history.specs.Chains.{cited, pivots_of}
 use Rattle.pool_history.specs.Record.{PoolRecord, SolverJob, PropositionalClause, propositional_clauses}
-use Rattle.pool_history.specs.Solving.{handed, cited_line, chain_step, clause_concluded, with_step, refuted_by}
+use Rattle.pool_history.specs.Solving.{handed, cited_line, chain_step, clause_concluded, with_step}
 use Rattle.pool_history.specs.Derived.{IsPoolLine, ArePoolLines}
 use Rattle.pool_history.specs.declared.outcome.Outcome.TheVariants.{Refuted}
 use Rattle.pool_history.proofs.AboutRecords.ItemLemmas.{all-at}
-use Rattle.pool_history.proofs.AboutLines.JoinedLemmas.{EndsIn, get-left, get-cases, get-mapped, BehindAt}
+use Rattle.pool_history.proofs.AboutLines.JoinedLemmas.{get-left, get-cases, get-mapped, BehindAt}
 use Rattle.pool_history.proofs.AboutLines.LogLemmas.{chains_are_steps}
 use Rattle.pool_history.proofs.AboutLines.WrittenLemmas.{clause-written, written-line}
 use Rattle.pool_history.proofs.AboutLines.NameTableLemmas.{AreNamed, named-joined}

@@ -13,7 +13,6 @@ use Rattle.fol_base.specs.Literal.{clause_of}
 use Rattle.fol_base.specs.WellFormed.{SymbolUse}
 use Rattle.fol_base.specs.declared.limits.TheConstants.{MOST_SYMBOLS}
 use Rattle.fol_base.proofs.WorkedExamples.TestLemmas.{option_map-some, list_all-item}
-use Rattle.kernel_steps.specs.Conclusion.{empty_clause}
 use Rattle.kernel_steps.specs.Moves.{end_of_moves}
 use Rattle.kernel_steps.specs.Split.{has_number, is_part, literals_at, canonical_literals}
 use Rattle.kernel_steps.specs.Symbols.{literal_symbols_pass, clause_symbols_pass}

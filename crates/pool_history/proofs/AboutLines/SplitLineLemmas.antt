@@ -1,62 +1,45 @@
 -- A clause that falls into parts: each part gets its tag and its lines, the split line is a kernel step, and the parts are registered by the lines
 -- of their definitions.
-use Rattle.std.proofs.Common.{◌≡◌, ℕ, zero, suc, ◌+◌, ◌-◌, ◌<◌, ◌≤◌, Bool, true, false, not, ◌&&◌, ◌==◌, List, [], ◌∷◌, ◌++◌, map, length, take, append-nil, append_assoc, refl, ap, ap₂, sym, ◌∙◌, subst, ⊎_elim, arith}
-use Rattle.std.specs.Prelude.{Option, None, Some, nat_lt, slice_get, slice_index_or, option_map, option_and_then, flat_map, fold, sum_by, All, if◌then◌else◌}
-use Rattle.std.specs.List.{list_any, list_all, AllByRecursion}
+use Rattle.std.proofs.Common.{◌≡◌, ℕ, zero, suc, ◌+◌, ◌<◌, ◌≤◌, Bool, true, false, ◌&&◌, List, [], ◌∷◌, ◌++◌, map, length, take, append-nil, append_assoc, refl, ap, ap₂, sym, ◌∙◌, subst, ⊎_elim, arith}
+use Rattle.std.specs.Prelude.{None, Some, slice_get, slice_index_or, flat_map, sum_by}
+use Rattle.std.specs.List.{list_all}
 use Rattle.std.proofs.Math.Seq.{take-append-add}
-use Rattle.std.proofs.lemmas.Bool.{true≢false, and_parts, and_from, or_left, or_right, cond-true, cond-false, cases_Bool, not_from_false, ne_eqb}
+use Rattle.std.proofs.lemmas.Bool.{true≢false, and_from}
 use Rattle.std.proofs.lemmas.List.{take-append-le, length-append}
 use Rattle.std.proofs.lemmas.List.Elements.{All-nil, All-cons, All-append}
-use Rattle.std.proofs.lemmas.List.Folds.{list_any-append}
 use Rattle.std.proofs.lemmas.List.Sums.{sum_by-cons}
 use Rattle.std.proofs.lemmas.Option.{none-some, same_Some, slice_get_within}
 use Rattle.fol_base.proofs.WorkedExamples.TestLemmas.{list_all-joined}
 use Rattle.plain_types.specs.declared.sequence.NameLit.{NameLit}
-use Rattle.plain_types.specs.Names.{opposite, positive_of, negative_of}
-use Rattle.plain_types.proofs.NameLemmas.{opposite-opposite}
+use Rattle.plain_types.specs.Names.{positive_of, negative_of}
 use Rattle.fol_base.specs.Tree.{true_symbol}
-use Rattle.fol_base.specs.Clause.{TreeLiteral, TreeClause, clause_size, literal_size, literal_variables, clause_variables, literals_eq}
-use Rattle.fol_base.specs.Canonical.{distinct, numbers_from, IsCanonical}
+use Rattle.fol_base.specs.Clause.{TreeLiteral, TreeClause, literal_size, literal_variables}
+use Rattle.fol_base.specs.Canonical.{distinct, numbers_from}
 use Rattle.fol_base.specs.Literal.{clause_of}
-use Rattle.fol_base.specs.WellFormed.{SymbolUse, is_literal_of, are_literals_of}
-use Rattle.fol_base.specs.declared.limits.TheConstants.{MOST_SYMBOLS}
-use Rattle.kernel_steps.specs.Names.{sorted_names, are_sorted}
-use Rattle.kernel_steps.specs.Parents.{Parent, Parents, all_there}
-use Rattle.kernel_steps.specs.Conclusion.{verdict, concludes, verdict_of, clause_with, split_from}
-use Rattle.kernel_steps.specs.Derivation.{complement, under_names, introduces_name, is_clause_step, line_parents, ComesBy}
+use Rattle.fol_base.specs.WellFormed.{SymbolUse, is_literal_of}
+use Rattle.kernel_steps.specs.Names.{are_sorted}
+use Rattle.kernel_steps.specs.Derivation.{complement, under_names, is_clause_step, ComesBy}
 use Rattle.kernel_steps.specs.FromTrees.{clause_from, line_of}
 use Rattle.kernel_steps.specs.Soundness.{bindings_of, binds_each}
-use Rattle.kernel_steps.specs.Split.{is_part, is_split, there_defines, are_defined, literals_at, canonical_literals}
 use Rattle.kernel_steps.specs.Symbols.{symbols_pass, literal_symbols_pass, clause_symbols_pass}
 use Rattle.kernel_steps.specs.declared.step.Step.{Step}
-use Rattle.kernel_steps.specs.declared.step.Step.TheVariants.{Component, Opposite, Split}
+use Rattle.kernel_steps.specs.declared.step.Step.TheVariants.{Component, Opposite}
 use Rattle.kernel_steps.specs.declared.step.Line.{Line}
-use Rattle.kernel_steps.proofs.AboutNames.NameRanks.{sorted_names-sorted}
-use Rattle.split_parts.specs.PartKeys.{literals_eq-refl}
-use Rattle.split_parts.specs.Tags.{has_part, with_part, tag_of}
+use Rattle.split_parts.specs.Tags.{has_part, with_part}
 use Rattle.split_parts.specs.SignedNames.{is_ground_negative, affirmed, named, signed_name}
-use Rattle.split_parts.proofs.AboutParts.SplitLemmas.{components-split}
-use Rattle.split_parts.proofs.AboutTags.TagLemmas.{parts-same}
 use Rattle.split_parts.proofs.AboutTags.TagLawLemmas.{met-there}
-use Rattle.split_parts.proofs.AboutTags.SignedLemmas.{tag-below}
-use Rattle.pool_history.specs.Components.{components_of, parts_of}
-use Rattle.pool_history.specs.Tags.{name_of_tag, line_names}
-use Rattle.pool_history.specs.Record.{PoolRecord, Registered, PropositionalClause, has_living}
-use Rattle.pool_history.specs.Lines.{with_lines, last_number, definition_of}
-use Rattle.pool_history.specs.Registering.{definitions, with_new_part, with_tag, with_part_clause, with_split, split_tagged, split_named, split_up, registered_by, with_propositional}
+use Rattle.pool_history.specs.Record.{PoolRecord, Registered}
+use Rattle.pool_history.specs.Registering.{definitions, with_new_part}
 use Rattle.pool_history.specs.Wholeness.{IsWhole}
-use Rattle.pool_history.specs.Derived.{IsPoolLine, HaveInputSymbols}
-use Rattle.pool_history.specs.declared.outcome.Outcome.TheVariants.{Refuted}
+use Rattle.pool_history.specs.Derived.{IsPoolLine}
 use Rattle.pool_history.proofs.AboutRecords.FrameLemmas.{by-if}
 use Rattle.pool_history.proofs.AboutRecords.ItemLemmas.{all-at}
 use Rattle.pool_history.proofs.AboutLines.JoinedLemmas.{by-test, get-left, get-cases, BehindAt}
-use Rattle.pool_history.proofs.AboutLines.FinestLemmas.{computed-finest}
 use Rattle.pool_history.proofs.AboutLines.AssertionLemmas.{line_names-grown, below-from}
 use Rattle.pool_history.proofs.AboutLines.WrittenLemmas.{clause-written, written-line}
-use Rattle.pool_history.proofs.AboutLines.NameTableLemmas.{AreNamed, at-tag, part-defined}
-use Rattle.pool_history.proofs.AboutLines.NewNameLemmas.{next, component_defined, opposite_defined, component_lines, opposite_lines, new-named, component-comes, opposite-comes}
+use Rattle.pool_history.proofs.AboutLines.NewNameLemmas.{next, component_lines, opposite_lines, new-named, component-comes, opposite-comes}
 use Rattle.pool_history.proofs.AboutLines.PartLemmas.{IsPart}
-use Rattle.pool_history.proofs.AboutLines.PoolLineLemmas.{on_line, parent-there, HasLine, EndsWith, Sound, GoOn, lines-joined, lines-sound, registered-sound, propositional-sound, not-refuted}
+use Rattle.pool_history.proofs.AboutLines.PoolLineLemmas.{HasLine, Sound, GoOn, lines-joined, not-refuted}
 
 -- ---- a literal and its complement
 

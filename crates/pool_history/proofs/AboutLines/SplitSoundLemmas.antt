@@ -1,8 +1,8 @@
 -- A clause that falls into parts keeps what a record keeps of its lines: the parts get their tags, the split line gives the propositional clause,
 -- and the parts are registered by the lines of their definitions.
-use Rattle.std.proofs.Common.{◌≡◌, ℕ, zero, suc, ◌+◌, ◌<◌, Bool, true, false, not, ◌&&◌, ◌==◌, List, [], ◌∷◌, ◌++◌, map, length, refl, ap, ap₂, sym, ◌∙◌, subst, arith}
-use Rattle.std.specs.Prelude.{Option, None, Some, nat_lt, slice_get, slice_index_or, option_map, option_and_then, flat_map, fold, if◌then◌else◌}
-use Rattle.std.specs.List.{list_any, list_all, AllByRecursion}
+use Rattle.std.proofs.Common.{◌≡◌, ℕ, zero, suc, ◌<◌, Bool, true, false, ◌==◌, List, [], ◌∷◌, ◌++◌, map, length, refl, ap, ap₂, sym, ◌∙◌, subst, arith}
+use Rattle.std.specs.Prelude.{Option, None, Some, nat_lt, slice_get, option_map, option_and_then, flat_map, fold}
+use Rattle.std.specs.List.{AllByRecursion}
 use Rattle.std.proofs.lemmas.Bool.{true≢false, and_parts, and_from, eqb-true, or_left, cond-true, not_from_false, ne_eqb, lt-ltb}
 use Rattle.std.proofs.lemmas.List.Elements.{All-nil, All-cons}
 use Rattle.std.proofs.lemmas.List.Folds.{list_any-append}
@@ -14,7 +14,7 @@ use Rattle.fol_base.specs.Clause.{TreeLiteral, TreeClause, literals_eq}
 use Rattle.fol_base.specs.Literal.{clause_of}
 use Rattle.fol_base.specs.WellFormed.{SymbolUse}
 use Rattle.kernel_steps.specs.Names.{sorted_names}
-use Rattle.kernel_steps.specs.Parents.{Parent, Parents, all_there}
+use Rattle.kernel_steps.specs.Parents.{Parent, all_there}
 use Rattle.kernel_steps.specs.Conclusion.{verdict, concludes, verdict_of, clause_with, split_from}
 use Rattle.kernel_steps.specs.Derivation.{under_names, introduces_name, is_clause_step, line_parents}
 use Rattle.kernel_steps.specs.FromTrees.{line_of}
@@ -30,21 +30,21 @@ use Rattle.split_parts.proofs.AboutTags.TagLemmas.{parts-same}
 use Rattle.split_parts.proofs.AboutTags.TagLawLemmas.{met-there}
 use Rattle.split_parts.proofs.AboutTags.SignedLemmas.{tag-below}
 use Rattle.pool_history.specs.Components.{components_of, parts_of}
-use Rattle.pool_history.specs.Tags.{name_of_tag, line_names}
-use Rattle.pool_history.specs.Record.{PoolRecord, Registered, has_living}
+use Rattle.pool_history.specs.Tags.{line_names}
+use Rattle.pool_history.specs.Record.{PoolRecord, has_living}
 use Rattle.pool_history.specs.Lines.{with_lines, last_number, definition_of}
-use Rattle.pool_history.specs.Registering.{with_new_part, with_tag, with_part_clause, with_split, split_tagged, split_named, split_up, registered_by}
+use Rattle.pool_history.specs.Registering.{with_new_part, with_tag, with_part_clause, with_split, split_up, registered_by}
 use Rattle.pool_history.specs.Wholeness.{IsWhole}
 use Rattle.pool_history.specs.Derived.{IsPoolLine}
 use Rattle.pool_history.proofs.AboutRecords.FrameLemmas.{by-if}
 use Rattle.pool_history.proofs.AboutRecords.ItemLemmas.{all-at}
-use Rattle.pool_history.proofs.AboutLines.JoinedLemmas.{by-test, get-left}
+use Rattle.pool_history.proofs.AboutLines.JoinedLemmas.{by-test}
 use Rattle.pool_history.proofs.AboutLines.FinestLemmas.{computed-finest}
 use Rattle.pool_history.proofs.AboutLines.AssertionLemmas.{assertions-from}
 use Rattle.pool_history.proofs.AboutLines.WrittenLemmas.{clause-written, written-line}
 use Rattle.pool_history.proofs.AboutLines.NameTableLemmas.{AreNamed, IsDefined, at-tag, part-defined}
 use Rattle.pool_history.proofs.AboutLines.PartLemmas.{IsPart}
-use Rattle.pool_history.proofs.AboutLines.PoolLineLemmas.{on_line, parent-there, HasLine, EndsWith, Sound, lines-sound, registered-sound, propositional-sound}
+use Rattle.pool_history.proofs.AboutLines.PoolLineLemmas.{parent-there, HasLine, Sound, lines-sound, registered-sound, propositional-sound}
 use Rattle.pool_history.proofs.AboutLines.SplitLineLemmas.{line-goes-on, whole-grown, line-grown, new-part-sound}
 
 -- a part that is there stays there

@@ -1,5 +1,5 @@
 -- What every clause that comes keeps of a record's parts and registered clauses, every list of events keeps, lawful or not.
-use Rattle.std.proofs.Common.{◌≡◌, ℕ, suc, List, [], ◌∷◌, ◌++◌, map, length, sym, subst}
+use Rattle.std.proofs.Common.{◌≡◌, ℕ, suc, Bool, List, [], ◌∷◌, ◌++◌, map, length, sym, subst}
 use Rattle.std.specs.Prelude.{Option, None, Some, is_none, nat_le, fold, find}
 use Rattle.fol_base.specs.Clause.{TreeLiteral, TreeClause}
 use Rattle.kernel_steps.specs.Split.{has_number}
