@@ -1,4 +1,4 @@
-//! What the history of a pool of clauses means: events, the record that they amount to, which histories are lawful, and the laws of those.
+//! The meaning of the history of a pool of clauses: events, the record that they amount to, lawful histories, and the laws of these.
 //!
 //! The pool is the one state that all workers of the prover share. A worker claims a clause, works on it outside the pool, and returns a
 //! batch. Any number of jobs may be out at once, and what two workers return may clash: each removes the clause by which the other went.

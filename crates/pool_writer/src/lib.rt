@@ -1,4 +1,4 @@
-//! What is written of a pool that has ended: its refutation, its saturated set, and the name of an inference.
+//! The texts of a pool that has ended: its refutation, its saturated set, and the name of an inference.
 //!
 //! While the prover runs, a pool keeps of each line its step alone, since most lines are never looked at again and a line's clause is its
 //! step's conclusion. So a refutation is made again from its steps before it is written (`retrace.rt`):

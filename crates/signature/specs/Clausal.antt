@@ -1,5 +1,5 @@
 -- The clausal form of a problem (after Nonnengart, Weidenbach 2001): by recursion on the formula with its sign, the terms of the
--- variables in force, and what was made so far.
+-- variables in force, and the variables and symbols that were made so far.
 use Rattle.std.specs.Prelude.{ℕ, ◌+◌, ◌*◌, Bool, true, false, not, ◌&&◌, ◌==◌, nat_le, nat_lt, if◌then◌else◌, List, [], ◌∷◌, ◌++◌, length, map, flat_map, filter}
 use mathlib.Core.Bool.{beq}
 use Rattle.std.specs.List.{list_any}
@@ -14,7 +14,7 @@ use Rattle.signature.specs.Symbol.{predicate_symbol, number_of}
 use Rattle.signature.specs.Occurrences.{terms_count}
 use Rattle.signature.specs.Environment.{Environment, free_names, without_names, closed, term_in_force, term_under, terms_under}
 
--- ---- symbols, and what is made
+-- ---- symbols, and the state of the work
 
 -- The numbers of symbols: a symbol of the problem has its place, then come the Skolem symbols by their Skolem numbers, and then the
 -- naming symbols by their naming numbers.
@@ -23,24 +23,24 @@ pub record SymbolNumbers : Type 0 where
   pub first_skolem : ℕ
   pub first_naming : ℕ
 
--- a disjunction
+-- a clause without names: the literals of a disjunction
 abbrev pub Literals : Type 0
 Literals = List TreeLiteral
 
--- What was made so far: how many variables of the formula, the Skolem symbols and the naming symbols, each by its number of arguments,
--- and the clauses that define the formula's names.
+-- The state of the work: the number of the formula's variables that were made, the Skolem symbols and the naming symbols that were made,
+-- each by its number of arguments, and the clauses that define the formula's names.
 pub record Made : Type 0 where
   pub variables : ℕ
   pub skolem_arities : List ℕ
   pub naming_arities : List ℕ
   pub defining : List Literals
 
--- the clauses of a formula, and what was made by then
+-- the clauses of a formula, and the state after the work on it
 pub record Worked : Type 0 where
   pub clauses : List Literals
   pub made : Made
 
--- the variables in force inside a quantifier, and what was made by then
+-- the variables in force inside a quantifier, and the state with which the work on its body begins
 pub record Scope : Type 0 where
   pub environment : Environment
   pub made : Made
@@ -55,7 +55,7 @@ applied symbol vs = application symbol (trees_of (map variable vs))
 
 -- ---- quantifiers
 
--- each variable becomes a new one
+-- the scope of a quantifier each of whose variables becomes a new one
 abbrev pub with_variables : List (List ℕ) → Environment → Made → Scope
 with_variables [] env m = record { environment = env; made = m }
 with_variables (x ∷ xs) env m =
@@ -103,7 +103,7 @@ is_large_count first second = nat_le 2 first && (nat_le 2 second && nat_lt 64 (f
 abbrev pub is_large : List Literals → List Literals → Bool
 is_large first second = is_large_count (length first) (length second)
 
--- an atom as a literal under a sign: the equation of the atom with `$true`, or its inequation
+-- an atom as a literal under a sign: its equation with `$true`, or its disequation
 abbrev pub atom_literal : Bool → Tree → TreeLiteral
 atom_literal sign atom = record { positive = sign; left = atom; right = true_tree }
 
@@ -138,7 +138,7 @@ product n began first second m =
 abbrev pub Work : Type 0
 Work = Made → Worked
 
--- One after the other: their clauses one after the other, or their product.
+-- two works, one after the other: their clauses in order (`listed`), or the product of their clauses
 abbrev pub joined : SymbolNumbers → Bool → Work → Work → Work
 joined n listed first second m =
     let w : Worked = first m in
@@ -200,7 +200,7 @@ abbrev mutual
 
 -- ---- problems
 
--- the variables of a formula are numbered from 0, and it defines its own names
+-- The state before a formula: its variables are numbered from 0, and no clause defines a name of it yet. Skolem and naming symbols go on.
 abbrev pub begun : Made → Made
 begun m = record { variables = 0; skolem_arities = m.skolem_arities; naming_arities = m.naming_arities; defining = [] }
 
@@ -210,7 +210,7 @@ annotated_clauses n a m =
     let w : Worked = clauses_of n (closed a) (not (is_conjecture a.role)) [] (begun m) in
     record { clauses = w.clauses ++ w.made.defining; made = w.made }
 
--- the clauses of formulas, each with the place of its formula, and what was made
+-- the clauses of formulas, each with the place of its formula, and the state after them
 pub record Formed : Type 0 where
   pub clauses : List TreeClause
   pub origins : List ℕ
@@ -220,7 +220,7 @@ pub record Formed : Type 0 where
 abbrev pub canonical_literals : Literals → TreeClause
 canonical_literals c = canonical_clause (record { literals = c; names = [] })
 
--- the formulas in order, the first of them at that place
+-- the clauses of formulas in order, the first formula with the given place
 abbrev pub formed : SymbolNumbers → ℕ → List Annotated → Made → Formed
 formed n place [] m = record { clauses = []; origins = []; made = m }
 formed n place (a ∷ fs) m =

@@ -66,7 +66,7 @@ abbrev pub term_in_force : Environment → List ℕ → Tree
 term_in_force [] x = variable 0
 term_in_force (b ∷ env) x = if bytes_eq b.0 x then b.1 else term_in_force env x
 
--- the tree of a term, its symbols by their numbers
+-- the tree of a term under the variables in force, its symbols by their numbers
 abbrev mutual
   pub term_under : List Symbol → Environment → TermTree → Tree
   term_under known env (named_variable x) = term_in_force env x

@@ -16,7 +16,7 @@ use Rattle.signature.specs.Clausal.{SymbolNumbers, Made, Formed, makes_variables
 
 -- ---- Skolem symbols
 
--- how many Skolem symbols the work on a formula with a sign makes
+-- the number of Skolem symbols that the work on a formula with a sign makes
 abbrev mutual
   pub skolem_count : FormulaTree → Bool → ℕ
   skolem_count truth sign = 0

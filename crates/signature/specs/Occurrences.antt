@@ -7,7 +7,7 @@ use Rattle.tptp_tree.specs.declared.problem.Annotated.{Annotated}
 use Rattle.signature.specs.declared.symbol.Symbol.{Symbol}
 use Rattle.signature.specs.Symbol.{predicate_symbol, function_symbol, true_symbol, with_symbol}
 
--- how many terms there are
+-- the number of terms in a list
 abbrev pub terms_count : TermTrees → ℕ
 terms_count no_terms = 0
 terms_count (term_then t ts) = 1 + terms_count ts

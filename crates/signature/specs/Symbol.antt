@@ -37,11 +37,11 @@ is_named name s = bytes_eq name s.name
 abbrev pub has_symbol : Symbol → List Symbol → Bool
 has_symbol s known = list_any (same_symbol s) known
 
--- a symbol that is met for the first time comes at the end
+-- a list of different symbols with a symbol more, which comes at the end unless it is there
 abbrev pub with_symbol : List Symbol → Symbol → List Symbol
 with_symbol known s = if has_symbol s known then known else known ++ s ∷ []
 
--- the number of a symbol that is there
+-- the number of a symbol in a list: its place
 abbrev pub number_of : List Symbol → Symbol → ℕ
 number_of known s = position_or_len (same_symbol s) known
 

@@ -23,7 +23,7 @@ abbrev pub value_in_force : Values → List ℕ → ℕ
 value_in_force [] x = 0
 value_in_force (b ∷ ρ) x = if bytes_eq b.0 x then b.1 else value_in_force ρ x
 
--- the symbols' numbers are their places in the list
+-- the value of a term; the symbols' numbers are their places in the list
 abbrev mutual
   pub term_value : List Symbol → Interpretation → Values → TermTree → ℕ
   term_value known i ρ (variable x) = value_in_force ρ x
@@ -48,7 +48,8 @@ values_tested q size [] test ρ = test ρ
 values_tested for_all size (x ∷ xs) test ρ = list_all (λ v. values_tested for_all size xs test ((x, v) ∷ ρ)) (numbers_from 0 size)
 values_tested exists_some size (x ∷ xs) test ρ = list_any (λ v. values_tested exists_some size xs test ((x, v) ∷ ρ)) (numbers_from 0 size)
 
--- an atom is true where its value is 1, which is that of `$true`
+-- Whether a formula is true under values of its free variables, with Tarski's rule for each connective and quantifier. An atom is true if its
+-- value is 1, which is the value of `$true`.
 abbrev mutual
   pub formula_true : List Symbol → Interpretation → FormulaTree → Values → Bool
   formula_true known i truth ρ = true

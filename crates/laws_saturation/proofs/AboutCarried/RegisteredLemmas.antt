@@ -1,9 +1,9 @@
 -- Registered clauses of a pool whose lines are a derivation: they have the inputs' symbols and are well-formed. Where no part was met they have no
 -- names.
-use Rattle.std.proofs.Common.{◌≡◌, ℕ, Bool, true, false, not, ◌&&◌, List, [], ◌∷◌, length, refl, ap, sym, ◌∙◌, subst}
-use Rattle.std.specs.Prelude.{Some, slice_get}
+use Rattle.std.proofs.Common.{◌≡◌, ℕ, ◌<◌, true, not, List, [], ◌∷◌, length, refl, subst, arith}
+use Rattle.std.specs.Prelude.{Some, nat_lt, slice_get}
 use Rattle.std.specs.List.{list_all}
-use Rattle.std.proofs.lemmas.Bool.{true≢false, and_parts}
+use Rattle.std.proofs.lemmas.Bool.{and_parts, ltb-true}
 use Rattle.plain_types.specs.declared.sequence.NameLit.{NameLit}
 use Rattle.fol_base.specs.Clause.{TreeLiteral, TreeClause}
 use Rattle.fol_base.specs.Literal.{clause_of}
@@ -55,8 +55,7 @@ formed-nameless usage c formed = by c.names formed.below
   where
     by : (ns : List NameLit) → list_all (is_assertion_below 0) ns ≡ true → ns ≡ []
     by [] below = refl
-    by (n ∷ ns) below = absurd (true≢false (sym (and_parts (is_assertion_below 0 n) (list_all (is_assertion_below 0) ns) below).0 ∙ none n.positive))
-      where
-        none : (b : Bool) → (not b && false) ≡ false
-        none true = refl
-        none false = refl
+    by (n ∷ ns) below =
+        let first = (and_parts (is_assertion_below 0 n) (list_all (is_assertion_below 0) ns) below).0 in
+        let less : n.name < 0 = ltb-true n.name 0 (and_parts (not n.positive) (nat_lt n.name 0) first).1 in
+        absurd (omega (arith, less))

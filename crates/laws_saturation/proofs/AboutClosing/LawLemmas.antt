@@ -88,8 +88,8 @@ module _
             living.lives,
             living.there,
             nameless-awake truth r.parts c
-            (formed-nameless usage c
-            (registered-formed usage origin.inputs r (record { sound = replay-reaches.sound; no_parts = replay-reaches.no_parts }) living.number c living.there)),
+                (formed-nameless usage c
+                (registered-formed usage origin.inputs r (record { sound = replay-reaches.sound; no_parts = replay-reaches.no_parts }) living.number c living.there)),
           ))
           (λ (none : In c []). absurd none)
           by

@@ -137,7 +137,7 @@ module _ (words : List (List ℕ)) (outside : Outside) (taken : Taken) (status :
           absurd (not-six known x (sym s ∙ (due-whole (λ f. not-five known x (sym s ∙ f))).0 ∙ (usage-due e).0))
       by (Some command) e = record { command = command; is_command = e; says = answered-by known s x command e }
 
-  -- ---- usage and want of memory
+  -- ---- usage and out of memory
 
   pub usage-only : status ≡ 6 → command_of words ≡ None
   usage-only s = by (command_of words) refl
