@@ -5,4 +5,5 @@ pub mod EntryLemmas
 pub mod GoingLemmas
 pub mod Justifiers
 pub mod Kept
+pub mod NameLemmas
 pub mod RemovalLemmas

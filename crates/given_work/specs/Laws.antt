@@ -48,13 +48,13 @@ LearnedAreToldFor =
     → HasLearned pool index → index.told ≡ length pool.history → IsTicket pool.origin pool.history told ticket
     → AreToldFor pool.origin pool.history ticket index.members
 
--- Where nothing is split, they may be worked with.
+-- They may be worked with.
 abbrev pub ToldForJobsAreTold : Type 0
 ToldForJobsAreTold =
     (origin : Origin) (history : List Event) (ticket : Ticket) (ms : List Member)
-    → AreInputs origin.inputs → origin.options.split ≡ false → IsHistoryOf origin history → AreToldFor origin history ticket ms → AreTold ms
+    → AreInputs origin.inputs → IsHistoryOf origin history → AreToldFor origin history ticket ms → AreTold ms
 
--- And work that is right for all jobs for which they are told makes a right batch.
+-- Where nothing is split, work that is right for all jobs for which they are told makes a right batch.
 abbrev pub WorkMakesRightBatches : Type 0
 WorkMakesRightBatches =
     (origin : Origin) (history : List Event) (ticket : Ticket) (ms : List Member) (batch : Batch)

@@ -20,15 +20,17 @@ use Rattle.pool_history.specs.Batches.{is_told}
 abbrev pub told_of : Lookup → GivenJob → Lookup
 told_of clauses j = among (is_told j) clauses
 
--- A list of members tells the clauses of a job, in its order. They are whole under a use of the symbols.
+-- A list of members tells the clauses of a job, in its order. They are whole under a use of the symbols, and over a number of parts.
 pub record Tells (usage : SymbolUse) (clauses : Lookup) (j : GivenJob) (ms : List Member) : Type 0 where
   pub numbers : numbers_of ms ≡ j.told
   pub looked_up : All (λ (m : Member). clauses m.number ≡ Some (clause_at m.clause)) ms
-  pub whole : All (λ (m : Member). IsWhole usage (clause_at m.clause)) ms
+  pub parts : ℕ
+  pub whole : All (λ (m : Member). IsWhole usage parts (clause_at m.clause)) ms
 
 -- The sets of equations, of units and of all have the told clauses of a job.
 pub record AreToldSets (usage : SymbolUse) (clauses : Lookup) (j : GivenJob) (es us ms : List Member) : Type 0 where
-  pub whole : (n : ℕ) (c : TreeClause) → told_of clauses j n ≡ Some c → IsWhole usage c
+  pub parts : ℕ
+  pub whole : (n : ℕ) (c : TreeClause) → told_of clauses j n ≡ Some c → IsWhole usage parts c
   pub numbered : (n : ℕ) (c : TreeClause) → told_of clauses j n ≡ Some c → n < CLAUSE_NUMBERS
   pub of_clauses : AreOfClauses (told_of clauses j) es us
   pub has_all : HasAll (told_of clauses j) ms

@@ -22,10 +22,10 @@ pub use Rattle.pool_history.specs.Derived
 pub use Rattle.pool_history.specs.Told
 pub use Rattle.pool_history.specs.Events
 pub use Rattle.pool_history.specs.View
+pub use Rattle.pool_history.specs.Chains
 pub mod Noted
 pub mod KeptEvents
 pub mod CountedList
-pub mod ClauseHash
 pub mod RegisterCode
 pub mod Register
 pub mod RegisterLiving

@@ -21,7 +21,7 @@ abbrev pub change_at : List Registration → Note → TreeChange
 change_at ss (Activated n) = activated n (clause_in ss n)
 change_at ss (Died n) = died n
 
--- a note that tells a clause is of one of so many
+-- the clause that a note tells of has a number below the count
 abbrev pub IsNoted : ℕ → Note → Type 0
 IsNoted count (Activated n) = n < count
 IsNoted count (Died n) = Unit {0}

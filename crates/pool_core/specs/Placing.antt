@@ -17,7 +17,7 @@ use Rattle.bank_clause.specs.Clause.{clause_at, IsKnown}
 use Rattle.clause_queue.specs.Pairs.{without}
 use Rattle.kernel_steps.specs.declared.key.Key.{Key}
 use Rattle.pool_history.specs.Answers.{dead_justifier}
-use Rattle.pool_core.specs.ClauseHash.{clause_hash}
+use Rattle.bank_clause.specs.ClauseHash.{clause_hash}
 use Rattle.pool_history.specs.Inputs.{IsRightBatch}
 use Rattle.pool_history.specs.Lawful.{IsGivenOut}
 use Rattle.pool_history.specs.Record.{PoolRecord, Death, lives}
@@ -140,7 +140,7 @@ pub record IsTakeable (origin : Origin) (history : List Event) (number : ℕ) (b
 
 -- ---- room
 
--- room for clauses that come by these lines, for so many deaths, and for the clauses of so many jobs
+-- room for clauses that come by these lines, for deaths, and for the clauses of jobs that are out
 pub record HasRoom (s : ProofState) (lss : List (List Line)) (deaths out : ℕ) : Type 0 where
   pub register : length lss ≤ s.register.spare
   pub queue : length lss + out ≤ s.queue.spare

@@ -2,7 +2,7 @@
 use Rattle.std.specs.Prelude.{◌≡◌, ℕ, zero, suc, ◌-◌, ◌<◌, ◌≤◌, ◌^◌, min, true, List, Some, is_none, length, map, position, slice_get, get_or, nat_eq, if◌then◌else◌, vec_len, vec_capacity}
 use Rattle.std.specs.Option.{unwrap_or}
 use Rattle.indexmap.specs.IndexMap.{get, spare}
-use Rattle.pool_core.specs.ClauseHash.{clause_hash}
+use Rattle.bank_clause.specs.ClauseHash.{clause_hash}
 use Rattle.pool_core.specs.Register.{is_living_copy}
 use Rattle.pool_core.specs.RegisterCode.{Registrations}
 use Rattle.pool_core.specs.declared.chains.Chains.{Chains}

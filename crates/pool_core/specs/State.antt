@@ -75,7 +75,7 @@ pub record IsStateOf (a : Inside) (r : PoolRecord) : Type 0 where
   pub counted : keys_in a.counted ≡ r.counted
   pub set_aside : a.set_aside.items ≡ r.set_aside
   pub last_job : a.last_job ≡ r.jobs
-  pub place : a.place ≡ r.claims % 6
+  pub place : a.place_in_round ≡ r.claims % 6
   -- nothing is split
   pub no_solver : r.solver ≡ None
   -- there is room for what a job that is given up needs

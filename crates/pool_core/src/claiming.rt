@@ -27,7 +27,7 @@ use std::alloc::Global;
 use std::collections::BTreeMap;
 
 /// In each run of this many given claims the last is of the oldest clause.
-const GIVEN_CLAIMS: u64 = 6;
+const CLAIMS_IN_A_ROUND: u64 = 6;
 
 impl Pool {
     /// The answer to a caller that knows the activations and deaths of the first `told` events: an outcome that stands, a clause to work on,
@@ -72,7 +72,7 @@ impl Pool {
     {
         let ticket = self.ticket(alloc, number, told)?;
         let job = ticket.job;
-        take_memory(
+        take_claim_memory(
             &mut self.history,
             &mut self.positions,
             &mut self.proof.notes,
@@ -95,7 +95,7 @@ impl Pool {
         );
         self.history.push(&Event::Claim(job));
         self.last_job = job;
-        self.place = (self.place + 1) % GIVEN_CLAIMS;
+        self.place_in_round = (self.place_in_round + 1) % CLAIMS_IN_A_ROUND;
         Ok(ticket)
     }
 
@@ -170,7 +170,7 @@ impl Pool {
         ensures next { result ≡ next_given (replay self.now.origin self.now.history) }
         ensures solved { IsFalse (must_solve (replay self.now.origin self.now.history)) }
     {
-        let choice = if self.place == GIVEN_CLAIMS - 1 {
+        let choice = if self.place_in_round == CLAIMS_IN_A_ROUND - 1 {
             Choice::Old
         } else {
             Choice::Light
@@ -195,7 +195,7 @@ fn change(register: &Register, note: Note) -> Mem<Change>
 }
 
 /// Takes the memory of a claim: the job's entry, and room for an activation and for the events of all jobs that are out.
-fn take_memory(
+fn take_claim_memory(
     history: &mut History,
     positions: &mut Vec<u32>,
     notes: &mut Vec<Note>,

@@ -14,11 +14,10 @@ ghost use Rattle.pool_history.specs.Registering.{with_inputs};
 ghost use Rattle.pool_core.specs.Started.{with_input};
 ghost use Rattle.pool_core.specs.State.{IsProofStateOf};
 
-use crate::clause_hash::clause_hash;
 use crate::interning::Interned;
 use crate::pool::ProofState;
 use crate::register::Register;
-use bank_clause::BankClause;
+use bank_clause::{BankClause, clause_hash};
 use clause_queue::Queue;
 use fol_base::Clause;
 use kernel_steps::{Derivation, Line, Step};
@@ -64,7 +63,7 @@ impl ProofState {
         Ok(state)
     }
 
-    /// An input comes by the line of its number.
+    /// An input comes by the line of its number, unless the empty one came before it: then it costs nothing.
     fn take_input<R: Wait>(
         &mut self,
         rt: &R,
@@ -84,6 +83,9 @@ impl ProofState {
             → IsProofStateOf bank.now table.new self.new (with_input number (clause_of input.now) r)) }
         ensures notes { OnOk result (self.new.notes.items ≡ self.old.notes.items) }
     {
+        if self.ended.is_some() {
+            return Ok(());
+        }
         let clause = BankClause::of_clause(rt, alloc, bank, table, input)?;
         let hash = clause_hash(&clause);
         let mut lines = Derivation::new(alloc);

@@ -9,8 +9,7 @@ ghost use Rattle.pool_history.specs.Returning.{heavy_entries};
 ghost use Rattle.pool_history.specs.declared.batch.Entry.{Entry};
 ghost use Rattle.pool_history.specs.declared.batch.Removal.{Removal};
 
-use crate::clause_hash::clause_hash;
-use bank_clause::BankClause;
+use bank_clause::{BankClause, clause_hash};
 use kernel_steps::Key;
 use plain_types::{Mem, NoMemory};
 use pool_history::{Entry, Fate, Removal, Work};

@@ -7,7 +7,7 @@
 //! **What is kept, and why.**
 //!
 //! - The *register* (`register.rt`) has the registered clauses by their numbers, with the events in which they died, and finds the living
-//!   copy of a clause by its hash. Clauses of one hash are chained from the newest to the oldest (`chains.rt`, `clause_hash.rt`).
+//!   copy of a clause by its hash. Clauses of one hash are chained from the newest to the oldest (`chains.rt`), by a hash that knows the clauses' assertions.
 //! - The *queue* has the clauses that wait, by age and by size.
 //! - The *notes* are a list of all activations and deaths. Beside each event stands how many came before it. So the news since an event
 //!   are read off the list, from one place on, however many workers ask and whenever they asked last.
@@ -34,7 +34,6 @@
 
 mod chains;
 mod claiming;
-mod clause_hash;
 mod counted_keys;
 mod counting;
 mod giving_up;
@@ -51,7 +50,7 @@ mod returning;
 mod taking;
 
 pub use history::History;
-pub use pool::{Keys, Pool};
+pub use pool::Pool;
 pub use pool_history::{
     Back, Batch, Change, Claimed, Entry, Event, Fate, MetEntries, News, Options, Outcome,
     PropTicket, Redundancy, Removal, Removals, Ticket, Work, laws,

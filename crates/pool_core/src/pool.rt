@@ -16,7 +16,7 @@ use crate::register::Register;
 use clause_queue::Queue;
 use fol_base::Clauses;
 use kernel_steps::{Key, Step};
-use plain_types::{Mem, Sequence};
+use plain_types::Mem;
 use pool_history::{Options, Outcome};
 use std::alloc::Global;
 use std::collections::BTreeMap;
@@ -24,9 +24,6 @@ use std::marker::Model;
 use std::snapshot::Snapshot;
 use std::sync::Wait;
 use term_bank::{Bank, Table};
-
-/// Names of inferences, in order.
-pub type Keys = Sequence<Key>;
 
 /// A job on a given clause that is out.
 #[derive(Clone, Copy)]
@@ -77,7 +74,7 @@ pub struct Pool {
     pub(crate) set_aside: Vec<Key>,
     pub(crate) last_job: u64,
     /// The place of the next given claim among six.
-    pub(crate) place: u64,
+    pub(crate) place_in_round: u64,
 }
 
 impl Model for Pool {
@@ -128,7 +125,7 @@ impl Pool {
             counted: CountedKeys::new(alloc),
             set_aside: Vec::new(alloc),
             last_job: 0,
-            place: 0,
+            place_in_round: 0,
         })
     }
 

@@ -22,7 +22,7 @@ use term_bank::Bank;
 
 impl ProofState {
     /// Makes room for a number of clauses that come, for their lines, for deaths, and for the clauses of the jobs that are out. After
-    /// out of memory there may be some of that room.
+    /// an out-of-memory error there may be some of that room.
     pub(crate) fn reserve(
         &mut self,
         clauses: usize,

@@ -2,7 +2,7 @@
 
 ghost use Rattle.std.specs.Prelude.{◌≡◌, ℕ, ◌+◌, ◌<◌, ◌≤◌, ◌^◌, ◌++◌, [], ◌∷◌, None, Some, false, is_none, is_some, find, true, length, position, slice_get, slice_set, IfSome, OnOk};
 ghost use Rattle.std.specs.List.{list_all};
-ghost use Rattle.pool_core.specs.ClauseHash.{clause_hash};
+ghost use Rattle.bank_clause.specs.ClauseHash.{clause_hash};
 ghost use Rattle.pool_core.specs.Register.{is_living_copy, death_at, is_living_at, at_position, dead_in, made_active};
 ghost use Rattle.pool_core.specs.declared.register.Registration.{Registration};
 

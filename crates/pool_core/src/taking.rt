@@ -44,7 +44,7 @@ impl Pool {
             self.close(number, batch);
             return Ok(());
         }
-        let memory = take_memory(
+        let memory = take_return_memory(
             rt,
             alloc,
             bank,
@@ -111,7 +111,7 @@ fn removal_count(work: &Work) -> usize
 
 /// Takes the memory of a return: the results in the bank, room for whatever the work may bring and for the clauses of the jobs that are out,
 /// and at last the names that are set aside, which stay out after an out-of-memory error.
-fn take_memory<R: Wait>(
+fn take_return_memory<R: Wait>(
     rt: &R,
     alloc: Global,
     bank: &Bank,

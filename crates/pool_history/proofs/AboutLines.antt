@@ -19,4 +19,5 @@ pub mod SoundLemmas
 pub mod SplitLineLemmas
 pub mod SplitSoundLemmas
 pub mod UnsplitLemmas
+pub mod UnsplitLineLemmas
 pub mod WrittenLemmas

@@ -22,6 +22,7 @@ use Rattle.pool_history.specs.Replay.{Origin, replay}
 use Rattle.pool_history.specs.declared.event.Event.{Event}
 use Rattle.pool_history.specs.declared.outcome.Outcome.{Outcome}
 use Rattle.pool_history.specs.declared.outcome.Outcome.TheVariants.{Refuted}
+use Rattle.pool_history.proofs.AboutLines.UnsplitLineLemmas.{replay-unsplit}
 use Rattle.pool_writer.specs.Retraced.{steps_of, AreRefutingSteps, IsRetracing}
 use Rattle.pool_writer.specs.Refuted.{IsPoolRefutation}
 use Rattle.pool_writer.proofs.FormUse.{form-used}
@@ -61,11 +62,12 @@ module _ (fs : List Annotated) (origin : Origin) (history : List Event)
       same = same;
       of_pool =
           subst (λ (cs : List TreeClause). ArePoolLines usage cs (replay origin history).lines) as-form
-          (derived usage origin history inputs used unsplit (lawful usage used));
+          (derived usage origin history inputs used (lawful usage used));
       refutes =
           subst (λ (cs : List TreeClause). IsRefutation cs (replay origin history).lines) as-form
-          (refutes usage origin history inputs used unsplit (lawful usage used)
+          (refutes usage origin history inputs used (lawful usage used)
           (refuted-ended (replay origin history).ended (replay origin history) refuted));
+      plain = (replay-unsplit usage origin history inputs used unsplit (lawful usage used)).1;
     }
 
 -- ---- its lines made anew
@@ -76,7 +78,7 @@ module _ (fs : List Annotated) (form : List TreeClause) (lines : List Line) (is 
     lines = lines;
     refutes = subst (λ (cs : List TreeClause). IsRefutation cs lines) (sym is.same) is.refutes;
     same = refl;
-    plain = plain-steps fs lines is.of_pool;
+    plain = plain-steps fs lines is.of_pool is.plain;
   }
 
   module _ (made : List Line) (refutes : IsRefutation form made) (retracing : IsRetracing form (steps_of lines) made)
@@ -97,7 +99,7 @@ module _ (fs : List Annotated) (form : List TreeClause) (lines : List Line) (is 
       none-introduced : (n : ℕ) (line : Line) (name : ℕ) → slice_get made n ≡ Some line → line.step ≡ Component name → ⊥
       none-introduced n line name at step_is =
           let plain : is_plain_step line.step ≡ true =
-          plain-anew fs lines is.of_pool retracing.numbers made
+          plain-anew fs lines is.of_pool is.plain retracing.numbers made
           (retracing.lines lines (subst (λ (cs : List TreeClause). IsRefutation cs lines) (sym is.same) is.refutes).derived refl) n line at in
           false≢true (sym (ap is_plain_step step_is) ∙ plain)
 
@@ -106,7 +108,7 @@ module _ (fs : List Annotated) (form : List TreeClause) (lines : List Line) (is 
         derived = made-refutes.derived;
         readable =
             λ n line at needed.
-            readable-anew fs lines is.of_pool retracing.numbers made
+            readable-anew fs lines is.of_pool is.plain retracing.numbers made
             (retracing.lines lines (subst (λ (cs : List TreeClause). IsRefutation cs lines) (sym is.same) is.refutes).derived refl) n line at;
         names = λ n m name greater line later at later_at needed later_needed less step_is later_is. absurd (none-introduced n line name at step_is);
         line = refutes.last;

@@ -24,7 +24,7 @@ use Rattle.kernel_steps.specs.declared.step.Line.{Line}
 use Rattle.clausal_form.specs.FormFunctions.{is_predicate_in}
 use Rattle.clausal_form.specs.FormLaws.{use_of}
 use Rattle.tstp_writer.specs.ReadableLines.{is_symbol_in, is_term_over, IsReadable, IsReadableLine}
-use Rattle.pool_history.specs.Derived.{is_function_term_of, IsPlainLine, ArePoolLines}
+use Rattle.pool_history.specs.Derived.{is_function_term_of, IsPoolLine, ArePoolLines}
 use Rattle.kernel_steps.specs.ParentNumbers.{with_parents}
 use Rattle.pool_writer.specs.Retraced.{steps_of, AreRetraced}
 use Rattle.pool_writer.proofs.AboutRetracing.CarryLemmas.{property-carries_over}
@@ -53,7 +53,6 @@ list_all-both p q r both (x ∷ xs) one other =
 -- what is said of a line's step and clause, and not of its parents' numbers
 record IsPlain (symbols : List Symbol) (step : Step) (c : TreeClause) : Type 0 where
   plain : is_plain_step step ≡ true
-  no_names : c.names ≡ []
   formed : are_literals_of (use_of symbols) c.literals ≡ true
   terms : binds_each (is_function_term_of (use_of symbols)) step ≡ true
   canonical : IsCanonical c
@@ -65,7 +64,6 @@ record IsPlain (symbols : List Symbol) (step : Step) (c : TreeClause) : Type 0 w
 renumbered-is-plain : (symbols : List Symbol) (to : ℕ → ℕ) (step : Step) (c : TreeClause) → IsPlain symbols step c → IsPlain symbols (with_parents to step) c
 renumbered-is-plain symbols to step c is = record {
   plain = renumbered-plain to step ∙ is.plain;
-  no_names = is.no_names;
   formed = is.formed;
   terms = renumbered-binds (is_function_term_of (use_of symbols)) to step ∙ is.terms;
   canonical = is.canonical;
@@ -102,6 +100,7 @@ all-at P (y ∷ ys) (suc n) x all there = all-at P ys n x (All-tail P y ys all) 
 
 module _ (fs : List Annotated) (lines : List Line)
     (are : ArePoolLines (use_of (clausal_form fs).symbols) (clausal_form fs).clauses lines)
+    (plain : list_all (λ (l : Line). is_plain_step l.step) lines ≡ true)
   where
     abbrev symbols : List Symbol
     symbols = (clausal_form fs).symbols
@@ -113,11 +112,10 @@ module _ (fs : List Annotated) (lines : List Line)
 
     plain-at : (n : ℕ) (line : Line) → slice_get lines n ≡ Some line → IsPlain symbols line.step (clause_of line.clause)
     plain-at n line at =
-        let is : IsPlainLine (use_of symbols) line = all-at (IsPlainLine (use_of symbols)) lines n line are.plain at in
+        let is : IsPoolLine (use_of symbols) line = all-at (IsPoolLine (use_of symbols)) lines n line are.each at in
         let sizes = and_parts (list_all has_small_sides (clause_of line.clause).literals) (binds_each is_small_term line.step) is.small in
         record {
-          plain = is.step;
-          no_names = is.no_names;
+          plain = list_all-item (λ (l : Line). is_plain_step l.step) lines n line at plain;
           formed = is.formed;
           terms = is.terms;
           canonical = (is.numbered).canonical;

@@ -1,6 +1,7 @@
 -- What a claim can't answer where nothing is split and no job is out.
-use Rattle.std.proofs.Common.{◌≡◌, ℕ, ◌+◌, true, false, List, length, ap, subst, ◌⊎◌, ⊎_elim, arith}
+use Rattle.std.proofs.Common.{◌≡◌, ℕ, ◌+◌, true, false, List, length, ap, sym, ◌∙◌, subst, ◌⊎◌, ⊎_elim, arith}
 use Rattle.std.specs.Prelude.{is_some, if◌then◌else◌}
+use Rattle.std.proofs.lemmas.Bool.{true≢false}
 use Rattle.fol_base.specs.WellFormed.{SymbolUse}
 use Rattle.pool_history.specs.View.{PoolView}
 use Rattle.pool_history.specs.Record.{jobs_out}
@@ -13,7 +14,8 @@ use Rattle.pool_history.specs.declared.ticket.Claimed.{Claimed}
 use Rattle.pool_history.specs.declared.ticket.Claimed.TheVariants.{Solve, Idle}
 use Rattle.pool_history.specs.declared.event.Event.{Event}
 use Rattle.pool_history.proofs.AboutLines.BeginningLemmas.{replay-sound}
-use Rattle.pool_history.proofs.AboutLines.SoundLemmas.{no-solve}
+use Rattle.pool_history.proofs.AboutLines.UnsplitLemmas.{unsplit-parts, unsplit-solved}
+use Rattle.pool_history.proofs.AboutLines.UnsplitLineLemmas.{replay-unsplit}
 use Rattle.proving.specs.Progress.{HasOut}
 
 -- ---- claims
@@ -24,8 +26,8 @@ pub nothing-to-solve :
     → AreInputs origin.inputs → origin.options.split ≡ false → IsHistoryOf origin history → must_solve (replay origin history) ≡ true → ⊥
 nothing-to-solve origin history inputs unsplit lawful must =
     let usage : SymbolUse = inputs.well_formed.usage in
-    no-solve usage origin.inputs origin.options unsplit (replay origin history)
-    (replay-sound usage origin history inputs inputs.well_formed.used unsplit (lawful usage inputs.well_formed.used)) must
+    let sound = replay-sound usage origin history inputs inputs.well_formed.used (lawful usage inputs.well_formed.used) in
+    true≢false (sym must ∙ unsplit-solved usage origin.inputs (replay origin history) sound (unsplit-parts origin history unsplit))
 
 pub nothing-out :
     (origin : Origin) (history : List Event)
@@ -33,9 +35,9 @@ pub nothing-out :
     → jobs_out (replay origin history) ≡ 0
 nothing-out origin history inputs unsplit lawful none =
     let usage : SymbolUse = inputs.well_formed.usage in
-    let sound = replay-sound usage origin history inputs inputs.well_formed.used unsplit (lawful usage inputs.well_formed.used) in
+    let is = replay-unsplit usage origin history inputs inputs.well_formed.used unsplit (lawful usage inputs.well_formed.used) in
     let same : jobs_out (replay origin history) ≡ length (replay origin history).given + 0 =
-    ap (λ o. length (replay origin history).given + (if is_some o then 1 else 0)) sound.no_solver in
+    ap (λ o. length (replay origin history).given + (if is_some o then 1 else 0)) is.0 in
     omega (arith, same, none)
 
 -- neither clauses for the solver nor a wait comes

@@ -12,7 +12,7 @@ use Rattle.demodulate.specs.Simplified.{IsSimplified}
 use Rattle.pool_history.specs.declared.batch.Fate.TheVariants.{Dropped as IsDropped}
 use Rattle.pool_history.specs.declared.batch.Redundancy.{Redundancy}
 use Rattle.pool_history.specs.declared.batch.Redundancy.TheVariants.{Tautology, Subsumed}
-use Rattle.pool_history.proofs.AboutRecords.ItemLemmas.{clause_eq-says}
+use Rattle.pool_history.proofs.AboutRecords.ItemLemmas.{clauses-equal}
 use Rattle.given_work.specs.Dropped.{AreDropped, Knows, cause_if_same, cause_of, literals_hash, outcome_by}
 use Rattle.given_work.specs.Meeting.{IsFateBy}
 use Rattle.given_work.specs.declared.dropped.Dropped.{Dropped}
@@ -35,22 +35,22 @@ module _ (es us ms : List Member) where
       by true e = subst Rightly (same_Some (record { clause = clause; cause = cause }) d e) one
       by false e = all hash d e
 
-  same-cause : (c : TreeClause) (d : Dropped) (r : Redundancy) → c.names ≡ [] → Rightly d → cause_if_same c d ≡ Some r → Goes c r
-  same-cause c d r no_names right is = by (clause_eq c (clause_of d.clause)) refl is
+  same-cause : (c : TreeClause) (d : Dropped) (r : Redundancy) → Rightly d → cause_if_same c d ≡ Some r → Goes c r
+  same-cause c d r right is = by (clause_eq c (clause_of d.clause)) refl is
     where
       by : (b : Bool) → clause_eq c (clause_of d.clause) ≡ b → (if b then Some d.cause else None) ≡ Some r → Goes c r
       by true equal e =
-          subst (λ (t : TreeClause). Goes t r) (sym (clause_eq-says c (clause_of d.clause) no_names equal))
+          subst (λ (t : TreeClause). Goes t r) (sym (clauses-equal c (clause_of d.clause) equal))
           (subst (Goes (clause_of d.clause)) (same_Some d.cause r e) right)
       by false equal e = absurd (none-some r e)
 
   -- the cause that is known of an equal conclusion is right
-  pub cause-right : (dropped : DroppedConclusions) (c : TreeClause) (r : Redundancy) → AreDropped es us ms dropped → c.names ≡ [] → cause_of dropped c ≡ Some r → Goes c r
-  cause-right dropped c r all no_names is = by (get nat_eq dropped.known (literals_hash 0 c.literals)) refl is
+  pub cause-right : (dropped : DroppedConclusions) (c : TreeClause) (r : Redundancy) → AreDropped es us ms dropped → cause_of dropped c ≡ Some r → Goes c r
+  cause-right dropped c r all is = by (get nat_eq dropped.known (literals_hash 0 c.literals)) refl is
     where
       by : (o : Option Dropped) → get nat_eq dropped.known (literals_hash 0 c.literals) ≡ o → option_and_then (cause_if_same c) o ≡ Some r → Goes c r
       by None none e = absurd (none-some r e)
-      by (Some d) there e = same-cause c d r no_names (all (literals_hash 0 c.literals) d there) e
+      by (Some d) there e = same-cause c d r (all (literals_hash 0 c.literals) d there) e
 
 -- what becomes of it
 pub dropped-fate : (s : Step) (clause : Clause) (r : Redundancy) → IsFateBy s clause (outcome_by r) (IsDropped r)

@@ -15,6 +15,7 @@ use Rattle.fol_base.specs.Subsumption.{Subsumes}
 use Rattle.fol_base.specs.WellFormed.{SymbolUse}
 use Rattle.fol_base.specs.declared.clause.Clause.{Clause}
 use Rattle.fol_base.specs.declared.limits.TheConstants.{MOST_SYMBOLS}
+use Rattle.kernel_steps.specs.Names.{are_sorted}
 use Rattle.kernel_steps.specs.Inference.{is_tautology}
 use Rattle.kernel_steps.specs.Lines.{AreLines, IsNumbered, clause_parents, has_small_sides, has_small_terms, is_on_literals, is_small_term, key_of}
 use Rattle.kernel_steps.specs.Parents.{Parent}
@@ -43,7 +44,8 @@ use Rattle.pool_history.specs.Reduction.{AreLinesFrom, Lookup, handed_back}
 use Rattle.pool_history.specs.Batches.{IsRightFate, is_told}
 use Rattle.pool_history.specs.declared.options.Options.{Options}
 use Rattle.pool_history.specs.declared.batch.Fate.{Fate}
-use Rattle.pool_history.proofs.AboutLines.FormedLemmas.{IsFormed, result-formed}
+use Rattle.pool_history.proofs.AboutLines.AssertionLemmas.{below-from}
+use Rattle.pool_history.proofs.AboutLines.FormedLemmas.{IsFormed, result-formed, result-sorted}
 use Rattle.given_work.specs.Meeting.{AreEntriesOf, IsEntryOf, IsFateBy}
 use Rattle.eq_rules.specs.declared.inference.Inference.{Inference}
 use Rattle.pool_history.specs.declared.batch.Entry.{Entry}
@@ -163,12 +165,19 @@ module _
   no-lines : AreLines usage.is_predicate (CLAUSE_NUMBERS + 1) (reduced_parents (clause_parents told) (clause_of clause)) []
   no-lines = record { kinds = refl; steps = λ n l at. absurd (none-some l at); numbered = All-nil IsNumbered; terms = refl; small = refl }
 
-  whole-formed : (n : ℕ) (d : TreeClause) → told n ≡ Some d → IsFormed usage d
-  whole-formed n d there = let whole = sets.whole n d there in record { literals = whole.formed; no_names = whole.no_names }
+  whole-formed : (n : ℕ) (d : TreeClause) → told n ≡ Some d → IsFormed usage sets.parts d
+  whole-formed n d there =
+      let whole = sets.whole n d there in
+      record { literals = whole.formed; below = below-from sets.parts d.names whole.asserts.negative whole.met }
 
-  pub conclusion-formed : IsFormed usage (clause_of clause)
-  conclusion-formed =
-      result-formed usage told (first ∷ []) (lines-from [] no-lines (λ test truth passes. refl)) whole-formed (clause_of clause) refl
+  first-lines : AreLinesFrom usage.is_predicate told (first ∷ [])
+  first-lines = lines-from [] no-lines (λ test truth passes. refl)
+
+  conclusion-formed : IsFormed usage sets.parts (clause_of clause)
+  conclusion-formed = result-formed usage sets.parts told (first ∷ []) first-lines whole-formed (clause_of clause) refl
+
+  pub conclusion-sorted : are_sorted (clause_of clause).names ≡ true
+  conclusion-sorted = result-sorted usage sets.parts told (first ∷ []) first-lines whole-formed (clause_of clause) refl
 
   -- ---- what becomes of it
 

@@ -235,7 +235,7 @@ has-simplified ms sets es given subsumed numbers are small listed given_there ex
     found : Subsumes usage.is_predicate (clause_at given.clause) (clause_at m.clause) → Contains subsumed m.number
     found subsumes =
         ((exact usage
-        (All-contains (λ (k : Member). IsWhole usage (clause_at k.clause)) ms given tells.whole given_there).formed
+        (All-contains (λ (k : Member). IsWhole usage tells.parts (clause_at k.clause)) ms given tells.whole given_there).formed
         (members-formed usage clauses j sets.equations sets.units sets.subsumers (sets-told usage clauses j ms tells sets are small))).exact m.number).1
         (record { member = m; there = (are.subsumers m).1 there; does = record { other = λ e. differ (sym e); subsumed = subsumes }; number = refl })
 

@@ -66,10 +66,10 @@ module _ (usage : SymbolUse) (clauses : Lookup) (j : GivenJob) (ms : List Member
             ∙ ap clauses found.2 ∙ parts.1);
       }
 
-  pub whole-told : (n : ℕ) (c : TreeClause) → told_of clauses j n ≡ Some c → IsWhole usage c
+  pub whole-told : (n : ℕ) (c : TreeClause) → told_of clauses j n ≡ Some c → IsWhole usage tells.parts c
   whole-told n c h =
       let at = told-member n c h in
-      subst (IsWhole usage) at.clause (All-contains (λ (k : Member). IsWhole usage (clause_at k.clause)) ms at.member tells.whole at.there)
+      subst (IsWhole usage tells.parts) at.clause (All-contains (λ (k : Member). IsWhole usage tells.parts (clause_at k.clause)) ms at.member tells.whole at.there)
 
   with-told : (m : Member) (n : ℕ) (c : TreeClause) → Contains ms m → m.number ≡ n → clause_at m.clause ≡ c → told_of clauses j n ≡ Some c
   with-told m n c there number clause = ap (told_of clauses j) (sym number) ∙ member-told m there ∙ ap Some clause
@@ -100,6 +100,7 @@ module _ (usage : SymbolUse) (clauses : Lookup) (j : GivenJob) (ms : List Member
       (sets : Sets) → AreSetsOf ms sets → All (λ (m : Member). m.number < CLAUSE_NUMBERS) ms
       → AreToldSets usage clauses j sets.equations sets.units sets.subsumers
   sets-told sets are numbered = record {
+    parts = tells.parts;
     whole = whole-told;
     numbered = λ n c h.
         let at = told-member n c h in

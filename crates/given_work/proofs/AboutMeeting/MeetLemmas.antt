@@ -37,7 +37,7 @@ use Rattle.given_work.proofs.AboutIndexes.TellingLemmas.{member-numbered, member
 member-formed :
     (usage : SymbolUse) (clauses : Lookup) (j : GivenJob) (ms : List Member) (m : Member) → Tells usage clauses j ms → Contains ms m
     → IsTrue (are_literals_of usage (clause_at m.clause).literals)
-member-formed usage clauses j ms m tells there = (All-contains (λ (k : Member). IsWhole usage (clause_at k.clause)) ms m tells.whole there).formed
+member-formed usage clauses j ms m tells there = (All-contains (λ (k : Member). IsWhole usage tells.parts (clause_at k.clause)) ms m tells.whole there).formed
 
 -- ---- places
 

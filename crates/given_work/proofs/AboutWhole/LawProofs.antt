@@ -1,5 +1,5 @@
 -- The laws of indexes that were told the clauses of a job.
-use Rattle.std.proofs.Common.{◌≡◌, ℕ, zero, suc, false, List, [], ◌∷◌, Some, ap, sym, ◌∙◌, subst}
+use Rattle.std.proofs.Common.{◌≡◌, ℕ, zero, suc, List, [], ◌∷◌, length, Some, ap, sym, ◌∙◌, subst}
 use Rattle.std.specs.Prelude.{All, slice_get}
 use Rattle.std.proofs.lemmas.Option.{none-some, same_Some}
 use Rattle.std.proofs.lemmas.List.Elements.{All-contains, All-head, All-tail}
@@ -25,27 +25,32 @@ all-at P (y ∷ ys) (suc i) x all at = all-at P ys i x (All-tail P y ys all) at
 
 tells-for :
     (usage : SymbolUse) (origin : Origin) (history : List Event) (ticket : Ticket) (ms : List Member)
-    → AreInputs origin.inputs → IsUseOf origin.inputs usage → origin.options.split ≡ false → IsHistoryOf origin history
+    → AreInputs origin.inputs → IsUseOf origin.inputs usage → IsHistoryOf origin history
     → (told : AreToldFor origin history ticket ms) → Tells usage (clauses_of (replay origin history)) told.job ms
-tells-for usage origin history ticket ms inputs used unsplit lawful told = record {
+tells-for usage origin history ticket ms inputs used lawful told = record {
   numbers = told.numbers;
   looked_up = told.looked_up;
+  parts = count;
   whole =
-      all-from (λ (m : Member). IsWhole usage (clause_at m.clause)) ms λ m there.
+      all-from (λ (m : Member). IsWhole usage count (clause_at m.clause)) ms λ m there.
       option_map-some (λ (c : Registered). c.clause) (slice_get (replay origin history).registered m.number) (clause_at m.clause)
       (All-contains (λ (k : Member). clauses_of (replay origin history) k.number ≡ Some (clause_at k.clause)) ms m told.looked_up there)
       λ registered found is.
-      subst (IsWhole usage) is
-      (all-at (λ (c : Registered). IsWhole usage c.clause) (replay origin history).registered m.number registered
-      (registered_are_whole usage origin history inputs used unsplit (lawful usage used)) found);
+      subst (IsWhole usage count) is
+      (all-at (λ (c : Registered). IsWhole usage count c.clause) (replay origin history).registered m.number registered
+      (registered_are_whole usage origin history inputs used (lawful usage used)) found);
 }
+  where
+    -- the parts that were met
+    count : ℕ
+    count = length (replay origin history).parts
 
 pub told_for_jobs_are_told : ToldForJobsAreTold
-told_for_jobs_are_told origin history ticket ms inputs unsplit lawful told = record {
+told_for_jobs_are_told origin history ticket ms inputs lawful told = record {
   usage = inputs.well_formed.usage;
   clauses = clauses_of (replay origin history);
   job = told.job;
-  tells = tells-for inputs.well_formed.usage origin history ticket ms inputs inputs.well_formed.used unsplit lawful told;
+  tells = tells-for inputs.well_formed.usage origin history ticket ms inputs inputs.well_formed.used lawful told;
 }
 
 pub work_makes_right_batches : WorkMakesRightBatches
@@ -53,6 +58,6 @@ work_makes_right_batches origin history ticket ms batch inputs unsplit lawful to
   given = told.job;
   out = ap (given_job (replay origin history)) same_job ∙ told.out;
   says = λ usage used.
-      right usage (clauses_of (replay origin history)) told.job (tells-for usage origin history ticket ms inputs used unsplit lawful told)
+      right usage (clauses_of (replay origin history)) told.job (tells-for usage origin history ticket ms inputs used lawful told)
       (sym told.number) (sym told.left);
 }

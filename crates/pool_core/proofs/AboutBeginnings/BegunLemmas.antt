@@ -38,7 +38,7 @@ numbered r n x there = ap (λ (o : Option Registered). unwrap_or (option_map (λ
 module _ (a : Inside) (bank : Bank) (r : PoolRecord) where
   begun-state :
       a.table.bank ≡ bank → IsProofStateOf bank a.table a.proof r → Registers nothing_registered r
-      → a.positions.items ≡ [] → a.jobs.entries ≡ [] → keys_in a.counted ≡ [] → a.set_aside.items ≡ [] → a.last_job ≡ 0 → a.place ≡ 0
+      → a.positions.items ≡ [] → a.jobs.entries ≡ [] → keys_in a.counted ≡ [] → a.set_aside.items ≡ [] → a.last_job ≡ 0 → a.place_in_round ≡ 0
       → vec_len a.history.events ≤ vec_capacity a.history.events → vec_len a.notes_before ≤ vec_capacity a.notes_before
       → IsStateOf a r
   begun-state same_bank is registers positions jobs counted set_aside last_job place room notes_room = record {
@@ -59,7 +59,7 @@ pub begun :
     (a : Inside) (bank : Bank)
     → a.options.split ≡ false → a.table.bank ≡ bank
     → IsProofStateOf bank a.table a.proof (with_inputs false 0 (origin_of a).inputs nothing_registered)
-    → a.positions.items ≡ [] → a.jobs.entries ≡ [] → keys_in a.counted ≡ [] → a.set_aside.items ≡ [] → a.last_job ≡ 0 → a.place ≡ 0
+    → a.positions.items ≡ [] → a.jobs.entries ≡ [] → keys_in a.counted ≡ [] → a.set_aside.items ≡ [] → a.last_job ≡ 0 → a.place_in_round ≡ 0
     → vec_len a.history.events ≤ vec_capacity a.history.events → vec_len a.notes_before ≤ vec_capacity a.notes_before
     → events_of a.history ≡ [] → a.proof.notes.items ≡ [] → a.notes_before.items ≡ []
     → AreInputs (origin_of a).inputs → IsLimit a.options

@@ -1,6 +1,6 @@
 -- An input comes as a result by one line does: the fields are the same, whatever the line has for a clause.
-use Rattle.std.proofs.Common.{◌≡◌, ℕ, ◌+◌, ◌-◌, ◌<◌, Bool, true, false, List, [], ◌∷◌, ◌++◌, map, length, refl, ap, sym, ◌∙◌, subst, arith}
-use Rattle.std.specs.Prelude.{Option, None, Some, is_none, slice_get, if◌then◌else◌, All}
+use Rattle.std.proofs.Common.{◌≡◌, ℕ, ◌+◌, ◌-◌, ◌<◌, Bool, true, false, List, [], ◌∷◌, ◌++◌, map, length, refl, ap, sym, ◌∙◌, subst, true≢false, arith}
+use Rattle.std.specs.Prelude.{Option, None, Some, is_none, is_some, slice_get, if◌then◌else◌, All}
 use Rattle.std.proofs.lemmas.List.{length-append, map-append}
 use Rattle.std.proofs.lemmas.List.Elements.{All-nil, All-cons}
 use Rattle.std.proofs.lemmas.Option.{none-some}
@@ -24,7 +24,7 @@ use Rattle.pool_history.specs.Record.{PoolRecord, Registered, GivenJob, Death, h
 use Rattle.pool_history.specs.Registering.{comes, has_none}
 use Rattle.pool_history.specs.declared.outcome.Outcome.{Outcome}
 use Rattle.pool_history.specs.declared.outcome.Outcome.TheVariants.{Refuted}
-use Rattle.pool_core.specs.ClauseHash.{clause_hash}
+use Rattle.bank_clause.specs.ClauseHash.{clause_hash}
 use Rattle.pool_core.specs.Placing.{HasParentsBelow, IsInterned}
 use Rattle.pool_core.specs.Started.{registered_at, IsOfTable, with_input}
 use Rattle.pool_core.specs.State.{IsProofStateOf}
@@ -123,6 +123,18 @@ module _ (bank : Bank) (table : Table) (s : ProofState) where
           let closed : is_none r.ended ≡ false = ap (λ (o : Option Outcome). is_none o) ended in
           subst (IsProofStateOf bank table s) (sym (ap (λ b. if b then comes false (line_of (Clausify i) c ∷ []) c r else r) closed))
           (subst (IsProofStateOf bank table s) (result-ended false r lines closed) is)
+
+-- nothing comes once the pool has ended
+pub input-ended :
+    (bank : Bank) (table : Table) (s : ProofState) (r : PoolRecord) (i : ℕ) (c : TreeClause)
+    → is_some s.ended ≡ true → IsProofStateOf bank table s r → IsProofStateOf bank table s (with_input i c r)
+input-ended bank table s r i c ended is =
+    subst (IsProofStateOf bank table s)
+    (sym (ap (λ b. if b then comes false (line_of (Clausify i) c ∷ []) c r else r) (closed r.ended (ap (λ o. is_some o) (sym is.ended) ∙ ended)))) is
+  where
+    closed : (o : Option Outcome) → is_some o ≡ true → is_none o ≡ false
+    closed None h = absurd (true≢false (sym h))
+    closed (Some outcome) h = refl
 
 -- the state that has nothing
 pub nothing-state :

@@ -101,7 +101,7 @@ claimed-state :
     → b.jobs.entries ≡ insert_entry nat_cmp a.jobs.entries job (record { number = n; left = left })
     → b.proof.steps.items ≡ a.proof.steps.items → keys_in b.counted ≡ keys_in a.counted → b.set_aside.items ≡ a.set_aside.items
     → b.proof.ended ≡ a.proof.ended
-    → b.last_job ≡ job → b.place ≡ (a.place + 1) % 6
+    → b.last_job ≡ job → b.place_in_round ≡ (a.place_in_round + 1) % 6
     → vec_len b.history.events + (length r.given + 1) ≤ vec_capacity b.history.events
     → vec_len b.notes_before + (length r.given + 1) ≤ vec_capacity b.notes_before
     → IsStateOf b (claim_after a.options job n r ps)
@@ -128,7 +128,7 @@ claimed-state a b r n job left ps is next rise number remaining are register of_
   counted = counted ∙ is.counted;
   set_aside = set_aside ∙ is.set_aside;
   last_job = last_job;
-  place = place ∙ next-place r.claims a.place is.place;
+  place = place ∙ next-place r.claims a.place_in_round is.place;
   no_solver = is.no_solver;
   queue_room = let more = one-longer in let room = is.queue_room in omega (arith, more, spare, room);
   history_room = let more = one-longer in omega (arith, more, events_room);
@@ -160,7 +160,7 @@ pub record IsGivenOutBy (a b : Inside) (n job left : ℕ) : Type 0 where
   pub set_aside : b.set_aside.items ≡ a.set_aside.items
   pub ended : b.proof.ended ≡ a.proof.ended
   pub last_job : b.last_job ≡ job
-  pub place : b.place ≡ (a.place + 1) % 6
+  pub place : b.place_in_round ≡ (a.place_in_round + 1) % 6
 
 pub claimed-pool :
     (a b : Inside) (n job left position : ℕ) (s : Registration)

@@ -43,8 +43,10 @@ module _ (a : Inside) (is : IsPool a) where
   abbrev r : PoolRecord
   r = record_of a
 
-  registered-fit : (length r.registered < 2 ^ 32) × (length r.positions ≤ length r.registered)
-  registered-fit = numbers_fit (origin_of a) (events_of a.history) is.inputs is.limit is.unsplit
+  pub registered-fit : (length r.registered < 2 ^ 32) × (length r.positions ≤ length r.registered)
+  registered-fit =
+      let forms = is.inputs.well_formed in
+      numbers_fit forms.usage (origin_of a) (events_of a.history) is.inputs is.limit forms.used (is.lawful forms.usage forms.used)
 
   pub positions-fit : length a.positions.items < 2 ^ 32
   positions-fit =

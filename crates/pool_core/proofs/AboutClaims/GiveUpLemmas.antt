@@ -263,7 +263,7 @@ pub record IsGivenUpBy (a b : Inside) (job : ℕ) (e : Event) : Type 0 where
   pub set_aside : b.set_aside.items ≡ a.set_aside.items
   pub ended : b.proof.ended ≡ a.proof.ended
   pub last_job : b.last_job ≡ a.last_job
-  pub place : b.place ≡ a.place
+  pub place : b.place_in_round ≡ a.place_in_round
 
 -- what is told of fewer jobs
 pub told-without : (job : ℕ) (r : PoolRecord) → AreOfRegistered r → AreOfRegistered (record r { given = without_job job r.given })

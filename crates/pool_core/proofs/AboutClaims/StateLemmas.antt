@@ -201,7 +201,7 @@ pub record KeepsAll (a b : Inside) : Type 0 where
   pub set_aside : b.set_aside.items ≡ a.set_aside.items
   pub ended : b.proof.ended ≡ a.proof.ended
   pub last_job : b.last_job ≡ a.last_job
-  pub place : b.place ≡ a.place
+  pub place : b.place_in_round ≡ a.place_in_round
 
 -- so they are of another table that knows more
 pub learned-all : (bank : Bank) (known learned : Table) (ss : List Registration) → KnowsMore known learned → All (IsOfTable bank known) ss → All (IsOfTable bank learned) ss

@@ -1,20 +1,16 @@
 -- The chains of a register: a walk down one finds the living copy of a clause exactly where there is one.
 use Rattle.std.proofs.Common.{◌≡◌, ℕ, zero, suc, ◌+◌, ◌<◌, ◌≤◌, Bool, true, false, List, [], ◌∷◌, ◌++◌, length, get_or, nat_eq, ◌⊎◌, inl, inr, ⊎_elim, if◌then◌else◌, refl, ap, sym, ◌∙◌, subst, true≢false, arith}
-use Rattle.std.specs.Prelude.{None, Some, cond, fold, is_none, position, slice_get}
+use Rattle.std.specs.Prelude.{None, Some, cond, is_none, position, slice_get}
 use Rattle.std.specs.Option.{unwrap_or}
 use Rattle.std.proofs.Math.ListN.{set}
 use Rattle.std.proofs.lemmas.Bool.{eqb-true, eq-eqb, and_parts, false_from_ne_true, cases_lt}
 use Rattle.std.proofs.lemmas.List.{get_or_append_left, length-append, length-map}
 use Rattle.std.proofs.lemmas.Option.{none-some, same_Some, slice_get_within}
 use Rattle.indexmap.specs.IndexMap.{get}
-use lib.Pointwise.{pointwise}
-use Rattle.term_bank.specs.Hash.{mixed}
-use Rattle.term_bank.specs.Literal.{same_numbers}
-use Rattle.term_bank.specs.declared.literal.BankLit.{BankLit}
 use Rattle.bank_clause.specs.Clause.{equal_by_numbers}
 use Rattle.bank_clause.specs.declared.clause.BankClause.{BankClause}
-use Rattle.bank_clause.proofs.EqualityLemmas.{same-parts}
-use Rattle.pool_core.specs.ClauseHash.{literal_hash, clause_hash}
+use Rattle.bank_clause.proofs.HashLemmas.{hashes-alike}
+use Rattle.bank_clause.specs.ClauseHash.{clause_hash}
 use Rattle.pool_core.specs.Register.{is_living_copy}
 use Rattle.pool_core.specs.RegisterLiving.{hashes, newest_below, IsChained, IsOnlyCopy}
 use Rattle.pool_core.specs.declared.chains.Chains.{Chains}
@@ -129,29 +125,12 @@ hashes-set (z ∷ ss) zero s t there same =
     ap (λ (k : ℕ). k ∷ hashes ss) (ap (λ (y : Registration). clause_hash y.clause) (same_Some z s there) ∙ ap clause_hash (sym same))
 hashes-set (z ∷ ss) (suc n) s t there same = ap (λ (ks : List ℕ). clause_hash z.clause ∷ ks) (hashes-set ss n s t there same)
 
--- clauses that are equal by numbers have one hash
-literals-alike : (hash : ℕ) (ls ms : List BankLit) → pointwise same_numbers ls ms ≡ true → fold literal_hash hash ls ≡ fold literal_hash hash ms
-literals-alike hash [] [] same = refl
-literals-alike hash [] (m ∷ ms) same = absurd (true≢false (sym same))
-literals-alike hash (l ∷ ls) [] same = absurd (true≢false (sym same))
-literals-alike hash (l ∷ ls) (m ∷ ms) same =
-    let both : (same_numbers l m ≡ true) × (pointwise same_numbers ls ms ≡ true) = and_parts (same_numbers l m) (pointwise same_numbers ls ms) same in
-    ap (λ k. fold literal_hash k ls) (one both.0) ∙ literals-alike (literal_hash hash m) ls ms both.1
-  where
-    one : same_numbers l m ≡ true → literal_hash hash l ≡ literal_hash hash m
-    one alike =
-        let parts = same-parts l m alike in
-        λ j. mixed (mixed (mixed hash (if parts.sign j then 1 else 0)) (parts.left j)) (parts.right j)
-
-alike : (c d : BankClause) → equal_by_numbers c d ≡ true → clause_hash c ≡ clause_hash d
-alike c d same = literals-alike 0 c.literals d.literals (and_parts (pointwise same_numbers c.literals d.literals) (pointwise nat_eq c.names d.names) same).0
-
 -- a clause of another hash is no copy
 other-hash : (c : BankClause) (hash : ℕ) (s : Registration) → clause_hash c ≡ hash → nat_eq (clause_hash s.clause) hash ≡ false → is_living_copy c s ≡ false
 other-hash c hash s is other =
     false_from_ne_true (is_living_copy c s) (λ copy.
     let parts = and_parts (is_none s.death) (equal_by_numbers c s.clause) copy in
-    true≢false (sym (eq-eqb (clause_hash s.clause) hash (sym (alike c s.clause parts.1) ∙ is)) ∙ other))
+    true≢false (sym (eq-eqb (clause_hash s.clause) hash (sym (hashes-alike c s.clause parts.1) ∙ is)) ∙ other))
 
 -- ---- the walk
 

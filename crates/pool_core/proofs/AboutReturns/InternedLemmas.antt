@@ -14,7 +14,7 @@ use Rattle.term_bank.specs.Literal.{AreLiteralsOf}
 use Rattle.term_bank.specs.declared.bank.Bank.{Bank}
 use Rattle.term_bank.specs.declared.table.Table.{Table}
 use Rattle.bank_clause.specs.Clause.{clause_at, IsKnown}
-use Rattle.pool_core.specs.ClauseHash.{clause_hash}
+use Rattle.bank_clause.specs.ClauseHash.{clause_hash}
 use Rattle.pool_history.specs.Counting.{is_heavy, keys_of}
 use Rattle.pool_history.specs.Returning.{heavy_entries}
 use Rattle.pool_core.specs.Placing.{IsInterned, AreInterned, AreResults, KnowsMore, IsFitResult, line_count}

@@ -27,9 +27,9 @@ use Rattle.pool_history.specs.declared.options.Options.{Options}
 use Rattle.pool_core.specs.declared.pool.Pool.TheInside.{Inside}
 use Rattle.pool_core.specs.declared.register.Registration.{Registration}
 use Rattle.pool_core.proofs.AboutClaims.ClaimLemmas.{told-now}
+use Rattle.pool_core.proofs.AboutClaims.FitLemmas.{registered-fit}
 use Rattle.pool_core.proofs.AboutClaims.GiveUpLemmas.{IsGivenUpBy, given_up, given-up-state, length-without, ready-dead}
 use Rattle.pool_core.proofs.AboutBeginnings.LivingLemmas.{no-death}
-use Rattle.pool_history.proofs.AboutRecords.NumberLemmas.{numbers_fit}
 use Rattle.pool_history.proofs.AboutRecords.PlaceLemmas.{has-first}
 use Rattle.pool_core.proofs.AboutReturns.ProofStateLemmas.{death-at}
 use Rattle.pool_history.proofs.AboutRecords.ItemLemmas.{all-at}
@@ -66,7 +66,7 @@ dead-has-event r n dead none = true≢false (sym (ap is_none none) ∙ no-death 
 pub dead-fits : (a : Inside) (n : ℕ) → IsPool a → has_died (record_of a).deaths n ≡ true → n < 2 ^ 32
 dead-fits a n is dead =
     let below : n < length (record_of a).registered = by (record_of a).deaths is.state.proof.of_registered.victims dead in
-    let fit = (numbers_fit (origin_of a) (events_of a.history) is.inputs is.limit is.unsplit).0 in
+    let fit = (registered-fit a is).0 in
     omega (arith, below, fit)
   where
     by : (ds : List Death) → All (λ (d : Death). d.victim < length (record_of a).registered) ds → has_died ds n ≡ true → n < length (record_of a).registered

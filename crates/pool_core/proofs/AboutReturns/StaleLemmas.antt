@@ -94,7 +94,7 @@ pub record IsTurnedDownBy (a b : Inside) (e : Event) : Type 0 where
   pub counted : keys_in b.counted ≡ keys_in a.counted
   pub set_aside : b.set_aside.items ≡ a.set_aside.items
   pub last_job : b.last_job ≡ a.last_job
-  pub place : b.place ≡ a.place
+  pub place : b.place_in_round ≡ a.place_in_round
 
 module _ (a b : Inside) (job justifier : ℕ) (is : IsPool a) (by : IsTurnedDownBy a b (Stale job justifier)) where
   abbrev was : PoolRecord

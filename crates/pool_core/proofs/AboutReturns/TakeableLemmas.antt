@@ -36,6 +36,7 @@ use Rattle.pool_core.proofs.AboutReturns.ProofStateLemmas.{lives-here}
 use Rattle.pool_core.proofs.AboutReturns.RightBatchLemmas.{fit-work}
 use Rattle.pool_history.proofs.AboutCounting.KnownLemmas.{justifiers-known}
 use Rattle.pool_history.proofs.AboutLines.BeginningLemmas.{registered_are_whole}
+use Rattle.pool_history.proofs.AboutLines.UnsplitLemmas.{unsplit-parts, whole-nameless}
 use Rattle.pool_history.proofs.AboutCounting.DeathLemmas.{below-count}
 use Rattle.pool_history.specs.Wholeness.{IsWhole}
 use Rattle.pool_history.proofs.AboutRecords.ItemLemmas.{all-at, item-at}
@@ -88,7 +89,7 @@ to-be-taken a batch n is takeable = record {
   found = right.out;
   same = same;
   fit =
-      fit-work wf.usage.is_predicate a.options (clauses_of r) right.given is.unsplit (λ n c there. (whole n c there).no_names) (λ n c there. (whole n c there).small)
+      fit-work wf.usage.is_predicate a.options (clauses_of r) right.given is.unsplit nameless (λ n c there. (whole n c there).small)
       batch.work (right.says wf.usage wf.used);
   allowed = λ usage used. record {
     given = right.given;
@@ -121,10 +122,14 @@ to-be-taken a batch n is takeable = record {
     wf : WellFormed (origin_of a).inputs
     wf = is.inputs.well_formed
 
-    whole : (n : ℕ) (c : TreeClause) → clauses_of r n ≡ Some c → IsWhole wf.usage c
+    whole : (n : ℕ) (c : TreeClause) → clauses_of r n ≡ Some c → IsWhole wf.usage (length r.parts) c
     whole =
-        registered-holds (IsWhole wf.usage) r
-        (registered_are_whole wf.usage (origin_of a) (events_of a.history) is.inputs wf.used is.unsplit (is.lawful wf.usage wf.used))
+        registered-holds (IsWhole wf.usage (length r.parts)) r
+        (registered_are_whole wf.usage (origin_of a) (events_of a.history) is.inputs wf.used (is.lawful wf.usage wf.used))
+
+    nameless : (n : ℕ) (c : TreeClause) → clauses_of r n ≡ Some c → c.names ≡ []
+    nameless n c there =
+        whole-nameless wf.usage (length r.parts) c (ap length (unsplit-parts (origin_of a) (events_of a.history) is.unsplit)) (whole n c there)
 
     same : right.given.number ≡ n
     same = ap (λ (j : GivenJob). j.number) (same_Some right.given out.given (sym right.out ∙ out.out)) ∙ out.says.0

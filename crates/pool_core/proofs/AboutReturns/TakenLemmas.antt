@@ -244,7 +244,7 @@ pub record IsTakenBy (a b : Inside) (batch : Batch) : Type 0 where
   pub before_len : vec_len b.notes_before ≡ vec_len a.notes_before + 1
   pub before_room : vec_capacity b.notes_before ≡ vec_capacity a.notes_before
   pub last_job : b.last_job ≡ a.last_job
-  pub place : b.place ≡ a.place
+  pub place : b.place_in_round ≡ a.place_in_round
 
 module _ (a b : Inside) (batch : Batch) (j : GivenJob) (aside : List Key) (s : PoolRecord) (is : IsPool a) (found : given_job (record_of a) batch.job ≡ Some j) where
   abbrev pub r : PoolRecord

@@ -18,7 +18,7 @@ pub outcome-says :
     → options.split ≡ false → SaturatedIsSaturated → (o : Outcome) → proved.outcome ≡ o
     → OutcomeSays formulas options (ended formulas options proved is) o
 outcome-says formulas options proved is unsplit saturates Refuted same =
-    let refuted : IsHerbrandRefuted formulas = herbrand-refuted formulas options proved is same unsplit in
+    let refuted : IsHerbrandRefuted formulas = herbrand-refuted formulas options proved is same in
     (refuted, λ closed. refuted-theorem formulas closed refuted)
 outcome-says formulas options proved is unsplit saturates Saturated same = ended-saturated formulas options proved is same unsplit saturates
 outcome-says formulas options proved is unsplit saturates (Spent count) same = has-counted formulas options proved is count same

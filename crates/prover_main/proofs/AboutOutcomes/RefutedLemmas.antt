@@ -25,7 +25,7 @@ use Rattle.clausal_form.specs.FormLaws.{arity_in, use_of}
 use Rattle.clausal_form.proofs.AboutForms.FunctionLemmas.{form-functions}
 use Rattle.clausal_form.proofs.AboutForms.WellFormedLemmas.{forms-are-well-formed}
 use Rattle.tstp_writer.specs.ReadableLines.{is_symbol_in}
-use Rattle.pool_history.specs.Derived.{is_function_term_of, IsPlainLine, ArePoolLines}
+use Rattle.pool_history.specs.Derived.{is_function_term_of, IsPoolLine, ArePoolLines}
 use Rattle.pool_history.specs.Inputs.{AreInputs, IsUseOf}
 use Rattle.pool_history.specs.Replay.{Origin}
 use Rattle.pool_history.specs.declared.options.Options.{Options}
@@ -97,20 +97,20 @@ module _ (symbols : List Symbol) (own : OwnFunctions symbols) where
       (bindings_of step) formed known
 
   lines-over :
-      (ls : List Line) → All (IsPlainLine (use_of symbols)) ls → list_all (λ (l : Line). binds_each is_known l.step) ls ≡ true
+      (ls : List Line) → All (IsPoolLine (use_of symbols)) ls → list_all (λ (l : Line). binds_each is_known l.step) ls ≡ true
       → BindsOver functions ls
   lines-over [] plain known = refl
   lines-over (l ∷ ls) plain known =
       let both = and_parts (binds_each is_known l.step) (list_all (λ (m : Line). binds_each is_known m.step) ls) known in
-      let is : IsPlainLine (use_of symbols) l = All-head (IsPlainLine (use_of symbols)) l ls plain in
+      let is : IsPoolLine (use_of symbols) l = All-head (IsPoolLine (use_of symbols)) l ls plain in
       and_from (binds_each (is_over functions) l.step) (list_all (λ (m : Line). binds_each (is_over functions) m.step) ls)
-      (step-over l.step is.terms both.0) (lines-over ls (All-tail (IsPlainLine (use_of symbols)) l ls plain) both.1)
+      (step-over l.step is.terms both.0) (lines-over ls (All-tail (IsPoolLine (use_of symbols)) l ls plain) both.1)
 
 -- ---- a refuted pool
 
 module _
     (formulas : List Annotated) (options : Options) (proved : ProvedPool) (is : IsProvedForm formulas options proved)
-    (same : proved.outcome ≡ outcome.Refuted) (unsplit : options.split ≡ false) where
+    (same : proved.outcome ≡ outcome.Refuted) where
   abbrev form : List TreeClause
   form = (clausal_form formulas).clauses
 
@@ -132,18 +132,15 @@ module _
       subst (λ (cs : List TreeClause). IsUseOf cs usage) begun
       (subst (λ (u : SymbolUse). IsUseOf form u) (forms-are-well-formed formulas).1 well.used)
 
-  alone : proved.pool.origin.options.split ≡ false
-  alone = ap (λ (o : Origin). o.options.split) is.pool.origin ∙ unsplit
-
   of_pool : ArePoolLines usage form lines
   of_pool =
       subst (λ (cs : List TreeClause). ArePoolLines usage cs lines) (sym begun)
-      (lines_are_derived usage proved.pool.origin proved.pool.history inputs used alone (lawful formulas options proved is))
+      (lines_are_derived usage proved.pool.origin proved.pool.history inputs used (lawful formulas options proved is))
 
   refutes : IsRefutation form lines
   refutes =
       subst (λ (cs : List TreeClause). IsRefutation cs lines) (sym begun)
-      (refuted_is_refutation usage proved.pool.origin proved.pool.history inputs used alone (lawful formulas options proved is)
+      (refuted_is_refutation usage proved.pool.origin proved.pool.history inputs used (lawful formulas options proved is)
       (cause formulas options proved is outcome.Refuted same))
 
   pub herbrand-refuted : IsHerbrandRefuted formulas
@@ -154,5 +151,5 @@ module _
         own = own;
         refuted =
             refutations_herbrand_refute (is_predicate_in (clausal_form formulas).symbols) own.functions form lines
-            (lines-over (clausal_form formulas).symbols own lines of_pool.plain known.1) refutes;
+            (lines-over (clausal_form formulas).symbols own lines of_pool.each known.1) refutes;
       }

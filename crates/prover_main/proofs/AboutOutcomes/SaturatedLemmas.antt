@@ -64,7 +64,7 @@ module _
   inputs = form-inputs formulas is.within
 
   have-met : MembersHaveMet → HaveMet symbols clauses options events (replay begun events)
-  have-met meet key c inferred = meet usage begun events key c inputs used unsplit history.lawful ends inferred
+  have-met meet key c inferred = meet usage begun events key c inputs used history.lawful ends inferred
 
   -- ---- the members are saturated
 
@@ -72,7 +72,7 @@ module _
     over-each :
         (functions : FunctionSymbols (is_predicate_in symbols)) → All (HasSymbolsOf functions) clauses
         → IsSaturated functions (mode_of options.select) clauses (members_of (replay begun events))
-    over-each functions all = saturates usage functions begun events inputs used unsplit all history.lawful ends
+    over-each functions all = saturates usage functions begun events inputs used all history.lawful ends
 
     own : OwnFunctions symbols
     own = form-functions formulas

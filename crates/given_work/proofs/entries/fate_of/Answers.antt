@@ -1,12 +1,11 @@
-use Rattle.std.proofs.Common.{ℕ, Option, ap, refl, sym, ◌∙◌, subst}
+use Rattle.std.proofs.Common.{ℕ, Option, refl, sym, ◌∙◌, subst}
 use Rattle.literal_selection.specs.Mode.{mode_of}
 use Rattle.demodulate.specs.Simplified.{IsSimplified}
 use Rattle.fol_base.specs.Literal.{clause_of}
-use Rattle.kernel_steps.specs.Names.{are_sorted}
 use Rattle.pool_history.specs.declared.batch.Fate.TheVariants.{Dropped}
 use Rattle.given_work.specs.Dropped.{outcome_by}
 use Rattle.given_work.proofs.AboutBatches.DroppedLemmas.{cause-right, dropped-fate}
-use Rattle.given_work.proofs.AboutBatches.EntryLemmas.{conclusion-formed, conclusion-small, outcome-right}
+use Rattle.given_work.proofs.AboutBatches.EntryLemmas.{conclusion-small, conclusion-sorted, outcome-right}
 use Rattle.given_work.proofs.entries.fate_of.Goals as goal
 
 pub simplify-requires-clause-canonical : goal.simplify-requires-clause-canonical
@@ -16,8 +15,7 @@ pub simplify-requires-clause-names : goal.simplify-requires-clause-names
 simplify-requires-clause-names c =
     let t = c.requires.concluded in
     let by = c.args.by.now in
-    ap are_sorted
-    (conclusion-formed t.usage t.mode t.clauses t.job by.equations.now by.units.now by.members.now t.sets t.key c.args.step c.args.clause t.concluded).no_names
+    conclusion-sorted t.usage t.mode t.clauses t.job by.equations.now by.units.now by.members.now t.sets t.key c.args.step c.args.clause t.concluded
 
 pub simplify-requires-clause-size : goal.simplify-requires-clause-size
 simplify-requires-clause-size c =
@@ -28,11 +26,9 @@ simplify-requires-clause-size c =
 pub returns-in-Some-clause-fate : goal.returns-in-Some-clause-fate
 returns-in-Some-clause-fate c = λ usage options clauses j key sets unsplit it.
     let by = c.args.by.now in
-    let formed =
-    conclusion-formed usage (mode_of options.select) clauses j by.equations.now by.units.now by.members.now sets key c.args.step c.args.clause it in
     outcome-right usage (mode_of options.select) clauses j by.equations.now by.units.now by.members.now sets key c.args.step c.args.clause it options unsplit refl
     (outcome_by c.in-Some.cause)
-    (cause-right by.equations.now by.units.now by.members.now c.args.dropped.now (clause_of c.args.clause) c.in-Some.cause c.requires.dropped formed.no_names
+    (cause-right by.equations.now by.units.now by.members.now c.args.dropped.now (clause_of c.args.clause) c.in-Some.cause c.requires.dropped
     (sym c.cause.ensures ∙ c.in-Some.is))
     (Dropped c.in-Some.cause) (dropped-fate c.args.step c.args.clause c.in-Some.cause)
 

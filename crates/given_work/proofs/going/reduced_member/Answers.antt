@@ -6,6 +6,7 @@ use Rattle.kernel_steps.specs.Names.{are_sorted}
 use Rattle.reduced_clause.specs.Reduced.{IsReduced}
 use Rattle.bank_clause.specs.Clause.{clause_at}
 use Rattle.given_work.proofs.AboutBatches.GoingLemmas.{reduced-by}
+use Rattle.given_work.proofs.AboutBatches.NameLemmas.{rising-sorted}
 use Rattle.given_work.proofs.going.reduced_member.Goals as goal
 
 pub reduce-requires-clause-names : goal.reduce-requires-clause-names
@@ -13,7 +14,7 @@ reduce-requires-clause-names c =
     let t = c.requires.told in
     let whole = t.sets.whole c.args.member.now.number (clause_at c.args.member.now.clause) t.there in
     let e : clause_of c.unreduced-reduced.result.clause ≡ clause_at c.args.member.now.clause = ap clause_of c.unreduced-reduced.ensures.same ∙ c.in_ok-clause.ensures.same in
-    ap (λ (d : TreeClause). are_sorted d.names) e ∙ ap are_sorted whole.no_names
+    ap (λ (d : TreeClause). are_sorted d.names) e ∙ rising-sorted (clause_at c.args.member.now.clause).names whole.asserts.rise
 
 pub reduce-requires-clause-size : goal.reduce-requires-clause-size
 reduce-requires-clause-size c =

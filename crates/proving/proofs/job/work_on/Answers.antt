@@ -13,7 +13,7 @@ learn-requires-clause-new c =
 pub work-requires-clause-told : goal.work-requires-clause-told
 work-requires-clause-told c =
     let pool = c.args.pool.now in
-    told_for_jobs_are_told pool.origin pool.history c.args.ticket.now c.in_ok-index.index.members c.history-history.ensures.inputs c.requires.index.unsplit
+    told_for_jobs_are_told pool.origin pool.history c.args.ticket.now c.in_ok-index.index.members c.history-history.ensures.inputs
     c.history-history.ensures.lawful
     (knows-told c.args.bank.now pool c.args.index c.in_ok-index.index c.args.ticket.now c.requires.index c.requires.ticket c.in_ok-index.ensures.index
     c.in_ok-index.ensures.of_bank)

@@ -14,7 +14,7 @@ learn-requires-clause-new c =
 pub work-requires-clause-told : goal.work-requires-clause-told
 work-requires-clause-told c =
     let pool = c.args.pool.now in
-    told_for_jobs_are_told pool.origin pool.history c.args.ticket.now c.in_ok-index-2.index.members c.history-history.ensures.inputs c.requires.pool.unsplit
+    told_for_jobs_are_told pool.origin pool.history c.args.ticket.now c.in_ok-index-2.index.members c.history-history.ensures.inputs
     c.history-history.ensures.lawful
     (knows pool c.in_ok-index.index c.in_ok-index-2.index c.options.result c.args.ticket.now c.in_ok-index.ensures c.in_ok-index-2.ensures.index c.requires.ticket)
 

@@ -24,17 +24,17 @@ invariant_of-self c =
       bank = refl;
       knows = λ ls known. known;
       register = refl;
-      positions = c.take_memory.ensures.positions;
+      positions = c.take_claim_memory.ensures.positions;
       pairs = refl;
       spare = omega arith;
-      jobs = c.in_err-take_memory.ensures.no_job;
-      history = c.take_memory.ensures.events;
-      history_len = c.take_memory.ensures.events_len;
-      history_room = c.take_memory.ensures.events_kept;
-      notes = c.take_memory.ensures.notes;
-      before = c.take_memory.ensures.before;
-      before_len = c.take_memory.ensures.before_len;
-      before_room = c.take_memory.ensures.before_kept;
+      jobs = c.in_err-take_claim_memory.ensures.no_job;
+      history = c.take_claim_memory.ensures.events;
+      history_len = c.take_claim_memory.ensures.events_len;
+      history_room = c.take_claim_memory.ensures.events_kept;
+      notes = c.take_claim_memory.ensures.notes;
+      before = c.take_claim_memory.ensures.before;
+      before_len = c.take_claim_memory.ensures.before_len;
+      before_room = c.take_claim_memory.ensures.before_kept;
       steps = refl;
       counted = refl;
       set_aside = refl;
@@ -56,11 +56,11 @@ invariant_of-self-2 c =
     let is : IsNextTicket (origin_of c.self.inside) (events_of c.self.inside.history) c.args.told c.args.number c.in_ok-ticket.ticket =
     subst (λ (v : PoolView). IsNextTicket v.origin v.history c.args.told c.args.number c.in_ok-ticket.ticket) (sym c.self.view_is) c.in_ok-ticket.ensures.next in
     let there = item-at c.self.inside.proof.register.clauses c.args.number (given-registered c.self.inside c.args.number c.self.invariant next) in
-    let many : c.len.result ≡ length c.self.inside.proof.notes.items = omega (arith, c.take_memory.new.notes.ok.0, ap length c.take_memory.ensures.notes) in
+    let many : c.len.result ≡ length c.self.inside.proof.notes.items = omega (arith, c.take_claim_memory.new.notes.ok.0, ap length c.take_claim_memory.ensures.notes) in
     claimed-pool c.self.inside _ c.args.number c.in_ok-ticket.ticket.job c.in_ok-ticket.ticket.left c.in_ok-ticket.ticket.position there.0
     c.self.invariant open_yet (nothing-to-solve c.self.inside r c.self.invariant.state) next there.1 is.job is.left is.position
-    (activated-by c.self.inside _ c.args.number c.in_ok-ticket.ticket.position there.0 c.take_memory.new.positions.items c.take_memory.new.notes.items
-    c.take_memory.ensures.positions c.take_memory.ensures.notes
+    (activated-by c.self.inside _ c.args.number c.in_ok-ticket.ticket.position there.0 c.take_claim_memory.new.positions.items c.take_claim_memory.new.notes.items
+    c.take_claim_memory.ensures.positions c.take_claim_memory.ensures.notes
     (c.activate.ensures.register there.0 there.1) c.activate.ensures.positions c.activate.ensures.notes)
     (record {
       origin = refl;
@@ -69,17 +69,17 @@ invariant_of-self-2 c =
       spare =
           one-spare c.remove.result c.self.inside.proof.queue.spare c.remove.new.self.spare
           (c.remove.ensures.found.1 (in-queue c.self.inside r c.args.number c.self.invariant.state next)) c.remove.ensures.spare;
-      jobs = c.in_ok-take_memory.ensures.jobs;
-      history = c.push.ensures.events ∙ ap (λ (es : List Event). es ++ Claim c.in_ok-ticket.ticket.job ∷ []) c.take_memory.ensures.events;
+      jobs = c.in_ok-take_claim_memory.ensures.jobs;
+      history = c.push.ensures.events ∙ ap (λ (es : List Event). es ++ Claim c.in_ok-ticket.ticket.job ∷ []) c.take_claim_memory.ensures.events;
       history_room =
-          let room = c.in_ok-take_memory.ensures.events_room in
-          omega (arith, room, c.push.ensures.len, c.push.ensures.room, c.take_memory.ensures.events_len);
+          let room = c.in_ok-take_claim_memory.ensures.events_room in
+          omega (arith, room, c.push.ensures.len, c.push.ensures.room, c.take_claim_memory.ensures.events_len);
       before =
-          c.push_reserved.ensures.items ∙ ap (λ (ks : List ℕ). ks ++ c.len.result ∷ []) c.take_memory.ensures.before
+          c.push_reserved.ensures.items ∙ ap (λ (ks : List ℕ). ks ++ c.len.result ∷ []) c.take_claim_memory.ensures.before
           ∙ ap (λ (k : ℕ). c.self.inside.notes_before.items ++ k ∷ []) many;
       before_room =
-          let room = c.in_ok-take_memory.ensures.before_room in
-          omega (arith, room, c.push_reserved.ensures.len, c.push_reserved.ensures.capacity, c.take_memory.ensures.before_len);
+          let room = c.in_ok-take_claim_memory.ensures.before_room in
+          omega (arith, room, c.push_reserved.ensures.len, c.push_reserved.ensures.capacity, c.take_claim_memory.ensures.before_len);
       steps = refl;
       counted = refl;
       set_aside = refl;
@@ -103,7 +103,7 @@ returns-clause-job c = c.in_ok-ticket.ensures.next.job
 pub returns-clause-history : goal.returns-clause-history
 returns-clause-history c =
     c.push.ensures.events
-    ∙ ap (λ (es : List Event). es ++ Claim c.in_ok-ticket.ticket.job ∷ []) (c.take_memory.ensures.events ∙ ap (λ (v : PoolView). v.history) c.self.view_is)
+    ∙ ap (λ (es : List Event). es ++ Claim c.in_ok-ticket.ticket.job ∷ []) (c.take_claim_memory.ensures.events ∙ ap (λ (v : PoolView). v.history) c.self.view_is)
 
 pub returns-clause-ticket : goal.returns-clause-ticket
 returns-clause-ticket c =
@@ -111,7 +111,7 @@ returns-clause-ticket c =
     subst (λ (v : PoolView). Rising 0 (replay v.origin v.history).jobs (replay v.origin v.history).given) c.self.view_is (pool-rises c.self.inside c.self.invariant) in
     subst (λ (es : List Event). IsTicket c.args.self.now.origin es c.args.told c.in_ok-ticket.ticket)
     (sym (c.push.ensures.events
-    ∙ ap (λ (es : List Event). es ++ Claim c.in_ok-ticket.ticket.job ∷ []) (c.take_memory.ensures.events ∙ ap (λ (v : PoolView). v.history) c.self.view_is)))
+    ∙ ap (λ (es : List Event). es ++ Claim c.in_ok-ticket.ticket.job ∷ []) (c.take_claim_memory.ensures.events ∙ ap (λ (v : PoolView). v.history) c.self.view_is)))
     (claimed-ticket c.args.self.now.origin c.args.self.now.history c.args.told c.args.number c.in_ok-ticket.ticket rise c.requires.next c.requires.told c.in_ok-ticket.ensures.next)
 
 pub returns-clause-of_bank : goal.returns-clause-of_bank

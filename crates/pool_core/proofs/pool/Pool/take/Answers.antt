@@ -21,8 +21,8 @@ use Rattle.pool_core.proofs.AboutReturns.TakenLemmas.{taken-pool, without, worke
 use Rattle.pool_core.proofs.AboutReturns.TakeableLemmas.{IsToBeTaken, to-be-taken, after-worked, open-record, work-of, noted-since}
 use Rattle.pool_core.proofs.pool.Pool.take.Goals as goal
 
-pub take_memory-memory-requires-clause-fit : goal.take_memory-memory-requires-clause-fit
-take_memory-memory-requires-clause-fit g c =
+pub take_return_memory-memory-requires-clause-fit : goal.take_return_memory-memory-requires-clause-fit
+take_return_memory-memory-requires-clause-fit g c =
     let to : IsToBeTaken c.self.inside c.args.batch c.args.number =
     to-be-taken c.self.inside c.args.batch c.args.number c.self.invariant
     (subst (λ (v : PoolView). IsTakeable v.origin v.history c.args.number c.args.batch) (sym c.self.view_is) c.requires.takeable) in
@@ -33,24 +33,24 @@ invariant_of-self g c =
     let bank_is : c.self.inside.table.bank ≡ c.args.bank.now = ap (λ (v : PoolView). v.bank) c.self.view_is ∙ c.requires.bank in
     kept-pool c.self.inside _ c.self.invariant (record {
       origin = refl;
-      bank = c.take_memory-memory.ensures.table ∙ sym bank_is;
-      knows = c.take_memory-memory.ensures.knows;
-      register = c.take_memory-memory.ensures.clauses;
+      bank = c.take_return_memory-memory.ensures.table ∙ sym bank_is;
+      knows = c.take_return_memory-memory.ensures.knows;
+      register = c.take_return_memory-memory.ensures.clauses;
       positions = refl;
-      pairs = c.take_memory-memory.ensures.pairs;
-      spare = c.take_memory-memory.ensures.spare;
+      pairs = c.take_return_memory-memory.ensures.pairs;
+      spare = c.take_return_memory-memory.ensures.spare;
       jobs = refl;
       history = refl;
       history_len = refl;
       history_room = omega arith;
-      notes = c.take_memory-memory.ensures.notes;
+      notes = c.take_return_memory-memory.ensures.notes;
       before = refl;
       before_len = refl;
       before_room = omega arith;
-      steps = c.take_memory-memory.ensures.steps;
-      counted = c.take_memory-memory.ensures.counted;
+      steps = c.take_return_memory-memory.ensures.steps;
+      counted = c.take_return_memory-memory.ensures.counted;
       set_aside = c.in_default.ensures.not_set_aside;
-      ended = c.take_memory-memory.ensures.ended;
+      ended = c.take_return_memory-memory.ensures.ended;
       last_job = refl;
       place = refl;
     })
@@ -65,7 +65,7 @@ work-requires-clause-living g c =
     let to : IsToBeTaken c.self.inside c.args.batch c.args.number =
     to-be-taken c.self.inside c.args.batch c.args.number c.self.invariant
     (subst (λ (v : PoolView). IsTakeable v.origin v.history c.args.number c.args.batch) (sym c.self.view_is) c.requires.takeable) in
-    subst (λ (ss : List Registration). IsLiving ss c.args.number) (sym c.take_memory-memory.ensures.clauses) to.living
+    subst (λ (ss : List Registration). IsLiving ss c.args.number) (sym c.take_return_memory-memory.ensures.clauses) to.living
 
 pub work-requires-clause-given : goal.work-requires-clause-given
 work-requires-clause-given g c =
@@ -81,12 +81,12 @@ work-requires-clause-work g c =
     (subst (λ (v : PoolView). IsTakeable v.origin v.history c.args.number c.args.batch) (sym c.self.view_is) c.requires.takeable) in
     let bank_is : c.self.inside.table.bank ≡ c.args.bank.now = ap (λ (v : PoolView). v.bank) c.self.view_is ∙ c.requires.bank in
     let s : PoolRecord = without c.self.inside.options c.args.batch.job (record_of c.self.inside) in
-    subst (λ (b : Batch). IsSomeWork c.args.bank.now c.take_memory-memory.new.proof c.args.number b.work c.in-Ok.prepared) (sym c.push_return-work.ensures.batch) (
-      c.take_memory-memory.new.table,
+    subst (λ (b : Batch). IsSomeWork c.args.bank.now c.take_return_memory-memory.new.proof c.args.number b.work c.in-Ok.prepared) (sym c.push_return-work.ensures.batch) (
+      c.take_return_memory-memory.new.table,
       s,
       map (pair_of s) (ready s),
-      work-of c.self.inside c.args.batch c.args.number c.args.bank.now c.take_memory-memory.new.table c.take_memory-memory.new.proof c.in-Ok.prepared to c.self.invariant bank_is
-          c.take_memory-memory.ensures.knows c.take_memory-memory.ensures.clauses c.take_memory-memory.ensures.pairs c.take_memory-memory.ensures.steps c.take_memory-memory.ensures.ended c.in-Ok.ensures.prepared,
+      work-of c.self.inside c.args.batch c.args.number c.args.bank.now c.take_return_memory-memory.new.table c.take_return_memory-memory.new.proof c.in-Ok.prepared to c.self.invariant bank_is
+          c.take_return_memory-memory.ensures.knows c.take_return_memory-memory.ensures.clauses c.take_return_memory-memory.ensures.pairs c.take_return_memory-memory.ensures.steps c.take_return_memory-memory.ensures.ended c.in-Ok.ensures.prepared,
     )
 
 pub invariant_of-self-2 : goal.invariant_of-self-2
@@ -99,27 +99,27 @@ invariant_of-self-2 g c =
     let s : PoolRecord = without c.self.inside.options c.args.batch.job r in
     let t : PoolRecord = worked c.self.inside.options to.given.number c.args.batch.work s in
     let pairs : List (ℕ × ℕ) = map (pair_of s) (ready s) in
-    let table : Table = c.take_memory-memory.new.table in
+    let table : Table = c.take_return_memory-memory.new.table in
     let many : c.len-2.result ≡ length c.self.inside.proof.notes.items =
-    omega (arith, c.take_memory-memory.new.proof.notes.ok.0, ap length c.take_memory-memory.ensures.notes) in
+    omega (arith, c.take_return_memory-memory.new.proof.notes.ok.0, ap length c.take_return_memory-memory.ensures.notes) in
     let moment : c.len-event.result ≡ s.events =
     c.len-event.ensures ∙ sym (event-count (origin_of c.self.inside) (events_of c.self.inside.history)) in
-    let keys : keys_in c.take_memory-memory.new.counted ≡ s.counted = c.take_memory-memory.ensures.counted ∙ c.self.invariant.state.counted in
-    let is : IsWorkOf c.args.bank.now table c.take_memory-memory.new.proof c.args.number c.push_return-work.result.work c.in-Ok.prepared pairs s =
-    subst (λ (b : Batch). IsWorkOf c.args.bank.now table c.take_memory-memory.new.proof c.args.number b.work c.in-Ok.prepared pairs s) (sym c.push_return-work.ensures.batch)
-    (work-of c.self.inside c.args.batch c.args.number c.args.bank.now c.take_memory-memory.new.table c.take_memory-memory.new.proof c.in-Ok.prepared to c.self.invariant bank_is
-    c.take_memory-memory.ensures.knows c.take_memory-memory.ensures.clauses c.take_memory-memory.ensures.pairs c.take_memory-memory.ensures.steps c.take_memory-memory.ensures.ended c.in-Ok.ensures.prepared) in
+    let keys : keys_in c.take_return_memory-memory.new.counted ≡ s.counted = c.take_return_memory-memory.ensures.counted ∙ c.self.invariant.state.counted in
+    let is : IsWorkOf c.args.bank.now table c.take_return_memory-memory.new.proof c.args.number c.push_return-work.result.work c.in-Ok.prepared pairs s =
+    subst (λ (b : Batch). IsWorkOf c.args.bank.now table c.take_return_memory-memory.new.proof c.args.number b.work c.in-Ok.prepared pairs s) (sym c.push_return-work.ensures.batch)
+    (work-of c.self.inside c.args.batch c.args.number c.args.bank.now c.take_return_memory-memory.new.table c.take_return_memory-memory.new.proof c.in-Ok.prepared to c.self.invariant bank_is
+    c.take_return_memory-memory.ensures.knows c.take_return_memory-memory.ensures.clauses c.take_return_memory-memory.ensures.pairs c.take_return_memory-memory.ensures.steps c.take_return_memory-memory.ensures.ended c.in-Ok.ensures.prepared) in
     let state : IsCountedStateOf c.args.bank.now table c.work.new.self (keys_in c.work.new.counted) t =
     subst (λ k. IsCountedStateOf c.args.bank.now table c.work.new.self (keys_in c.work.new.counted) (worked c.self.inside.options k c.args.batch.work s)) (sym to.same)
     (subst (λ (b : Batch). IsCountedStateOf c.args.bank.now table c.work.new.self (keys_in c.work.new.counted) (worked c.self.inside.options c.args.number b.work s)) c.push_return-work.ensures.batch
     (c.work.ensures.worked table s pairs moment is keys)) in
-    let noted : NotesDeaths s t c.take_memory-memory.new.proof.notes.items c.work.new.self.notes.items =
-    subst (λ k. NotesDeaths s (worked c.self.inside.options k c.args.batch.work s) c.take_memory-memory.new.proof.notes.items c.work.new.self.notes.items) (sym to.same)
-    (subst (λ (b : Batch). NotesDeaths s (worked c.self.inside.options c.args.number b.work s) c.take_memory-memory.new.proof.notes.items c.work.new.self.notes.items) c.push_return-work.ensures.batch
+    let noted : NotesDeaths s t c.take_return_memory-memory.new.proof.notes.items c.work.new.self.notes.items =
+    subst (λ k. NotesDeaths s (worked c.self.inside.options k c.args.batch.work s) c.take_return_memory-memory.new.proof.notes.items c.work.new.self.notes.items) (sym to.same)
+    (subst (λ (b : Batch). NotesDeaths s (worked c.self.inside.options c.args.number b.work s) c.take_return_memory-memory.new.proof.notes.items c.work.new.self.notes.items) c.push_return-work.ensures.batch
     (c.work.ensures.noted table s pairs moment is keys)) in
     let room : HasRoom c.work.new.self [] 0 c.len.result =
     c.work.ensures.room c.len.result
-    (subst (λ (b : Batch). HasRoom c.take_memory-memory.new.proof (lines_of_entries (entries_of b.work) ++ lines_of_removals (removals_of b.work)) (length (removals_of b.work)) c.len.result)
+    (subst (λ (b : Batch). HasRoom c.take_return_memory-memory.new.proof (lines_of_entries (entries_of b.work) ++ lines_of_removals (removals_of b.work)) (length (removals_of b.work)) c.len.result)
     (sym c.push_return-work.ensures.batch) c.in-Ok.ensures.room) in
     taken-pool c.self.inside _ c.args.batch to.given (heavy_keys_of c.args.batch.work) t c.self.invariant to.found
     (after-worked c.self.inside.options c.args.batch r to.given to.found
@@ -139,11 +139,11 @@ invariant_of-self-2 g c =
       place = refl;
     })
     (worked-follows c.self.inside.options c.args.batch.job to.given.number c.args.batch.work r)
-    (subst (λ (k : Bank). IsProofStateOf k table c.work.new.self t) (sym c.take_memory-memory.ensures.table) state.proof)
+    (subst (λ (k : Bank). IsProofStateOf k table c.work.new.self t) (sym c.take_return_memory-memory.ensures.table) state.proof)
     state.keys
     c.in-Ok.ensures.set_aside
-    (noted-since c.self.inside.options c.args.batch.job r t c.take_memory-memory.new.proof.notes.items c.work.new.self.notes.items c.self.inside.proof.notes.items noted
-    c.take_memory-memory.ensures.notes)
+    (noted-since c.self.inside.options c.args.batch.job r t c.take_return_memory-memory.new.proof.notes.items c.work.new.self.notes.items c.self.inside.proof.notes.items noted
+    c.take_return_memory-memory.ensures.notes)
     (let count = given-count c.self.inside r c.self.invariant.state in
     let enough = room.queue in
     omega (arith, count, enough, c.len.ensures.len))

@@ -1,15 +1,20 @@
 use Rattle.std.proofs.Common.{◌≡◌, ◌≤◌, List, [], ◌∷◌, ◌++◌, ap, sym, ◌∙◌, subst, arith}
 use Rattle.std.specs.Prelude.{false}
 use Rattle.fol_base.specs.Clause.{TreeClause}
+use Rattle.fol_base.specs.Literal.{clause_of}
 use Rattle.kernel_steps.specs.declared.step.Line.{Line}
 use Rattle.bank_clause.proofs.SidesLemmas.{known-literals-kept}
 use Rattle.pool_history.specs.Counting.{result_comes}
 use Rattle.pool_core.specs.Placing.{HasRoom, IsInterned}
 use Rattle.pool_core.specs.Started.{with_input}
 use Rattle.pool_core.specs.State.{IsProofStateOf}
-use Rattle.pool_core.proofs.AboutBeginnings.InputLemmas.{input_line, input-interned, input-state}
+use Rattle.pool_core.proofs.AboutBeginnings.InputLemmas.{input_line, input-ended, input-interned, input-state}
 use Rattle.pool_core.proofs.AboutClaims.StateLemmas.{kept-proof}
 use Rattle.pool_core.proofs.pool.ProofState.take_input.Goals as goal
+
+pub returns-then-is_some-clause-comes : goal.returns-then-is_some-clause-comes
+returns-then-is_some-clause-comes g c = λ r is.
+    input-ended c.args.bank.now c.args.table.now c.args.self.now r c.args.number (clause_of c.args.input.now) (sym c.is_some.ensures ∙ c.if-is_some.true) is
 
 pub arrive-requires-clause-arrival : goal.arrive-requires-clause-arrival
 arrive-requires-clause-arrival g c =

@@ -1,6 +1,6 @@
 use Rattle.std.proofs.Common.{◌≡◌, ◌+◌, ◌∷◌, [], ◌++◌, length, refl, sym, ap, subst, ◌∙◌, arith}
 use Rattle.std.specs.Prelude.{ℕ, None, false, List, position}
-use Rattle.pool_core.specs.ClauseHash.{clause_hash}
+use Rattle.bank_clause.specs.ClauseHash.{clause_hash}
 use Rattle.pool_core.specs.Register.{is_living_copy}
 use Rattle.pool_core.specs.RegisterCode.{Registrations}
 use Rattle.pool_core.specs.RegisterLiving.{IsChained, IsOnlyCopy, hashes}

@@ -3,7 +3,7 @@ use Rattle.pool_history.specs.Counting.{lines_of_entries}
 use Rattle.pool_core.specs.Placing.{HasRoom, entries_of, lines_of_removals}
 use Rattle.pool_history.specs.Returning.{removals_of}
 use Rattle.pool_core.proofs.AboutReturns.InternedLemmas.{results-count}
-use Rattle.pool_core.proofs.taking.take_memory.Goals as goal
+use Rattle.pool_core.proofs.taking.take_return_memory.Goals as goal
 
 pub returns-clause-room : goal.returns-clause-room
 returns-clause-room g c =
