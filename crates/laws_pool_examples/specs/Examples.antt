@@ -226,8 +226,8 @@ split_history =
 abbrev pub sharing : Origin
 sharing = pool_of (clause (p (x 0) ∷ q (x 1) ∷ []) ∷ clause (p (x 0) ∷ not_q (x 1) ∷ []) ∷ [])
 
--- p(a), p(X0), q(a) and q(b), of which p(X0) removes p(a); q(a) is to go by a clause, to leave p(X0) or q(X1), and q(b), to leave r or not p(X0):
--- the replay asks nothing of a batch
+-- Four units: p(a), p(X0), q(a) and q(b). One batch proposes three removals: p(X0) removes p(a); the clause of a number removes q(a), with the
+-- result p(X0) or q(X1); and p(X0) removes q(b), with the result r or not p(X0). The batch isn't right, but the replay doesn't ask this.
 abbrev pub four_units : Origin
 four_units = pool_of (clause (p a ∷ []) ∷ clause (p (x 0) ∷ []) ∷ clause (q a ∷ []) ∷ clause (q b ∷ []) ∷ [])
 
@@ -246,7 +246,7 @@ falling_by justifier =
     ∷ []))
     ∷ []
 
--- p(X0) removes p(a) while the job on q(a) is out, whose batch is refused then; and the clause goes by p(X0)
+-- p(X0) removes p(a) while the job on q(a) is out. The batch of that job is refused; the next one removes q(a) by p(X0).
 abbrev pub refused_split : List Event
 refused_split = Claim 1 ∷ Claim 2 ∷ Claim 3 ∷ return 2 (Met [] (removal 0 (1 ∷ []) (Dropped (Subsumed 1)) ∷ [])) ∷ Stale 3 0 ∷ []
 

@@ -58,14 +58,14 @@ pub fn shared_part()
         ≡ (positive_of 0 ∷ positive_of 1 ∷ []) ∷ (positive_of 0 ∷ positive_of 2 ∷ []) ∷ [] }
 {}
 
-/// Tags are given in the order in which results come: a removal that is left out, since its justifier died before, brings none.
+/// Tags are given in the order in which results come. A removal that has no effect, since its justifier died before, brings none.
 pub fn tags_in_order()
     ensures all { (replay four_units (falling_by 1)).parts
         ≡ (p (x 0) ∷ []) ∷ (q (x 0) ∷ []) ∷ (r ∷ []) ∷ (not_p (x 0) ∷ []) ∷ [] }
     ensures one_left_out { (replay four_units (falling_by 0)).parts ≡ (r ∷ []) ∷ (not_p (x 0) ∷ []) ∷ [] }
 {}
 
-/// A batch that is refused brings no parts; the next one for the job does.
+/// A batch that is refused brings no parts. The next batch for the same job does.
 pub fn refused_parts()
     ensures none { (replay four_units refused_split).parts ≡ [] }
     ensures job_out { map (λ (j : GivenJob). j.job) (replay four_units refused_split).given ≡ 1 ∷ 3 ∷ [] }

@@ -68,7 +68,7 @@ SaturatedIsSaturated =
     → outcome_of (replay origin history) ≡ Some Saturated
     → IsSaturated functions (mode_of origin.options.select) origin.inputs (members_of (replay origin history))
 
--- The final model makes every propositional clause true.
+-- Under that outcome the model makes every propositional clause true.
 abbrev pub SaturatedHasModel : Type 0
 SaturatedHasModel =
     (is_predicate : ℕ → Bool) (origin : Origin) (history : List Event)
@@ -76,7 +76,8 @@ SaturatedHasModel =
     → let r = replay origin history in
     outcome_of r ≡ Some Saturated → IsTrue (clauses_true (valuation_of r.model) (propositional_clauses r))
 
--- And each inference that is named among the members was met: it was counted and not set aside, and the job of its last premise found it.
+-- Under that outcome each inference that is named among the members was met: it was counted and not set aside, and the job of its last premise
+-- found it.
 abbrev pub MembersHaveMet : Type 0
 MembersHaveMet =
     (usage : SymbolUse) (origin : Origin) (history : List Event) (key : Key) (c : TreeClause)

@@ -102,7 +102,7 @@ SolverJobsStayOut =
     → (replay origin history).solver ≡ Some s → IsFalse (list_any (ends_job s.job) later)
     → let r = replay origin (history ++ later) in (r.solver ≡ Some s) × (handed r s ≡ handed (replay origin history) s)
 
--- A job that an event ended is out no more, and no later job has its number.
+-- Once an event has ended a job, no job with its number is out again.
 abbrev pub EndedJobsAreGone : Type 0
 EndedJobsAreGone =
     (is_predicate : ℕ → Bool) (origin : Origin) (history : List Event) (job : ℕ)
@@ -134,7 +134,7 @@ OutcomesStay =
     → IsLawful is_predicate origin (history ++ later) → outcome_of (replay origin history) ≡ Some outcome
     → outcome_of (replay origin (history ++ later)) ≡ Some outcome
 
--- An outcome that stands though no event fixed it comes by rest: nothing is to be done and no job is out. So no event follows it.
+-- Where an outcome stands that no event fixed, the pool is at rest: nothing is left to do, and no job is out. So no event follows.
 abbrev pub NothingFollowsRest : Type 0
 NothingFollowsRest =
     (is_predicate : ℕ → Bool) (origin : Origin) (history later : List Event) (outcome : Outcome)
@@ -164,12 +164,12 @@ CountedOnce =
     → let r = replay origin history in
     AllPairs (λ k l. k ≢ l) r.counted × All (IsCounted is_predicate origin.options r) r.counted
 
--- the removal is of the clause that died, by those that justify the death
+-- the removal has the dead clause as its victim, and the justifiers of the death
 abbrev pub is_removal_of : Death → Removal → Bool
 is_removal_of d m = (m.victim == d.victim) && pointwise ◌==◌ m.justifiers d.justifiers
 
--- The clause died in the return of a batch, by a removal that has a reduced result for its place. Of two removals of that clause by those justifiers
--- the first takes effect.
+-- The clause died in the return of a batch, by a removal that has a reduced result in its place. If the batch has several removals of that
+-- clause by those justifiers, the first takes effect.
 pub record IsReducedDeath (history : List Event) (d : Death) : Type 0 where
   pub batch : Batch
   pub returned : slice_get history d.event ≡ Some (Return batch)
@@ -177,7 +177,7 @@ pub record IsReducedDeath (history : List Event) (d : Death) : Type 0 where
   pub proposed : find (is_removal_of d) (removals_of batch.work) ≡ Some removal
   pub kept : IsTrue (is_some (lines_of_fate removal.fate))
 
--- A clause was counted as replaced exactly where it died so.
+-- A clause was counted as replaced exactly if it died so.
 abbrev pub ReplacedWereReduced : Type 0
 ReplacedWereReduced =
     (is_predicate : ℕ → Bool) (origin : Origin) (history : List Event) (n : ℕ)

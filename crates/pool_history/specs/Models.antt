@@ -14,21 +14,21 @@ use Rattle.pool_history.specs.Lawful.{IsLawful}
 use Rattle.pool_history.specs.Inputs.{AreInputs, IsUseOf}
 use Rattle.pool_history.specs.declared.event.Event.{Event}
 
--- Propositional clauses only come: so for every list of events, lawful or not.
+-- Propositional clauses are only added. This holds for every list of events, lawful or not.
 abbrev pub PropositionalClausesStay : Type 0
 PropositionalClausesStay =
     (origin : Origin) (history later : List Event)
     → (more : List (List NameLit))
     × (propositional_clauses (replay origin (history ++ later)) ≡ propositional_clauses (replay origin history) ++ more)
 
--- So what is right for the clauses that a job was told stays right for them.
+-- So an answer that is right for the clauses of a job stays right for them, whatever comes while the job is out.
 abbrev pub AnswersStayRight : Type 0
 AnswersStayRight =
     (origin : Origin) (history later : List Event) (s : SolverJob) (answer : Answer)
     → (replay origin history).solver ≡ Some s → IsRightAnswer s.names (handed (replay origin history) s) answer
     → IsRightAnswer s.names (handed (replay origin (history ++ later)) s) answer
 
--- The model makes true each propositional clause that it is of.
+-- The model makes the first `modelled` propositional clauses true.
 abbrev pub ModelsAreRight : Type 0
 ModelsAreRight =
     (is_predicate : ℕ → Bool) (origin : Origin) (history : List Event)
@@ -36,7 +36,7 @@ ModelsAreRight =
     → let r = replay origin history in
     (r.modelled ≤ length r.propositional) × IsTrue (clauses_true (valuation_of r.model) (take r.modelled (propositional_clauses r)))
 
--- A pool at rest, which a saturated one is, has a model that makes every propositional clause true.
+-- The model of a pool at rest makes every propositional clause true. A saturated pool is at rest.
 abbrev pub RestingModels : Type 0
 RestingModels =
     (is_predicate : ℕ → Bool) (origin : Origin) (history : List Event)
@@ -44,7 +44,7 @@ RestingModels =
     → let r = replay origin history in
     IsTrue (is_at_rest r) → IsTrue (clauses_true (valuation_of r.model) (propositional_clauses r))
 
--- The names in propositional clauses are those of parts that were met: they are below the count that the solver is told.
+-- The names in propositional clauses are names of parts that were met: they are below the number of names that the solver is told.
 abbrev pub NamesAreMet : Type 0
 NamesAreMet =
     (usage : SymbolUse) (origin : Origin) (history : List Event)

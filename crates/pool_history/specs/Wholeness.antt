@@ -16,8 +16,8 @@ use Rattle.pool_history.specs.declared.event.Event.{Event}
 
 -- ---- clauses
 
--- canonical, its names assertions of the first so many parts, no larger than a clause may be that is kept, and well-formed under a use of the
--- symbols
+-- The clause is canonical and no larger than a kept clause may be. Its names are assertions, of tags below the number of parts. Its literals
+-- are well-formed under a use of the symbols.
 pub record IsWhole (usage : SymbolUse) (parts : ℕ) (c : TreeClause) : Type 0 where
   pub canonical : IsCanonical c
   pub asserts : AreAssertions c.names
@@ -25,8 +25,8 @@ pub record IsWhole (usage : SymbolUse) (parts : ℕ) (c : TreeClause) : Type 0 w
   pub small : clause_size c ≤ MOST_SYMBOLS
   pub formed : IsTrue (are_literals_of usage c.literals)
 
--- The registered clauses are whole, their assertions of parts that were met, and all under each use of the symbols that is the inputs': so they are
--- well-formed together.
+-- The registered clauses are whole, and assert parts that were met. They are so under each use of the symbols that is that of the inputs: so
+-- they are well-formed together.
 abbrev pub RegisteredAreWhole : Type 0
 RegisteredAreWhole =
     (usage : SymbolUse) (origin : Origin) (history : List Event)
@@ -34,14 +34,14 @@ RegisteredAreWhole =
     → let r = replay origin history in
     All (λ (c : Registered). IsWhole usage (length r.parts) c.clause) r.registered
 
--- Where splitting is on no registered clause, and so no member, falls into two parts: none is to be split. So for every list of events, lawful or
--- not.
+-- Where splitting is on, no registered clause falls into two parts; so no member does. This holds for every list of events, lawful or not.
 abbrev pub RegisteredAreOnePart : Type 0
 RegisteredAreOnePart =
     (origin : Origin) (history : List Event)
     → All (λ (c : Registered). IsFalse (is_to_split origin.options.split c.clause.literals)) (replay origin history).registered
 
--- A registered clause keeps its number, and a dead one stays dead: both only come. So for every list of events, lawful or not.
+-- Registered clauses and deaths are only added: a clause keeps its number, and a dead clause stays dead. This holds for every list of events,
+-- lawful or not.
 abbrev pub ClausesStay : Type 0
 ClausesStay =
     (origin : Origin) (history later : List Event)

@@ -1,5 +1,5 @@
--- Clauses that are awake under a choice of true names: each clause that is used on an awake clause is awake, what moves lead to is as awake as
--- before, and an inference from awake premises concludes an awake clause.
+-- Clauses that are awake under a choice of true names. A clause that is used on an awake clause is awake. Moves lead from an awake clause to an
+-- awake one. An inference with awake premises concludes an awake clause.
 use Rattle.std.proofs.Common.{◌≡◌, ℕ, Bool, true, false, ◌&&◌, ◌||◌, List, [], ◌∷◌, ◌++◌, refl, ap, sym, ◌∙◌, ⊎_elim, if◌then◌else◌}
 use Rattle.std.specs.Prelude.{Option, None, Some, unwrap_or}
 use Rattle.std.specs.List.{list_all, cons_option}
@@ -22,7 +22,7 @@ use Rattle.pool_history.specs.Outcomes.{premises}
 use Rattle.pool_history.proofs.AboutCounting.DeathLemmas.{among-pass}
 use Rattle.pool_history.proofs.AboutLines.AssertionLemmas.{all-sorted}
 
--- truth values of the names, and the parts whose tags clauses assert: a history's last ones
+-- truth values of the names, and the parts that give the tags their names: those of the last record of a history
 pub record NameChoice : Type 0 where
   pub truth : Valuation
   pub parts : List (List TreeLiteral)
@@ -35,7 +35,7 @@ module _ (choice : NameChoice) where
   abbrev pub awake : TreeClause → Bool
   awake c = is_awake_under choice.truth choice.parts c
 
-  -- a clause that is looked up: one that isn't there is awake
+  -- the clause that a look-up gives; where there is none, the empty clause, which is awake
   abbrev pub awake_at : Option TreeClause → Bool
   awake_at o = awake (unwrap_or o empty_clause)
 
@@ -57,7 +57,7 @@ module _ (choice : NameChoice) where
     move-names c d None move = ⊎_elim (λ trivial. trivial.names) (λ merging. merging.names) move
     move-names c d (Some n) move = ⊎_elim (λ rewrites. rewrites.names) (λ cuts. cuts.names) move.infers
 
-    -- the unit of a move, if there is one, stands before those of others
+    -- the unit of the first move, if it has one, is awake if the clause is
     move-awake :
         (c d : TreeClause) (by : Option ℕ) (ns : List ℕ) → IsMove is_predicate clauses c by d → awake c ≡ true
         → list_all (λ n. awake_at (clauses n)) ns ≡ true → list_all (λ n. awake_at (clauses n)) (cons_option by ns) ≡ true
@@ -82,7 +82,7 @@ module _ (choice : NameChoice) where
 
   -- ---- inferences
 
-  -- names are asserted and hold, or aren't assertions
+  -- a positive name, or the assertion of a tag whose name is true
   abbrev passes : NameLit → Bool
   passes n = n.positive || holds n.name
 

@@ -1,4 +1,5 @@
--- A clause that falls into parts is due no more: where it is awake, one of its parts is, which is registered or lives; and a part covers the clause.
+-- A clause that falls into parts is due no more. If it is awake, one of its parts is awake, and this part lives after the split. A part covers the
+-- clause.
 use Rattle.std.proofs.Common.{◌≡◌, ℕ, ◌+◌, ◌-◌, ◌<◌, Bool, true, false, not, ◌||◌, ◌==◌, List, [], ◌∷◌, map, length, refl, ap, sym, ◌∙◌, subst, inl, inr, ⊎_elim, arith}
 use Rattle.std.specs.Prelude.{fold, flat_map, Contains, nat_lt}
 use Rattle.std.specs.List.{list_any, list_all}
@@ -38,7 +39,7 @@ use Rattle.laws_saturation.proofs.AboutCarried.VictimLemmas.{Victims}
 
 -- ---- parts
 
--- a component that is listed
+-- a place of a component is one of the places of all components
 has-listed : (kss : List (List ℕ)) (ks : List ℕ) (j : ℕ) → In ks kss → has_number j ks ≡ true → has_number j (flat_map (λ is. is) kss) ≡ true
 has-listed [] ks j there has = absurd there
 has-listed (is ∷ kss) ks j there has =
@@ -76,7 +77,7 @@ rising-different k (j ∷ js) rises =
       and_from (not (list_any (λ i. j == i) js)) (all_different js) (not_from_false (list_any (λ i. j == i) js) later.0) later.1,
     )
   where
-    -- none below those from which they rise
+    -- none of them is at most the number from which they rise
     none : (from : ℕ) (is : List ℕ) → rises_from from is ≡ true → (n : ℕ) → n < from + 1 → list_any (λ i. n == i) is ≡ false
     none from [] rises n low = refl
     none from (i ∷ is) rises n low =
@@ -101,7 +102,7 @@ module _ {is_predicate : ℕ → Bool} (choice : NameChoice) (functions : Functi
   abbrev Opened : PoolRecord → List TreeClause → Type 0
   Opened r due = Open choice functions mode inputs r due
 
-  -- what stays where tags are given
+  -- what giving tags keeps
   record IsKept (r s : PoolRecord) (due : List TreeClause) : Type 0 where
     opened : Opened r due → Opened s due
     victims : Victims r → Victims s
@@ -118,13 +119,13 @@ module _ {is_predicate : ℕ → Bool} (choice : NameChoice) (functions : Functi
 
   -- ---- the parts are registered
 
-  -- the parts are those that the tags are of
+  -- after parts were registered under their tags: the clauses that lived still do, and so do the parts
   record HaveCome (parts : List (List TreeLiteral)) (qs : List (List TreeLiteral)) (r s : PoolRecord) (due : List TreeClause) : Type 0 where
     opened : Opened s due
     stay : (d : TreeClause) → Living r.registered r.deaths d → Living s.registered s.deaths d
     lives : (q : List TreeLiteral) → In q qs → Living s.registered s.deaths (part_clause parts q)
 
-  -- one part
+  -- after one part was
   record HasCome (parts : List (List TreeLiteral)) (q : List TreeLiteral) (r s : PoolRecord) (due : List TreeClause) : Type 0 where
     victims : Victims s
     one_opened : Opened s due
@@ -172,7 +173,7 @@ module _ {is_predicate : ℕ → Bool} (choice : NameChoice) (functions : Functi
 
   -- ---- a part covers the clause
 
-  -- one that is held under its tag
+  -- if it is held under its tag
   part-covers :
       (c : TreeClause) (parts : List (List TreeLiteral)) (ks : List ℕ) (Holds : TreeClause → Type 0)
       → In ks (components_of c.literals) → Holds (part_clause parts (canonical_literals (literals_at c.literals ks))) → CoversEach functions Holds c
@@ -206,7 +207,7 @@ module _ {is_predicate : ℕ → Bool} (choice : NameChoice) (functions : Functi
       last : PoolRecord
       last = split_up c r
 
-      -- its assertions are of parts that were met before
+      -- the clause asserts parts that were met before
       met : list_all (is_assertion_below (length parts)) c.names ≡ true
       met =
           let longer = (tags-grown qs r).longer in
@@ -225,7 +226,7 @@ module _ {is_predicate : ℕ → Bool} (choice : NameChoice) (functions : Functi
       come : HaveCome parts qs (divided c r) last (c ∷ due)
       come = parts-come qs (divided c r) (c ∷ due) some (kept.victims victims) (kept.opened opened)
 
-      -- the choice fits what the propositional clause was put into
+      -- the choice fits the record before the parts are registered
       fits_divided : Fits choice (divided c r)
       fits_divided =
           subst (λ ps. IsFit choice parts ps) (clauses-propositional qs (divided c r))

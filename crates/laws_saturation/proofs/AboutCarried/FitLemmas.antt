@@ -1,5 +1,5 @@
--- A choice of true names fits a record where it makes the propositional clauses true, over the tags that were given. Each clause that comes brings
--- tags and propositional clauses in alone: so a choice that fits a record fits each earlier one.
+-- A choice of true names fits a record if it makes the record's propositional clauses true, and gives the record's tags the names that they have
+-- there. A clause that comes only adds parts and propositional clauses: so a choice that fits a record fits each earlier one.
 use Rattle.std.proofs.Common.{◌≡◌, ℕ, ◌<◌, ◌≤◌, Bool, true, false, not, List, [], ◌∷◌, ◌++◌, map, length, refl, ap, sym, ◌∙◌, subst, ⊎_elim, arith, if◌then◌else◌}
 use Rattle.std.specs.Prelude.{nat_lt, fold}
 use mathlib.Core.Bool.{beq}
@@ -31,7 +31,7 @@ use Rattle.laws_saturation.proofs.AboutCarried.AwakeLemmas.{NameChoice, holds, a
 
 -- ---- parts that were met
 
--- further parts leave the tags their signed names
+-- there are more parts, and each tag keeps its signed name
 pub record HasGrown (ps qs : List (List TreeLiteral)) : Type 0 where
   pub longer : length ps ≤ length qs
   pub stays : (tag : ℕ) → tag < length ps → name_of_tag qs tag ≡ name_of_tag ps tag
@@ -59,7 +59,7 @@ tags-grown (q ∷ qs) r =
     grown-then r.parts (with_tag r q).parts (fold with_tag r (q ∷ qs)).parts (subst (HasGrown r.parts) (sym (tag-parts r q)) (part-grown r.parts q))
     (tags-grown qs (with_tag r q))
 
--- parts that are registered bring no tags and no propositional clauses
+-- registering parts adds no tag and no propositional clause
 pub clauses-parts : (qs : List (List TreeLiteral)) (r : PoolRecord) → (fold with_part_clause r qs).parts ≡ r.parts
 clauses-parts [] r = refl
 clauses-parts (q ∷ qs) r =
@@ -85,7 +85,7 @@ part_names c r = map (signed_name (tagged c r).parts) (parts_of c.literals)
 abbrev pub split_names : TreeClause → PoolRecord → List NameLit
 split_names c r = sorted_names (line_names (tagged c r).parts c.names ++ part_names c r)
 
--- the tags are given, and the propositional clause is put
+-- the record in which the parts have their tags and the propositional clause is there, before the parts are registered
 abbrev pub divided : TreeClause → PoolRecord → PoolRecord
 divided c r =
     with_split (Split (last_number r) (map (definition_of (tagged c r).lines) (part_names c r)) (components_of c.literals)) (split_names c r) (tagged c r)
@@ -111,7 +111,7 @@ comes-grown split lines c r =
     none : HasGrown r.parts r.parts
     none = grown-same r.parts
 
--- so many parts were met
+-- at least that many parts were met
 abbrev pub HasParts : ℕ → List (List TreeLiteral) → List Registered → Type 0
 HasParts count parts registered = count ≤ length parts
 
@@ -204,7 +204,7 @@ module _ (choice : NameChoice) where
             (λ (later : list_any (literal_true choice.truth) (opposites ns) ≡ true). rest later both.1)
             (or_cases (literal_true choice.truth (opposite (name_of_tag parts n.name))) (list_any (literal_true choice.truth) (opposites ns)) some)
 
-    -- a clause whose line's names have a true one isn't awake
+    -- a clause isn't awake if one of the names on its line is true
     pub not-awake :
         (c : TreeClause) → list_all (is_assertion_below (length parts)) c.names ≡ true → clause_true choice.truth (line_names parts c.names) ≡ true
         → awake choice c ≡ true → ⊥
@@ -212,7 +212,7 @@ module _ (choice : NameChoice) where
         asserted-false c.names below
         (sym (list_any-sorted_names (literal_true choice.truth) (map (λ tag. opposite (name_of_tag parts tag)) (assertions c.names))) ∙ some) is
 
-    -- of the names of a split a part's is true, or the clause isn't awake
+    -- if the propositional clause of a split is true and the clause is awake, the name of a part is true
     pub split-true :
         (c : TreeClause) (ns : List NameLit) → list_all (is_assertion_below (length parts)) c.names ≡ true
         → clause_true choice.truth (sorted_names (line_names parts c.names ++ ns)) ≡ true

@@ -19,7 +19,7 @@ pub fn saturated_is_saturated()
     ensures { SaturatedIsSaturated }
 {}
 
-/// Under the outcome Saturated the model, by which clauses are members or not, makes every propositional clause true.
+/// Under the outcome Saturated the model, under which the members are awake, makes every propositional clause true.
 pub fn saturated_has_model()
     ensures { SaturatedHasModel }
 {}

@@ -1,5 +1,5 @@
--- Jobs that an event ended: none is out with such a number, and no later job gets it, since numbers rise. The solver's job never has the number of
--- a job on a given clause.
+-- Once an event has ended a job, no job with its number is out again: the numbers of jobs rise, and the solver's job never has the number of a job
+-- on a given clause.
 use Rattle.std.proofs.Common.{◌≡◌, ℕ, suc, ◌<◌, ◌≤◌, Bool, true, false, not, ◌==◌, ◌⊎◌, inl, inr, List, [], ◌∷◌, ◌++◌, map, refl, ap, sym, ◌∙◌, subst, ⊎_elim, arith, if◌then◌else◌}
 use Rattle.std.specs.Prelude.{Option, None, Some, cond, is_none, fold, find}
 use Rattle.std.specs.List.{list_any}
@@ -54,7 +54,7 @@ none-without job other (j ∷ js) none = by (j.job == job) refl (j.job == other)
     by false one true is rest = rest is
     by false one false is rest = ap (λ b. cond b (Some j) (found job (without_job other js))) one ∙ rest is
 
--- what a job's end leaves
+-- after a job ends, none has its number
 none-own : (job : ℕ) (js : List GivenJob) → NoneOf job (without_job job js)
 none-own job [] = refl
 none-own job (j ∷ js) = by (j.job == job) refl (none-own job js)
@@ -82,7 +82,7 @@ none-retold job other r (j ∷ js) none = by (j.job == job) refl (j.job == other
     by false one false is rest = ap (λ b. cond b (Some j) (found job others)) one ∙ rest is
 
 module _ (is_predicate : ℕ → Bool) (options : Options) where
-  -- numbers above all that were given are of no job
+  -- a number above all that were given
   none-above : (job low high : ℕ) (js : List GivenJob) → Rising low high js → high < job → NoneOf job js
   none-above job low high js rise above = by (found job js) refl
     where
@@ -166,7 +166,7 @@ module _ (is_predicate : ℕ → Bool) (options : Options) where
 
   -- ---- numbers of jobs that are out
 
-  -- the solver's job has the number of no other
+  -- no job on a given clause has the number of the solver's job
   record AreApart (r : PoolRecord) : Type 0 where
     numbered : AreNumbered is_predicate options r
     apart : (s : SolverJob) → r.solver ≡ Some s → NoneOf s.job r.given
@@ -198,7 +198,7 @@ module _ (is_predicate : ℕ → Bool) (options : Options) where
       old : (e : Event) (s : SolverJob) → r.solver ≡ Some s → r.jobs < s.job → NoneOf s.job (after options r e).given
       old e s out next = let below = solver-below r s is.numbered out in absurd (omega (arith, below, next))
 
-      -- only the solver's own claim brings one
+      -- only a claim of the solver brings one
       new : (e : Event) → IsAllowed is_predicate options r e → (s : SolverJob) → (after options r e).solver ≡ Some s → r.jobs < s.job → NoneOf s.job (after options r e).given
       new (ClaimSolve job) allowed s out next = above s next
       new (Claim job) allowed s out next =

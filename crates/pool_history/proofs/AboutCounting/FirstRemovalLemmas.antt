@@ -1,4 +1,4 @@
--- Removals of one clause by the same justifiers: of those that a batch proposes the first takes effect, and no other does.
+-- Removals of one clause by the same justifiers: if one of those that a batch proposes takes effect, it is the first.
 use lib.Pointwise.{pointwise}
 use Rattle.std.proofs.Common.{◌≡◌, ℕ, Bool, true, false, not, ◌&&◌, ◌==◌, List, [], ◌∷◌, ◌++◌, length, refl, ap, ap₂, sym, ◌∙◌, inl, inr}
 use Rattle.std.specs.Prelude.{Some, cond, is_none, nat_lt, find}
@@ -31,14 +31,14 @@ find-first p [] rest x none passes = ap (λ b. cond b (Some x) (find p rest)) pa
 find-first p (y ∷ ys) rest x none passes =
     ap (λ b. cond b (Some y) (find p (ys ++ x ∷ rest))) (none y (inl refl)) ∙ find-first p ys rest x (λ z there. none z (inr there)) passes
 
--- a death that a removal brings in the event of that place
+-- the death that a removal brings in the event at that place
 abbrev pub death_by : ℕ → Removal → Death
 death_by event m = record { victim = m.victim; event = event; justifiers = m.justifiers }
 
 pub own-removal : (event : ℕ) (m : Removal) → is_removal_of (death_by event m) m ≡ true
 own-removal event m = and_from (m.victim == m.victim) (pointwise ◌==◌ m.justifiers m.justifiers) (eq-eqb m.victim m.victim refl) (numbers-same m.justifiers)
 
--- a removal of the same clause by the same justifiers takes effect where the other does
+-- a removal of the same clause by the same justifiers takes effect exactly if the other does
 pub same-effect :
     (event : ℕ) (m n : Removal) (r : PoolRecord) → is_removal_of (death_by event m) n ≡ true → takes_effect r n ≡ takes_effect r m
 same-effect event m n r same =
@@ -50,7 +50,7 @@ same-effect event m n r same =
 abbrev pub AreRegistered : ℕ → Removal → Type 0
 AreRegistered count m = list_all (λ n. nat_lt n count) (m.victim ∷ m.justifiers) ≡ true
 
--- where it had no effect in an open pool, it has none later
+-- a removal that has no effect in an open pool has none later
 pub no-effect-later :
     (r s : PoolRecord) (m : Removal) → is_none r.ended ≡ true → AreRegistered (length r.registered) m → ((ds : List Death) × (s.deaths ≡ r.deaths ++ ds))
     → takes_effect r m ≡ false → takes_effect s m ≡ false
@@ -73,7 +73,7 @@ no-effect-later r s m is_open registered deaths none = by (takes_effect s m) ref
         (live (m.victim ∷ m.justifiers) registered (and_parts (is_none s.ended) (list_all (lives s) (m.victim ∷ m.justifiers)) is).1))
         ∙ none))
 
--- nor has it again, once it had
+-- a removal whose victim is dead has no effect
 pub no-effect-again : (s : PoolRecord) (m : Removal) → has_died s.deaths m.victim ≡ true → takes_effect s m ≡ false
 no-effect-again s m died = by (takes_effect s m) refl
   where

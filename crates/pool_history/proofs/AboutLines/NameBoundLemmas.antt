@@ -1,4 +1,4 @@
--- The names in propositional clauses are below the count of the parts that were met, as far as they are named.
+-- The names in propositional clauses are below the number of names.
 use Rattle.std.proofs.Common.{◌≡◌, ℕ, ◌<◌, ◌≤◌, Bool, true, false, not, List, [], ◌∷◌, ◌++◌, map, length, refl, sym, ◌∙◌, subst, arith, if◌then◌else◌}
 use Rattle.std.specs.Prelude.{nat_lt, slice_index_or}
 use Rattle.std.specs.List.{list_all, AllByRecursion}
@@ -32,7 +32,7 @@ signed-below parts (p ∷ ps) there =
     and_from (is_below (name_count parts) (signed_name parts p)) (list_all (is_below (name_count parts)) (map (signed_name parts) ps))
     (part-name-below parts p there.0) (signed-below parts ps there.1)
 
--- those that stand for assertions
+-- the names that stand for assertions on lines
 pub line-names-below :
     (parts : List (List TreeLiteral)) (ns : List NameLit) → list_all (is_assertion_below (length parts)) ns ≡ true
     → list_all (is_below (name_count parts)) (line_names parts ns) ≡ true
@@ -59,7 +59,7 @@ line-names-below parts ns below =
             and_from (is_below (name_count parts) (opposite (name_of_tag parts n.name)))
             (list_all (is_below (name_count parts)) (map (λ tag. opposite (name_of_tag parts tag)) (assertions ns))) here rest
 
--- both
+-- the names of a split's propositional clause
 pub split-names-below :
     (count : ℕ) (ns ms : List NameLit) → list_all (is_below count) ns ≡ true → list_all (is_below count) ms ≡ true
     → list_all (is_below count) (sorted_names (ns ++ ms)) ≡ true

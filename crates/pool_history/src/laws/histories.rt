@@ -29,7 +29,7 @@ pub fn outcomes_stay()
     ensures { OutcomesStay }
 {}
 
-/// An outcome that comes by rest is the end: no event follows it.
+/// No event follows an outcome that comes by rest.
 pub fn nothing_follows_rest()
     ensures { NothingFollowsRest }
 {}
@@ -84,7 +84,7 @@ pub fn counted_once()
     ensures { CountedOnce }
 {}
 
-/// A clause was counted as replaced exactly where it died with a reduced result.
+/// A clause was counted as replaced exactly if it died with a reduced result in its place.
 pub fn replaced_were_reduced()
     ensures { ReplacedWereReduced }
 {}
@@ -95,7 +95,7 @@ pub fn jobs_stay_out()
     ensures solver { SolverJobsStayOut }
 {}
 
-/// A job that an event ended is out no more, and no later job has its number.
+/// Once an event has ended a job, no job with its number is out again.
 pub fn ended_jobs_are_gone()
     ensures { EndedJobsAreGone }
 {}
