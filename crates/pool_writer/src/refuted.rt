@@ -9,7 +9,6 @@ ghost use Rattle.clausal_form.specs.Form.{form_of};
 ghost use Rattle.pool_history.specs.Outcomes.{outcome_of};
 ghost use Rattle.pool_history.specs.Replay.{replay};
 ghost use Rattle.pool_history.specs.declared.outcome.Outcome.TheVariants.{Refuted};
-ghost use Rattle.pool_writer.specs.Retraced.{steps_of};
 ghost use Rattle.tstp_writer.specs.Printable.{IsShown};
 ghost use Rattle.tstp_writer.specs.ProblemLaws.{ArePrintableEntries};
 ghost use Rattle.pool_writer.specs.Refuted.{IsPoolRefutation, IsRefutationText};
@@ -38,7 +37,7 @@ pub fn write_refutation(
     requires size { HasProblemSize problem.now.formulas }
     requires printable { ArePrintableEntries problem.now.formulas }
     requires file { IsShown file.now }
-    ensures written { IfOk result (IsRefutationText file.now problem.now.formulas (steps_of (replay pool.now.origin pool.now.history).lines)) }
+    ensures written { IfOk result (IsRefutationText file.now problem.now.formulas (replay pool.now.origin pool.now.history).lines) }
     ensures accepted { IfOk result (λ text. (count : ℕ) × IsAcceptedDerivation problem.now.formulas text count) }
 {
     prove_refuted(problem, form, pool);
