@@ -1,7 +1,9 @@
 -- Refutations made again from their steps.
 pub mod ExampleLemmas
 pub mod RisingLemmas
+pub mod NameLemmas
 pub mod StepLemmas
 pub mod NeededLemmas
 pub mod RetraceLemmas
 pub mod CarryLemmas
+pub mod ClauseLemmas

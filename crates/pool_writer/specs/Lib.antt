@@ -1,3 +1,4 @@
+pub mod Bodies
 pub mod Retraced
 pub mod RetracedLaws
 pub mod RetracedExamples

@@ -22,7 +22,7 @@ pub fn refuting_steps_go_back()
 
 /// Of five lines the first isn't needed, so each other one moves up.
 pub fn retracing_examples()
-    ensures refuting { AreRefutingSteps opposites (steps_of with_unneeded) }
+    ensures refuting { AreRefutingSteps opposites [] (steps_of with_unneeded) }
     ensures needed { IsStepCone (steps_of with_unneeded) 4 needed_numbers }
     ensures unneeded_kept { IsStepCone (steps_of with_unneeded) 4 (0 ∷ needed_numbers) → ⊥ }
     ensures place { place_among needed_numbers 3 ≡ 2 }
