@@ -2,6 +2,7 @@
 pub mod ClaimedRecords
 pub mod HandLemmas
 pub mod HistoryLemmas
+pub mod ModelLemmas
 pub mod PickLemmas
 pub mod SolverLemmas
 pub mod StayingLemmas

@@ -1,10 +1,21 @@
 -- Whole clauses, steps and lines, and the logs of the solver.
+pub mod AssertionLemmas
 pub mod BeginningLemmas
 pub mod FinestLemmas
 pub mod FormedLemmas
 pub mod JoinedLemmas
 pub mod LogLemmas
+pub mod NamedStepLemmas
+pub mod NameTableLemmas
+pub mod NewNameLemmas
+pub mod OnePartLemmas
+pub mod PartLemmas
 pub mod PoolLineLemmas
 pub mod ReachedLemmas
+pub mod RefutationLemmas
 pub mod SizeLemmas
 pub mod SoundLemmas
+pub mod SplitLineLemmas
+pub mod SplitSoundLemmas
+pub mod UnsplitLemmas
+pub mod WrittenLemmas

@@ -8,3 +8,4 @@ pub mod JobNumberLemmas
 pub mod NewsLemmas
 pub mod NumberLemmas
 pub mod PlaceLemmas
+pub mod WalkLemmas

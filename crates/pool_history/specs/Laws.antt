@@ -3,6 +3,7 @@ use Rattle.std.specs.Prelude.{◌≡◌, ◌≢◌, ◌⊎◌, ℕ, ◌+◌, ◌
 use Rattle.std.specs.List.{list_any, list_all, range_with_len}
 use Rattle.fol_base.specs.Clause.{TreeClause, clause_size}
 use Rattle.fol_base.specs.Selection.{SelectionMode}
+use Rattle.fol_base.specs.WellFormed.{SymbolUse}
 use Rattle.kernel_steps.specs.Named.{IsInference}
 use Rattle.kernel_steps.specs.Sized.{IsSizedInference}
 use Rattle.kernel_steps.specs.declared.key.Key.{Key}
@@ -18,7 +19,7 @@ use Rattle.pool_history.specs.Counting.{lines_of_fate}
 use Rattle.pool_history.specs.Returning.{removals_of}
 use Rattle.pool_history.specs.Solving.{handed}
 use Rattle.pool_history.specs.Events.{job_of}
-use Rattle.pool_history.specs.Inputs.{AreInputs, IsLimit, IsRightBatch}
+use Rattle.pool_history.specs.Inputs.{AreInputs, IsLimit, IsUseOf, IsRightBatch}
 use Rattle.pool_history.specs.declared.options.Options.{Options}
 use Rattle.pool_history.specs.declared.batch.Batch.{Batch}
 use Rattle.pool_history.specs.declared.batch.Removal.{Removal}
@@ -108,11 +109,11 @@ PositionsStay =
     (origin : Origin) (history later : List Event)
     → (more : List ℕ) × ((replay origin (history ++ later)).positions ≡ (replay origin history).positions ++ more)
 
--- Where nothing is split, the numbers of clauses and their positions have 32 bits, for every list of events, lawful or not.
+-- The numbers of clauses and their positions have 32 bits: an inference that is counted has a result of few parts.
 abbrev pub NumbersFit : Type 0
 NumbersFit =
-    (origin : Origin) (history : List Event)
-    → AreInputs origin.inputs → IsLimit origin.options → origin.options.split ≡ false
+    (usage : SymbolUse) (origin : Origin) (history : List Event)
+    → AreInputs origin.inputs → IsLimit origin.options → IsUseOf origin.inputs usage → IsLawful usage.is_predicate origin history
     → let r = replay origin history in (length r.registered < 2 ^ 32) × (length r.positions ≤ length r.registered)
 
 -- ---- outcomes

@@ -17,6 +17,7 @@ pub mod Answers
 pub mod Saturated
 pub mod Inputs
 pub mod Laws
+pub mod Models
 pub mod Wholeness
 pub mod Derived
 pub mod Told

@@ -1,11 +1,13 @@
 -- Laws of what is registered, for every list of events: whole clauses, and positions and jobs that hold their numbers.
-use Rattle.std.specs.Prelude.{◌≡◌, ◌≢◌, ℕ, ◌≤◌, Bool, false, ◌&&◌, nat_lt, List, [], length, All, AllPairs, IsTrue}
+use Rattle.std.specs.Prelude.{◌≢◌, ℕ, ◌<◌, ◌≤◌, Bool, ◌&&◌, nat_lt, List, length, All, AllPairs, IsTrue, IsFalse}
 use Rattle.std.specs.List.{list_all}
 use Rattle.fol_base.specs.Clause.{TreeClause, clause_size}
 use Rattle.fol_base.specs.Canonical.{IsCanonical}
 use Rattle.fol_base.specs.WellFormed.{SymbolUse, are_literals_of}
 use Rattle.fol_base.specs.declared.limits.TheConstants.{MOST_SYMBOLS}
 use Rattle.kernel_steps.specs.Split.{has_number}
+use Rattle.bank_clause.specs.Clause.{AreAssertions}
+use Rattle.pool_history.specs.Components.{is_to_split}
 use Rattle.pool_history.specs.Record.{Registered, GivenJob}
 use Rattle.pool_history.specs.Replay.{Origin, replay}
 use Rattle.pool_history.specs.Lawful.{IsLawful}
@@ -14,21 +16,30 @@ use Rattle.pool_history.specs.declared.event.Event.{Event}
 
 -- ---- clauses
 
--- canonical, without names, no larger than a clause may be that is kept, and well-formed under a use of the symbols
-pub record IsWhole (usage : SymbolUse) (c : TreeClause) : Type 0 where
+-- canonical, its names assertions of the first so many parts, no larger than a clause may be that is kept, and well-formed under a use of the
+-- symbols
+pub record IsWhole (usage : SymbolUse) (parts : ℕ) (c : TreeClause) : Type 0 where
   pub canonical : IsCanonical c
-  pub no_names : c.names ≡ []
+  pub asserts : AreAssertions c.names
+  pub met : All (λ n. n.name < parts) c.names
   pub small : clause_size c ≤ MOST_SYMBOLS
   pub formed : IsTrue (are_literals_of usage c.literals)
 
--- Where nothing is split, the registered clauses are whole, all under each use of the symbols that is the inputs': so they are well-formed
--- together.
+-- The registered clauses are whole, their assertions of parts that were met, and all under each use of the symbols that is the inputs': so they are
+-- well-formed together.
 abbrev pub RegisteredAreWhole : Type 0
 RegisteredAreWhole =
     (usage : SymbolUse) (origin : Origin) (history : List Event)
-    → AreInputs origin.inputs → IsUseOf origin.inputs usage → origin.options.split ≡ false
-    → IsLawful usage.is_predicate origin history
-    → All (λ (c : Registered). IsWhole usage c.clause) (replay origin history).registered
+    → AreInputs origin.inputs → IsUseOf origin.inputs usage → IsLawful usage.is_predicate origin history
+    → let r = replay origin history in
+    All (λ (c : Registered). IsWhole usage (length r.parts) c.clause) r.registered
+
+-- Where splitting is on no registered clause, and so no member, falls into two parts: none is to be split. So for every list of events, lawful or
+-- not.
+abbrev pub RegisteredAreOnePart : Type 0
+RegisteredAreOnePart =
+    (origin : Origin) (history : List Event)
+    → All (λ (c : Registered). IsFalse (is_to_split origin.options.split c.clause.literals)) (replay origin history).registered
 
 -- ---- positions and jobs
 

@@ -70,7 +70,7 @@ module _
     (usage : SymbolUse) (functions : FunctionSymbols usage.is_predicate) (inputs : List TreeClause)
     (options : Options) (unsplit : options.split ≡ false)
     (registered : List Registered) (symbols : (n : ℕ) (c : TreeClause) → Lookup registered n ≡ Some c → HasSymbolsOf functions c)
-    (formed : (n : ℕ) (c : TreeClause) → Lookup registered n ≡ Some c → IsFormed usage c) (j : GivenJob) where
+    (formed : (n : ℕ) (c : TreeClause) → Lookup registered n ≡ Some c → IsFormed usage 0 c) (j : GivenJob) where
   abbrev the_mode : SelectionMode
   the_mode = mode_of options.select
 

@@ -1,5 +1,5 @@
 -- Each event of a lawful history keeps the state of an open pool, and what is covered. The inputs that are registered first make both.
-use Rattle.std.proofs.Common.{◌≡◌, ℕ, suc, Bool, true, false, List, [], ◌∷◌, ◌++◌, append-nil, append_assoc, refl, sym, ◌∙◌, subst, inr}
+use Rattle.std.proofs.Common.{◌≡◌, ℕ, suc, ◌+◌, Bool, true, false, List, [], ◌∷◌, ◌++◌, map, length, append-nil, append_assoc, refl, sym, subst, inr}
 use Rattle.std.specs.Prelude.{Option, None, Some, is_none, fold}
 use Rattle.std.specs.List.{list_all, AllByRecursion}
 use Rattle.std.proofs.lemmas.Bool.{true≢false}
@@ -13,14 +13,16 @@ use Rattle.kernel_steps.specs.declared.step.Step.TheVariants.{Clausify}
 use Rattle.kernel_steps.specs.declared.step.Line.{Line}
 use Rattle.literal_selection.specs.Mode.{mode_of}
 use Rattle.laws_calculus.specs.Symbols.{is_allowed}
-use Rattle.pool_history.specs.Record.{PoolRecord, given_job, nothing_registered}
+use Rattle.pool_history.specs.Record.{PoolRecord, SolverJob, given_job, nothing_registered}
 use Rattle.kernel_steps.specs.FromTrees.{line_of}
 use Rattle.pool_history.specs.Registering.{comes, unless_ended, with_inputs}
 use Rattle.pool_history.specs.Claiming.{next_given, given_out, claimed_by}
 use Rattle.pool_history.specs.Returning.{returns_to}
-use Rattle.pool_history.specs.Replay.{after}
+use Rattle.pool_history.specs.Solving.{cited_line, chain_step, with_step, modelled_by, refuted_by}
+use Rattle.pool_history.specs.Replay.{with_events, after}
 use Rattle.pool_history.specs.Lawful.{IsAllowed, IsLawfulFrom}
 use Rattle.pool_history.specs.declared.options.Options.{Options}
+use Rattle.pool_history.specs.declared.outcome.Outcome.TheVariants.{Refuted}
 use Rattle.pool_history.specs.declared.event.Event.{Event}
 use Rattle.pool_history.specs.declared.event.Event.TheVariants.{Claim, Return, Stale, Void, ClaimSolve, ReturnModel, ReturnRefuted, Abandon}
 use Rattle.pool_history.proofs.AboutCounting.DeathLemmas.{registers-keeps}
@@ -29,7 +31,8 @@ use Rattle.pool_history.proofs.AboutRecords.GrowthLemmas.{registers-grows}
 use Rattle.pool_history.proofs.AboutLines.JoinedLemmas.{by-test}
 use Rattle.pool_history.proofs.AboutRecords.PlaceLemmas.{Placed, after-placed}
 use Rattle.pool_history.proofs.AboutLines.PoolLineLemmas.{Sound}
-use Rattle.pool_history.proofs.AboutLines.SoundLemmas.{open-is, no-solve, history-sound}
+use Rattle.pool_history.proofs.AboutLines.SoundLemmas.{open-is, after-sound}
+use Rattle.pool_history.proofs.AboutLines.UnsplitLemmas.{unsplit-after}
 use Rattle.laws_saturation.specs.Found.{Find, event_finds, finds_from}
 use Rattle.laws_calculus.proofs.AboutCovering.EachLemmas.{each-held}
 use Rattle.laws_saturation.proofs.AboutCarried.CarriedLemmas.{HeldBy, Open}
@@ -52,15 +55,15 @@ module _ (usage : SymbolUse) (inputs : List TreeClause) (options : Options) (uns
   nothing-found finds r stated = subst (λ fs. Stated fs r) (sym (append-nil finds)) stated
 
   after-state :
-      (finds : List Find) (r : PoolRecord) (e : Event) → IsAllowed usage.is_predicate options r e → Sound usage inputs r → Placed r
+      (finds : List Find) (r : PoolRecord) (e : Event) → IsAllowed usage.is_predicate options r e → Placed r
       → Stated finds r → Stated (finds ++ event_finds r e) (after options r e)
-  after-state finds r (Claim job) allowed sound placed stated =
+  after-state finds r (Claim job) allowed placed stated =
       nothing-found finds (after options r (Claim job))
       (claimed-state usage.is_predicate options finds job r placed (after-placed options r (Claim job) placed) stated)
-  after-state finds r (Return batch) allowed sound placed stated = λ h.
+  after-state finds r (Return batch) allowed placed stated = λ h.
       same-state usage.is_predicate options (finds ++ event_finds r (Return batch)) (returns_to options batch (given_job r batch.job) r) _
       (returned-state usage.is_predicate options finds batch allowed.given r placed allowed.out allowed.says stated h)
-  after-state finds r (Stale job justifier) allowed sound placed stated =
+  after-state finds r (Stale job justifier) allowed placed stated =
       nothing-found finds (after options r (Stale job justifier))
       (λ h.
       let state = stated h in
@@ -69,15 +72,32 @@ module _ (usage : SymbolUse) (inputs : List TreeClause) (options : Options) (uns
         told = retold-told usage.is_predicate options finds job r r.given placed.registered state.told;
         met = state.met;
       })
-  after-state finds r (Void job) allowed sound placed stated =
+  after-state finds r (Void job) allowed placed stated =
       nothing-found finds (after options r (Void job))
       (λ h.
       let state = without-state usage.is_predicate options finds r job (stated h) in
       record { victims = state.victims; told = state.told; met = state.met })
-  after-state finds r (ClaimSolve job) allowed sound placed stated = absurd (no-solve usage inputs options unsplit r sound allowed.1)
-  after-state finds r (ReturnModel job truths) allowed sound placed stated = absurd (none-some allowed.solver (sym sound.no_solver ∙ allowed.out))
-  after-state finds r (ReturnRefuted job chains) allowed sound placed stated = absurd (none-some allowed.solver (sym sound.no_solver ∙ allowed.out))
-  after-state finds r (Abandon job) allowed sound placed stated =
+  after-state finds r (ClaimSolve job) allowed placed stated =
+      nothing-found finds (after options r (ClaimSolve job))
+      (λ h. let state = stated h in record { victims = state.victims; told = state.told; met = state.met })
+  after-state finds r (ReturnModel job truths) allowed placed stated =
+      nothing-found finds (after options r (ReturnModel job truths)) (by r.solver)
+    where
+      by : (o : Option SolverJob) → Stated finds (with_events (r.events + 1) (modelled_by o truths r))
+      by None = λ h. same-state usage.is_predicate options finds r (r.events + 1) (stated h)
+      by (Some s) = λ h. let state = stated h in record { victims = state.victims; told = state.told; met = state.met }
+  after-state finds r (ReturnRefuted job chains) allowed placed stated =
+      nothing-found finds (after options r (ReturnRefuted job chains)) (by r.solver)
+    where
+      by : (o : Option SolverJob) → Stated finds (with_events (r.events + 1) (refuted_by o chains r))
+      by None = λ h. same-state usage.is_predicate options finds r (r.events + 1) (stated h)
+      by (Some s) =
+          by-if (λ t. Stated finds (with_events (r.events + 1) t)) (is_none r.ended)
+          (record r { solver = None; lines = fold with_step r.lines (map (chain_step (cited_line r s (length r.lines))) chains); ended = Some Refuted })
+          (record r { solver = None })
+          (λ h. absurd (none-some Refuted (sym h)))
+          (λ h. let state = stated h in record { victims = state.victims; told = state.told; met = state.met })
+  after-state finds r (Abandon job) allowed placed stated =
       nothing-found finds (after options r (Abandon job))
       (λ h.
       let state = without-state usage.is_predicate options finds r job (stated h) in
@@ -88,14 +108,16 @@ module _ (usage : SymbolUse) (inputs : List TreeClause) (options : Options) (uns
     pub sound : Sound usage inputs r
     pub placed : Placed r
     pub stated : Stated finds r
+    pub no_parts : r.parts ≡ []
 
   after-reaches :
       (finds : List Find) (r : PoolRecord) (e : Event) → IsAllowed usage.is_predicate options r e → Reaches finds r
       → Reaches (finds ++ event_finds r e) (after options r e)
   after-reaches finds r e allowed reaches = record {
-    sound = history-sound usage inputs options unsplit (e ∷ []) r (allowed, tt) reaches.sound;
+    sound = after-sound usage inputs options r e allowed reaches.sound;
     placed = after-placed options r e reaches.placed;
-    stated = after-state finds r e allowed reaches.sound reaches.placed reaches.stated;
+    stated = after-state finds r e allowed reaches.placed reaches.stated;
+    no_parts = unsplit-after options (e ∷ []) r unsplit reaches.no_parts;
   }
 
   pub history-reaches :
@@ -139,13 +161,25 @@ module _ (usage : SymbolUse) (inputs : List TreeClause) (options : Options) (uns
         claimed-covered (Some n) =
             by-if (λ s. Carries (given_out options job n s)) (has_number n r.positions) r (record r { positions = r.positions ++ n ∷ [] }) carries carries
     after-covered r (Return batch) allowed finds reaches carries =
-        returned-covered usage functions inputs inputs_pass options unsplit batch allowed.given r reaches.sound (λ h. (reaches.stated h).victims)
+        returned-covered usage functions inputs inputs_pass options unsplit batch allowed.given r
+        (record { sound = reaches.sound; no_parts = reaches.no_parts }) (λ h. (reaches.stated h).victims)
         allowed.out allowed.says carries
     after-covered r (Stale job justifier) allowed finds reaches carries = carries
     after-covered r (Void job) allowed finds reaches carries = carries
     after-covered r (ClaimSolve job) allowed finds reaches carries = carries
-    after-covered r (ReturnModel job truths) allowed finds reaches carries = absurd (none-some allowed.solver (sym reaches.sound.no_solver ∙ allowed.out))
-    after-covered r (ReturnRefuted job chains) allowed finds reaches carries = absurd (none-some allowed.solver (sym reaches.sound.no_solver ∙ allowed.out))
+    after-covered r (ReturnModel job truths) allowed finds reaches carries = by r.solver
+      where
+        by : (o : Option SolverJob) → Carries (modelled_by o truths r)
+        by None = carries
+        by (Some s) = carries
+    after-covered r (ReturnRefuted job chains) allowed finds reaches carries = by r.solver
+      where
+        by : (o : Option SolverJob) → Carries (refuted_by o chains r)
+        by None = carries
+        by (Some s) =
+            by-if Carries (is_none r.ended)
+            (record r { solver = None; lines = fold with_step r.lines (map (chain_step (cited_line r s (length r.lines))) chains); ended = Some Refuted })
+            (record r { solver = None }) (λ h. absurd (none-some Refuted (sym h))) carries
     after-covered r (Abandon job) allowed finds reaches carries = carries
 
     pub history-covered :

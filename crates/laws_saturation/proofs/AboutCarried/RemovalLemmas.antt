@@ -41,6 +41,7 @@ use Rattle.laws_calculus.proofs.AboutCovering.MoveLemmas.{moves-reached, subsume
 use Rattle.laws_saturation.proofs.AboutCarried.CarriedLemmas.{alive, Living, HeldBy, Open, alive-on, dead-carried, keys-carried}
 use Rattle.laws_saturation.proofs.AboutCarried.VictimLemmas.{Victims, victims-die, effect-parts, living-registered, proposed-victims}
 use Rattle.laws_saturation.proofs.AboutCarried.ArrivalLemmas.{LeadsToNoNames, OpenWith, counts-open}
+use Rattle.laws_saturation.proofs.AboutCarried.RegisteredLemmas.{formed-nameless}
 
 -- ---- clauses that are looked up
 
@@ -57,15 +58,16 @@ module _
     (usage : SymbolUse) (functions : FunctionSymbols usage.is_predicate) (inputs : List TreeClause)
     (options : Options) (unsplit : options.split ≡ false)
     (told : List Registered) (symbols : (n : ℕ) (c : TreeClause) → Lookup told n ≡ Some c → HasSymbolsOf functions c)
-    (formed : (n : ℕ) (c : TreeClause) → Lookup told n ≡ Some c → IsFormed usage c) (j : GivenJob) where
+    (formed : (n : ℕ) (c : TreeClause) → Lookup told n ≡ Some c → IsFormed usage 0 c) (j : GivenJob) where
   abbrev the_mode : SelectionMode
   the_mode = mode_of options.select
 
   -- lines from told clauses lead to no names
   pub lines-nameless : (lines : List Line) → AreLinesFrom usage.is_predicate (among (is_told j) (Lookup told)) lines → LeadsToNoNames lines
   lines-nameless lines from c led =
-      (result-formed usage (among (is_told j) (Lookup told)) lines from
-      (λ n d there. formed n d (among-parts (is_told j) (Lookup told) n d there).1) c led).no_names
+      formed-nameless usage c
+      (result-formed usage 0 (among (is_told j) (Lookup told)) lines from
+      (λ n d there. formed n d (among-parts (is_told j) (Lookup told) n d there).1) c led)
 
   -- ---- one removal
 

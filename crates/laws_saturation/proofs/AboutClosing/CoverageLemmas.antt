@@ -28,14 +28,13 @@ use Rattle.pool_history.proofs.AboutCounting.CountedRecords.{Lookup, lookup-more
 use Rattle.pool_history.proofs.AboutCounting.DeathLemmas.{counts-keeps}
 use Rattle.pool_history.proofs.AboutRecords.GrowthLemmas.{counts-grows}
 use Rattle.pool_history.proofs.AboutLines.JoinedLemmas.{by-test}
-use Rattle.pool_history.proofs.AboutLines.PoolLineLemmas.{Sound}
 use Rattle.pool_history.proofs.AboutLines.SoundLemmas.{open-is}
 use Rattle.laws_saturation.proofs.AboutCarried.VictimLemmas.{Victims, victims-keep}
 use Rattle.laws_saturation.proofs.AboutCarried.CarriedLemmas.{HeldBy, Open, carried-more, counted-carried}
 use Rattle.laws_saturation.proofs.AboutCarried.ArrivalLemmas.{results_due, OpenWith, is-closed, counts-open}
 use Rattle.laws_saturation.proofs.AboutCarried.RemovalLemmas.{removed-open, all-proposed-held}
 use Rattle.laws_saturation.proofs.AboutCarried.EntryLemmas.{entries-settled, entries-nameless}
-use Rattle.laws_saturation.proofs.AboutCarried.RegisteredLemmas.{registered-pass, registered-formed}
+use Rattle.laws_saturation.proofs.AboutCarried.RegisteredLemmas.{IsBare, registered-pass, registered-formed}
 
 module _
     (usage : SymbolUse) (functions : FunctionSymbols usage.is_predicate) (inputs : List TreeClause)
@@ -53,7 +52,7 @@ module _
 
   gone-covered :
       (job : ℕ) (j : GivenJob) (m : Removal) (r : PoolRecord)
-      → Sound usage inputs r → Victims r → lives r j.number ≡ true → list_all (lives r) m.justifiers ≡ true
+      → IsBare usage inputs r → Victims r → lives r j.number ≡ true → list_all (lives r) m.justifiers ≡ true
       → IsRightGone usage.is_predicate options (clauses_of r) j m → Open functions the_mode inputs r [] → Covered (removed options m (without job r))
   gone-covered job j m r sound victims alive live right is_open =
       removed-open usage functions inputs options unsplit r.registered (registered-pass usage inputs functions inputs_pass r sound)
@@ -63,7 +62,7 @@ module _
   -- ---- a given clause that met the others
 
   module _
-      (job : ℕ) (j : GivenJob) (entries : List Entry) (removals : List Removal) (r : PoolRecord) (sound : Sound usage inputs r) (victims : Victims r)
+      (job : ℕ) (j : GivenJob) (entries : List Entry) (removals : List Removal) (r : PoolRecord) (sound : IsBare usage inputs r) (victims : Victims r)
       (right : IsRightMeeting usage.is_predicate options (clauses_of r) j entries removals) (is_open : Open functions the_mode inputs r []) where
     abbrev keys : List Key
     keys = keys_of entries
@@ -117,14 +116,14 @@ module _
 
   worked-covered :
       (job : ℕ) (j : GivenJob) (work : Work) (r : PoolRecord)
-      → Sound usage inputs r → Victims r → IsTaken usage.is_predicate options r work j → Open functions the_mode inputs r []
+      → IsBare usage inputs r → Victims r → IsTaken usage.is_predicate options r work j → Open functions the_mode inputs r []
       → Covered (worked options j.number work (without job r))
   worked-covered job j (Gone m) r sound victims is_taken is_open = gone-covered job j m r sound victims is_taken.0 is_taken.1 is_taken.2 is_open
   worked-covered job j (Met entries removals) r sound victims is_taken is_open = met-covered job j entries removals r sound victims is_taken.2 is_open
 
   pub returned-covered :
       (batch : Batch) (j : GivenJob) (r : PoolRecord)
-      → Sound usage inputs r → (r.ended ≡ None → Victims r) → given_job r batch.job ≡ Some j → IsTaken usage.is_predicate options r batch.work j
+      → IsBare usage inputs r → (r.ended ≡ None → Victims r) → given_job r batch.job ≡ Some j → IsTaken usage.is_predicate options r batch.work j
       → Covered r → Covered (returns_to options batch (given_job r batch.job) r)
   returned-covered batch j r sound victims out is_taken covered =
       subst (λ p. Covered (returns_to options batch p r)) (sym out)

@@ -22,6 +22,7 @@ use Rattle.pool_history.specs.Lawful.{IsLawful}
 use Rattle.pool_history.specs.Replay.{Origin, start, replay}
 use Rattle.pool_history.specs.declared.event.Event.{Event}
 use Rattle.pool_history.proofs.AboutLines.BeginningLemmas.{replay-sound}
+use Rattle.pool_history.proofs.AboutLines.UnsplitLemmas.{unsplit-parts}
 use Rattle.pool_history.proofs.AboutCounting.CountedRecords.{Lookup}
 use Rattle.pool_history.proofs.AboutRecords.PlaceLemmas.{start-placed}
 use Rattle.laws_calculus.specs.Coverage.{CoversEach}
@@ -33,7 +34,7 @@ use Rattle.laws_calculus.proofs.AboutCovering.EachLemmas.{each-more}
 use Rattle.laws_saturation.proofs.AboutClosing.RenamingLemmas.{variant-covers}
 use Rattle.laws_saturation.proofs.AboutCarried.CarriedLemmas.{Living, HeldBy, Open}
 use Rattle.laws_saturation.proofs.AboutCarried.ArrivalLemmas.{OpenWith}
-use Rattle.laws_saturation.proofs.AboutCarried.RegisteredLemmas.{registered-formed}
+use Rattle.laws_saturation.proofs.AboutCarried.RegisteredLemmas.{registered-formed, formed-nameless}
 use Rattle.laws_saturation.proofs.AboutCarried.FixedLemmas.{fixed_are_refuted_or_spent}
 use Rattle.laws_saturation.proofs.AboutCarried.HistoryLemmas.{Reaches, history-reaches, started-state, history-covered, started-covered}
 use Rattle.laws_saturation.proofs.AboutClosing.OutcomeLemmas.{nameless-awake, members-counted, members-saturated}
@@ -56,9 +57,10 @@ module _
 
   start-reaches : Reaches usage origin.inputs origin.options unsplit [] (start origin)
   start-reaches = record {
-    sound = replay-sound usage origin [] inputs used unsplit tt;
+    sound = replay-sound usage origin [] inputs used tt;
     placed = start-placed origin;
     stated = λ is_open. started-state usage origin.inputs origin.options unsplit;
+    no_parts = unsplit-parts origin [] unsplit;
   }
 
   replay-reaches : Reaches usage origin.inputs origin.options unsplit (finds_of origin history) r
@@ -85,7 +87,9 @@ module _
             living.number,
             living.lives,
             living.there,
-            nameless-awake truth r.parts c (registered-formed usage origin.inputs r replay-reaches.sound living.number c living.there).no_names,
+            nameless-awake truth r.parts c
+                (formed-nameless usage c
+                (registered-formed usage origin.inputs r (record { sound = replay-reaches.sound; no_parts = replay-reaches.no_parts }) living.number c living.there)),
           ))
           (λ (none : In c []). absurd none)
           by

@@ -55,7 +55,7 @@ use Rattle.laws_saturation.proofs.AboutCarried.HistoryLemmas.{Reaches}
 use Rattle.laws_saturation.proofs.AboutCarried.FixedLemmas.{OnlyFixed, fixed_are_refuted_or_spent}
 use Rattle.laws_saturation.proofs.AboutCarried.TallyLemmas.{IsFixed}
 use Rattle.laws_saturation.proofs.AboutCarried.ArrivalLemmas.{OpenWith}
-use Rattle.laws_saturation.proofs.AboutCarried.RegisteredLemmas.{registered-formed}
+use Rattle.laws_saturation.proofs.AboutCarried.RegisteredLemmas.{registered-formed, formed-nameless}
 use Rattle.laws_saturation.proofs.AboutCarried.VictimLemmas.{living-registered}
 
 -- ---- at rest
@@ -285,7 +285,10 @@ module _
 
   -- nothing is split, so each is awake
   awake : (n : ℕ) → n < length r.registered → is_awake r n ≡ true
-  awake n below = nameless-awake (valuation_of r.model) r.parts (clause_numbered r n) (registered-formed usage inputs r reaches.sound n (clause_numbered r n) (there n below)).no_names
+  awake n below =
+      nameless-awake (valuation_of r.model) r.parts (clause_numbered r n)
+      (formed-nameless usage (clause_numbered r n)
+      (registered-formed usage inputs r (record { sound = reaches.sound; no_parts = reaches.no_parts }) n (clause_numbered r n) (there n below)))
 
   member : (n : ℕ) → lives r n ≡ true → is_member r n ≡ true
   member n alive = and_from (lives r n) (is_awake r n) alive (awake n (within n alive))

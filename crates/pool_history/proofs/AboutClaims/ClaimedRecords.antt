@@ -15,7 +15,7 @@ use Rattle.pool_history.specs.Replay.{with_events, after}
 use Rattle.pool_history.specs.News.{TreeChange, changes_between, first_told}
 use Rattle.pool_history.specs.declared.options.Options.{Options}
 use Rattle.pool_history.specs.declared.event.Event.TheVariants.{Claim}
-use Rattle.pool_history.proofs.AboutRecords.EditLemmas.{filter-less, filter-pairs, RisingBy}
+use Rattle.pool_history.proofs.AboutRecords.EditLemmas.{filter-less, filter-pairs}
 use Rattle.pool_history.proofs.AboutBounds.JobLemmas.{Rising, rising-bound}
 use Rattle.pool_history.proofs.AboutClaims.PickLemmas.{In, given-in}
 use Rattle.pool_history.proofs.AboutRecords.ItemLemmas.{none-place}

@@ -1,5 +1,5 @@
 -- The solver's job stays out until an event ends it, and the clauses that it was handed stay: propositional clauses only come.
-use Rattle.std.proofs.Common.{◌≡◌, ℕ, ◌+◌, ◌≤◌, Bool, true, false, ◌&&◌, ◌==◌, List, [], ◌∷◌, ◌++◌, map, length, take, append-nil, refl, ap, sym, ◌∙◌, subst, arith}
+use Rattle.std.proofs.Common.{◌≡◌, ℕ, ◌+◌, ◌≤◌, Bool, true, false, ◌==◌, List, [], ◌∷◌, ◌++◌, map, length, take, append-nil, refl, ap, sym, ◌∙◌, subst, arith}
 use Rattle.std.specs.Prelude.{Option, None, Some, is_none, nat_lt, fold, if◌then◌else◌}
 use Rattle.std.specs.List.{list_any}
 use Rattle.std.proofs.lemmas.Bool.{true≢false, and_parts, or_parts, eqb-true, eq-eqb}
@@ -10,7 +10,7 @@ use Rattle.kernel_steps.specs.Split.{has_number}
 use Rattle.sat_core.specs.declared.answer.Answer.{Answer}
 use Rattle.sat_core.specs.declared.answer.Answer.TheVariants.{Model, Refuted}
 use Rattle.sat_core.specs.declared.answer.Chain as log
-use Rattle.pool_history.specs.Record.{PoolRecord, GivenJob, SolverJob, PropositionalClause, propositional_clauses, given_job, without_job, nothing_registered}
+use Rattle.pool_history.specs.Record.{PoolRecord, GivenJob, SolverJob, PropositionalClause, given_job, without_job, nothing_registered}
 use Rattle.pool_history.specs.Claiming.{next_given, given_out, claimed_by}
 use Rattle.pool_history.specs.Returning.{becomes_active, worked, returns_to}
 use Rattle.pool_history.specs.Solving.{handed, modelled_by, refuted_by}
@@ -31,19 +31,19 @@ use Rattle.pool_history.proofs.AboutRecords.JobNumberLemmas.{returned-solver, cl
 module _ (options : Options) where
   -- ---- propositional clauses only come
 
-  abbrev MoreNames : PoolRecord → PoolRecord → Type 0
+  abbrev pub MoreNames : PoolRecord → PoolRecord → Type 0
   MoreNames r s = (ps : List PropositionalClause) × (s.propositional ≡ r.propositional ++ ps)
 
-  same-names : (r s : PoolRecord) → s.propositional ≡ r.propositional → MoreNames r s
+  pub same-names : (r s : PoolRecord) → s.propositional ≡ r.propositional → MoreNames r s
   same-names r s same = ([], same ∙ sym (append-nil r.propositional))
 
-  claimed-names : (job : ℕ) (o : Option ℕ) (r : PoolRecord) → MoreNames r (claimed_by options job o r)
+  pub claimed-names : (job : ℕ) (o : Option ℕ) (r : PoolRecord) → MoreNames r (claimed_by options job o r)
   claimed-names job None r = same-names r r refl
   claimed-names job (Some n) r =
       by-if (λ s. MoreNames r (given_out options job n s)) (has_number n r.positions) r (record r { positions = r.positions ++ n ∷ [] })
       (same-names r r refl) (same-names r r refl)
 
-  returned-names : (batch : Batch) (o : Option GivenJob) (r : PoolRecord) → MoreNames r (returns_to options batch o r)
+  pub returned-names : (batch : Batch) (o : Option GivenJob) (r : PoolRecord) → MoreNames r (returns_to options batch o r)
   returned-names batch None r = same-names r r refl
   returned-names batch (Some j) r =
       let s : PoolRecord = record r { given = without_job batch.job r.given } in
@@ -61,7 +61,7 @@ module _ (options : Options) where
   refuted-names None chains r = same-names r r refl
   refuted-names (Some s) chains r = by-if (MoreNames r) (is_none r.ended) _ _ (same-names r r refl) (same-names r r refl)
 
-  after-names : (r : PoolRecord) (e : Event) → MoreNames r (after options r e)
+  pub after-names : (r : PoolRecord) (e : Event) → MoreNames r (after options r e)
   after-names r (Claim job) = claimed-names job (next_given r) r
   after-names r (Return batch) = returned-names batch (given_job r batch.job) r
   after-names r (Stale job justifier) = same-names r r refl
@@ -71,7 +71,7 @@ module _ (options : Options) where
   after-names r (ReturnRefuted job chains) = refuted-names r.solver chains r
   after-names r (Abandon job) = same-names r r refl
 
-  history-names : (es : List Event) (r : PoolRecord) → MoreNames r (fold (after options) r es)
+  pub history-names : (es : List Event) (r : PoolRecord) → MoreNames r (fold (after options) r es)
   history-names [] r = same-names r r refl
   history-names (e ∷ es) r =
       more-then r.propositional (after options r e).propositional (fold (after options) r (e ∷ es)).propositional (after-names r e)
@@ -80,11 +80,11 @@ module _ (options : Options) where
 module _ (is_predicate : ℕ → Bool) (options : Options) where
   -- ---- a job was handed clauses that are there
 
-  abbrev Within : ℕ → Option SolverJob → Type 0
+  abbrev pub Within : ℕ → Option SolverJob → Type 0
   Within count None = Unit {0}
   Within count (Some s) = s.clauses ≤ count
 
-  abbrev IsWithin : PoolRecord → Type 0
+  abbrev pub IsWithin : PoolRecord → Type 0
   IsWithin r = Within (length r.propositional) r.solver
 
   more-within : (r s : PoolRecord) → MoreNames options r s → (o : Option SolverJob) → Within (length r.propositional) o → Within (length s.propositional) o
@@ -108,7 +108,7 @@ module _ (is_predicate : ℕ → Bool) (options : Options) where
   without-within job count None within = tt
   without-within job count (Some s) within = by-if (Within count) (s.job == job) None (Some s) tt within
 
-  after-within : (r : PoolRecord) (e : Event) → IsWithin r → IsWithin (after options r e)
+  pub after-within : (r : PoolRecord) (e : Event) → IsWithin r → IsWithin (after options r e)
   after-within r (Claim job) within =
       kept-within r (after options r (Claim job)) (after-names options r (Claim job)) (claimed-solver is_predicate options job (next_given r) r) within
   after-within r (Return batch) within =
@@ -120,12 +120,12 @@ module _ (is_predicate : ℕ → Bool) (options : Options) where
   after-within r (ReturnRefuted job chains) within = refuted-within r.solver chains r within
   after-within r (Abandon job) within = without-within job (length r.propositional) r.solver within
 
-  history-within : (es : List Event) (r : PoolRecord) → IsWithin r → IsWithin (fold (after options) r es)
+  pub history-within : (es : List Event) (r : PoolRecord) → IsWithin r → IsWithin (fold (after options) r es)
   history-within [] r within = within
   history-within (e ∷ es) r within = history-within es (after options r e) (after-within r e within)
 
   -- so it stays what it was
-  handed-same : (r t : PoolRecord) (s : SolverJob) → MoreNames options r t → s.clauses ≤ length r.propositional → handed t s ≡ handed r s
+  pub handed-same : (r t : PoolRecord) (s : SolverJob) → MoreNames options r t → s.clauses ≤ length r.propositional → handed t s ≡ handed r s
   handed-same r t s more within =
       let names : PropositionalClause → List NameLit = λ c. c.names in
       let long = length-map r.propositional names in

@@ -1,8 +1,8 @@
 -- The clauses that a right removal names are registered: its victim, and those that justify it.
-use Rattle.std.proofs.Common.{◌≡◌, ℕ, zero, suc, ◌+◌, ◌-◌, ◌<◌, ◌≤◌, Bool, true, false, not, ◌==◌, List, [], ◌∷◌, ◌++◌, map, length, take, get_or, refl, ap, ap₂, sym, ◌∙◌, subst, ⊎_elim, arith}
-use Rattle.std.specs.Prelude.{Option, None, Some, cond, nat_lt, filter, flat_map, option_map, option_and_then, is_some, slice_get, if◌then◌else◌, All}
+use Rattle.std.proofs.Common.{◌≡◌, ℕ, zero, suc, ◌-◌, Bool, true, false, not, ◌==◌, List, [], ◌∷◌, ◌++◌, take, refl, ap, sym, ◌∙◌}
+use Rattle.std.specs.Prelude.{Option, None, Some, cond, nat_lt, filter, flat_map, option_map, is_some, slice_get, if◌then◌else◌}
 use Rattle.std.specs.List.{list_all, AllByRecursion, cons_option}
-use Rattle.std.proofs.lemmas.Bool.{and_parts, and_from, true≢false, ltb-true}
+use Rattle.std.proofs.lemmas.Bool.{and_parts, and_from, true≢false}
 use Rattle.std.proofs.lemmas.Option.{none-some, same_Some}
 use Rattle.fol_base.specs.Clause.{TreeClause}
 use Rattle.fol_base.specs.Literal.{clause_of}

@@ -1,5 +1,5 @@
 -- A clause that was counted as replaced died in the return of a batch that has a reduced result for its place.
-use Rattle.std.proofs.Common.{◌≡◌, ℕ, suc, ◌+◌, Bool, true, List, [], ◌∷◌, ◌++◌, map, length, refl, ap, sym, ◌∙◌, subst, arith}
+use Rattle.std.proofs.Common.{◌≡◌, ℕ, suc, ◌+◌, Bool, true, List, [], ◌∷◌, ◌++◌, length, refl, ap, sym, ◌∙◌, subst, arith}
 use Rattle.std.specs.Prelude.{Option, None, Some, is_none, is_some, nat_le, fold, find, slice_get, All, Contains}
 use Rattle.std.specs.List.{AllByRecursion}
 use Rattle.std.proofs.lemmas.List.Elements.{All-nil, All-cons, All-append, All-contains, All-contains_itself, All-map, All-weaker, Contains-append_left, Contains-append_right, recursion_from_All}
@@ -30,7 +30,7 @@ use Rattle.pool_history.specs.declared.event.Event.{Event}
 use Rattle.pool_history.specs.declared.event.Event.TheVariants.{Claim, Return, Stale, Void, ClaimSolve, ReturnModel, ReturnRefuted, Abandon}
 use Rattle.pool_history.proofs.AboutClaims.HistoryLemmas.{no-event}
 use Rattle.pool_history.proofs.AboutCounting.CountedLemmas.{fate-inferred}
-use Rattle.pool_history.proofs.AboutCounting.CountedRecords.{Lookup, no-replaced}
+use Rattle.pool_history.proofs.AboutCounting.CountedRecords.{no-replaced}
 use Rattle.pool_history.proofs.AboutRecords.FrameLemmas.{Registers, by-if, inputs-register, result-registers, results-register}
 use Rattle.pool_history.proofs.AboutRecords.GrowthLemmas.{removed-grows, counts-grows}
 

@@ -1,4 +1,4 @@
--- What lines lead to from clauses that are well-formed and have no names: such clauses. The last is canonical.
+-- What lines lead to from clauses that are well-formed and whose names are assertions of parts that were met: such clauses. The last is canonical.
 use Rattle.std.proofs.Common.{◌≡◌, ℕ, zero, suc, ◌-◌, ◌<◌, Bool, true, false, not, ◌&&◌, ◌||◌, ◌==◌, List, [], ◌∷◌, ◌++◌, take, refl, ap, sym, ◌∙◌, subst, inl, inr, ◌⊎◌, ⊎_elim, arith}
 use Rattle.std.specs.Prelude.{Option, None, Some, slice_get, nat_lt}
 use Rattle.std.specs.List.{list_all, last_or}
@@ -12,9 +12,9 @@ use Rattle.fol_base.specs.Kind.{is_function_term, are_function_terms}
 use Rattle.fol_base.specs.Literal.{clause_of}
 use Rattle.fol_base.specs.Rules.{superposed, resolved, factored, merged}
 use Rattle.fol_base.specs.WellFormed.{SymbolUse, has_arities, have_arities, is_literal_of, are_literals_of}
-use Rattle.fol_base.proofs.WorkedExamples.TestLemmas.{option_map-some, list_all-item}
+use Rattle.fol_base.proofs.WorkedExamples.TestLemmas.{option_map-some, list_all-item, list_all-joined}
 use Rattle.fol_base.proofs.AboutTerms.WellFormedLemmas.{is_literal_of-parts, well_formed_instances, well_formed_superpositions, well_formed_resolutions, well_formed_factorings, well_formed_merges}
-use Rattle.kernel_steps.specs.Names.{sorted_names}
+use Rattle.kernel_steps.specs.Names.{are_sorted}
 use Rattle.kernel_steps.specs.Parents.{Parent, Parents}
 use Rattle.kernel_steps.specs.Conclusion.{bound_literals, verdict, concludes, by_one}
 use Rattle.kernel_steps.specs.Derivation.{line_parents, continued}
@@ -33,6 +33,8 @@ use Rattle.pool_history.specs.Derived.{is_function_term_of}
 use Rattle.pool_history.specs.Reduction.{Lookup, AreLinesFrom}
 use Rattle.pool_history.proofs.AboutCounting.DeathLemmas.{all-weaker}
 use Rattle.pool_history.proofs.AboutRecords.ItemLemmas.{all-at}
+use Rattle.pool_history.proofs.AboutLines.AssertionLemmas.{is_assertion_below, all-sorted}
+use Rattle.pool_history.proofs.AboutLines.NamedStepLemmas.{conclusion-sorted}
 
 -- ---- lists
 
@@ -129,23 +131,24 @@ module _ (usage : SymbolUse) where
       both-pass (list_all (is_function_term usage.is_predicate)) (list_all (symbols_pass is_used)) (list_all is_fit)
       (both-pass (is_function_term usage.is_predicate) (symbols_pass is_used) is_fit fit-from) (bindings_of step) kinds passes
 
-  -- ---- clauses
+-- ---- clauses
 
-  -- well-formed, without names
+module _ (usage : SymbolUse) (count : ℕ) where
+  -- well-formed, its names assertions below the count
   pub record IsFormed (c : TreeClause) : Type 0 where
     pub literals : are_literals_of usage c.literals ≡ true
-    pub no_names : c.names ≡ []
+    pub below : list_all (is_assertion_below count) c.names ≡ true
 
-  bound-formed : (bind : List Tree) (c : TreeClause) → list_all is_fit bind ≡ true → IsFormed c → are_literals_of usage (bound_literals bind c) ≡ true
+  bound-formed : (bind : List Tree) (c : TreeClause) → list_all (is_fit usage) bind ≡ true → IsFormed c → are_literals_of usage (bound_literals bind c) ≡ true
   bound-formed bind c fit formed =
-      well_formed_instances usage (substitution bind) c.literals (λ v. get_or-passes is_fit bind v (variable v) fit refl) formed.literals
+      well_formed_instances usage (substitution bind) c.literals (λ v. get_or-passes (is_fit usage) bind v (variable v) fit refl) formed.literals
 
   abbrev pub AreParents : Parents → Type 0
   AreParents parents = (n : ℕ) (p : Parent) → parents n ≡ Some p → IsFormed p.clause
 
   one-formed :
       (parents : Parents) (n : ℕ) (bind : List Tree) (rule : List TreeLiteral → Option (List TreeLiteral)) (c : TreeClause)
-      → AreParents parents → list_all is_fit bind ≡ true
+      → AreParents parents → list_all (is_fit usage) bind ≡ true
       → ((ls made : List TreeLiteral) → are_literals_of usage ls ≡ true → rule ls ≡ Some made → are_literals_of usage made ≡ true)
       → by_one (parents n) bind rule ≡ concludes c → IsFormed c
   one-formed parents n bind rule c formed fit keeps h =
@@ -155,14 +158,16 @@ module _ (usage : SymbolUse) where
         literals =
             ap (λ (d : TreeClause). are_literals_of usage d.literals) (sym p.gives)
             ∙ keeps (bound_literals bind p.source.clause) p.literals (bound-formed bind p.source.clause fit source) p.made;
-        no_names = ap (λ (d : TreeClause). d.names) (sym p.gives) ∙ ap sorted_names source.no_names;
+        below =
+            ap (λ (d : TreeClause). list_all (is_assertion_below count) d.names) (sym p.gives)
+            ∙ all-sorted (is_assertion_below count) p.source.clause.names ∙ source.below;
       }
 
   pub step-formed :
       (step : Step) (parents : Parents) (c : TreeClause)
-      → AreParents parents → is_on_literals step ≡ true → binds_each is_fit step ≡ true → verdict step parents ≡ concludes c → IsFormed c
+      → AreParents parents → is_on_literals step ≡ true → binds_each (is_fit usage) step ≡ true → verdict step parents ≡ concludes c → IsFormed c
   step-formed (Para n m j s k z place first second) parents c formed kind fit h =
-      let both = and_parts (list_all is_fit first) (list_all is_fit second && true) fit in
+      let both = and_parts (list_all (is_fit usage) first) (list_all (is_fit usage) second && true) fit in
       let p = by_two-parts (parents n) first (parents m) second (λ ls ks. superposed ls j s ks k z place) c h in
       let source = formed n p.source p.first_there in
       let target = formed m p.target p.second_there in
@@ -171,19 +176,20 @@ module _ (usage : SymbolUse) where
             ap (λ (d : TreeClause). are_literals_of usage d.literals) (sym p.gives)
             ∙ well_formed_superpositions usage (bound_literals first p.source.clause) (bound_literals second p.target.clause) p.literals j k s z place
             (bound-formed first p.source.clause both.0 source)
-            (bound-formed second p.target.clause (and_parts (list_all is_fit second) true both.1).0 target) p.made;
-        no_names =
-            ap (λ (d : TreeClause). d.names) (sym p.gives)
-            ∙ ap (λ ns. sorted_names (ns ++ p.target.clause.names)) source.no_names ∙ ap sorted_names target.no_names;
+            (bound-formed second p.target.clause (and_parts (list_all (is_fit usage) second) true both.1).0 target) p.made;
+        below =
+            ap (λ (d : TreeClause). list_all (is_assertion_below count) d.names) (sym p.gives)
+            ∙ all-sorted (is_assertion_below count) (p.source.clause.names ++ p.target.clause.names)
+            ∙ list_all-joined (is_assertion_below count) p.source.clause.names p.target.clause.names source.below target.below;
       }
   step-formed (Refl n k bind) parents c formed kind fit h =
-      one-formed parents n bind (λ ls. resolved ls k) c formed (and_parts (list_all is_fit bind) true fit).0
+      one-formed parents n bind (λ ls. resolved ls k) c formed (and_parts (list_all (is_fit usage) bind) true fit).0
       (λ ls made. well_formed_resolutions usage ls made k) h
   step-formed (Factor n j s k z bind) parents c formed kind fit h =
-      one-formed parents n bind (λ ls. factored ls j s k z) c formed (and_parts (list_all is_fit bind) true fit).0
+      one-formed parents n bind (λ ls. factored ls j s k z) c formed (and_parts (list_all (is_fit usage) bind) true fit).0
       (λ ls made. well_formed_factorings usage ls made j k s z) h
   step-formed (Merge n j k bind) parents c formed kind fit h =
-      one-formed parents n bind (λ ls. merged ls j k) c formed (and_parts (list_all is_fit bind) true fit).0
+      one-formed parents n bind (λ ls. merged ls j k) c formed (and_parts (list_all (is_fit usage) bind) true fit).0
       (λ ls made. well_formed_merges usage ls made j k) h
   step-formed (Input place) parents c formed kind fit h = absurd (true≢false (sym kind))
   step-formed (Negate place) parents c formed kind fit h = absurd (true≢false (sym kind))
@@ -199,14 +205,14 @@ module _ (usage : SymbolUse) where
     abbrev FormedBefore : ℕ → Type 0
     FormedBefore n = (k : ℕ) (line : Line) → k < n → slice_get lines k ≡ Some line → IsFormed (clause_of line.clause)
 
-    passing : (n : ℕ) (c : TreeClause) → clauses n ≡ Some c → clause_symbols_pass is_used c ≡ true
-    passing n c there = formed-passes c.literals (formed n c there).literals
+    passing : (n : ℕ) (c : TreeClause) → clauses n ≡ Some c → clause_symbols_pass (is_used usage) c ≡ true
+    passing n c there = formed-passes usage c.literals (formed n c there).literals
 
-    pub lines-fit : list_all (λ (l : Line). binds_each is_fit l.step) lines ≡ true
+    pub lines-fit : list_all (λ (l : Line). binds_each (is_fit usage) l.step) lines ≡ true
     lines-fit =
-        both-pass (λ (l : Line). binds_each (is_function_term usage.is_predicate) l.step) (λ (l : Line). binds_each (symbols_pass is_used) l.step)
-        (λ (l : Line). binds_each is_fit l.step) (λ l kinds passes. step-fits l.step kinds passes) lines from.lines_right.terms
-        (from.symbols is_used refl passing).1
+        both-pass (λ (l : Line). binds_each (is_function_term usage.is_predicate) l.step) (λ (l : Line). binds_each (symbols_pass (is_used usage)) l.step)
+        (λ (l : Line). binds_each (is_fit usage) l.step) (λ l kinds passes. step-fits usage l.step kinds passes) lines from.lines_right.terms
+        (from.symbols (is_used usage) refl passing).1
 
     parents-formed : (n : ℕ) → FormedBefore n → AreParents (continued CLAUSE_NUMBERS (clause_parents clauses) (take n lines))
     parents-formed n before k p there =
@@ -224,7 +230,7 @@ module _ (usage : SymbolUse) where
     line-formed n line at before =
         step-formed line.step (continued CLAUSE_NUMBERS (clause_parents clauses) (take n lines)) (clause_of line.clause) (parents-formed n before)
         (list_all-item (λ (l : Line). is_on_literals l.step) lines n line at from.lines_right.kinds)
-        (list_all-item (λ (l : Line). binds_each is_fit l.step) lines n line at lines-fit)
+        (list_all-item (λ (l : Line). binds_each (is_fit usage) l.step) lines n line at lines-fit)
         (from.lines_right.steps n line at)
 
     formed-before : (n : ℕ) → FormedBefore n
@@ -243,3 +249,12 @@ module _ (usage : SymbolUse) where
     result-canonical c led =
         let last = result-line lines c led in
         subst IsCanonical last.gives (all-at IsNumbered lines last.number last.line from.lines_right.numbered last.there).canonical
+
+    -- the names of the last conclusion are sorted
+    pub result-sorted : (c : TreeClause) → result_of lines ≡ Some c → are_sorted c.names ≡ true
+    result-sorted c led =
+        let last = result-line lines c led in
+        subst (λ (d : TreeClause). are_sorted d.names ≡ true) last.gives
+        (conclusion-sorted last.line.step (continued CLAUSE_NUMBERS (clause_parents clauses) (take last.number lines)) (clause_of last.line.clause)
+        (list_all-item (λ (l : Line). is_on_literals l.step) lines last.number last.line last.there from.lines_right.kinds)
+        (from.lines_right.steps last.number last.line last.there))

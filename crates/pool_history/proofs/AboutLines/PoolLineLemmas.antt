@@ -1,5 +1,5 @@
--- Lines that are put among a pool's, where nothing is split: those of an input, and those of a batch.
-use Rattle.std.proofs.Common.{◌≡◌, ℕ, ◌+◌, ◌-◌, ◌<◌, ◌≤◌, true, false, ◌&&◌, List, [], ◌∷◌, ◌++◌, map, length, take, refl, ap, ap₂, sym, ◌∙◌, subst, ⊎_elim, arith}
+-- Lines that are put among a pool's, those of a batch among them, and what a record keeps of its lines.
+use Rattle.std.proofs.Common.{◌≡◌, ℕ, ◌+◌, ◌-◌, ◌<◌, ◌≤◌, true, false, ◌&&◌, List, [], ◌∷◌, ◌++◌, map, length, take, refl, ap, sym, ◌∙◌, subst, ⊎_elim, arith}
 use Rattle.std.specs.Prelude.{Option, None, Some, slice_get, option_map, option_and_then, unwrap_or, nat_lt, flat_map, All}
 use Rattle.std.specs.List.{list_all, last_or}
 use Rattle.std.proofs.Math.Seq.{take-append-add}
@@ -7,18 +7,17 @@ use Rattle.std.proofs.lemmas.Bool.{true≢false, cond-true, cond-false, cases_Bo
 use Rattle.std.proofs.lemmas.List.{take-append-le, take-map, map-append}
 use Rattle.std.proofs.lemmas.List.Elements.{All-append, All-push}
 use Rattle.std.proofs.lemmas.Option.{slice_get_within, slice_get-map}
-use Rattle.fol_base.specs.Tree.{Tree, trees_of, trees_variables}
+use Rattle.fol_base.specs.Tree.{trees_of, trees_variables}
 use Rattle.fol_base.specs.Clause.{TreeLiteral, TreeClause, clause_size, clause_variables}
 use Rattle.fol_base.specs.Canonical.{distinct, numbers_from}
-use Rattle.fol_base.specs.Literal.{literal_of, clause_of}
-use Rattle.fol_base.specs.Rules.{superposed, resolved, factored, merged}
+use Rattle.fol_base.specs.Literal.{clause_of}
 use Rattle.fol_base.specs.WellFormed.{SymbolUse}
 use Rattle.fol_base.specs.declared.limits.TheConstants.{MOST_SYMBOLS}
 use Rattle.fol_base.proofs.WorkedExamples.TestLemmas.{option_map-some, list_all-item, list_all-joined, list_all-map_from}
-use Rattle.kernel_steps.specs.Parents.{Parent, Parents}
-use Rattle.kernel_steps.specs.Conclusion.{empty_clause, binds, bound_literals, verdict, concludes, verdict_if, clause_with, by_one, by_two}
-use Rattle.kernel_steps.specs.Derivation.{is_clause_step, introduces_name, line_parent, line_parents, continued, ComesBy, IsDerivation, under_names}
-use Rattle.kernel_steps.specs.Lines.{clause_parents, is_on_literals, is_small_term, has_small_sides, has_small_terms, IsNumbered, is_plain_step}
+use Rattle.kernel_steps.specs.Parents.{Parent}
+use Rattle.kernel_steps.specs.Conclusion.{empty_clause}
+use Rattle.kernel_steps.specs.Derivation.{is_clause_step, introduces_name, line_parent, line_parents, continued, ComesBy, under_names}
+use Rattle.kernel_steps.specs.Lines.{clause_parents, is_on_literals, is_small_term, has_small_sides, has_small_terms, IsNumbered}
 use Rattle.kernel_steps.specs.Soundness.{bindings_of, binds_each}
 use Rattle.kernel_steps.specs.Symbols.{symbols_pass, clause_symbols_pass}
 use Rattle.kernel_steps.specs.declared.step.TheConstants.{CLAUSE_NUMBERS}
@@ -26,66 +25,30 @@ use Rattle.kernel_steps.specs.declared.step.Step.{Step}
 use Rattle.kernel_steps.specs.declared.step.Step.TheVariants.{Input, Negate, Clausify, Para, Refl, Factor, Merge, Component, Opposite, Split, Chain}
 use Rattle.kernel_steps.specs.declared.step.Line.{Line}
 use Rattle.kernel_steps.proofs.AboutCalls.LineLemmas.{parent_line}
-use Rattle.kernel_steps.proofs.AboutCalls.VerdictParts.{by_one-parts, by_two-parts}
-use Rattle.pool_history.specs.Tags.{line_names}
+use Rattle.pool_history.specs.Tags.{name_of_tag, line_names}
 use Rattle.pool_history.specs.Record.{PoolRecord, Registered, SolverJob, PropositionalClause}
 use Rattle.pool_history.specs.Lines.{with_lines, line_number, with_parents, pool_line, result_of}
-use Rattle.pool_history.specs.Registering.{registered_last}
+use Rattle.pool_history.specs.Registering.{registered_by, registered_last, with_propositional}
 use Rattle.pool_history.specs.Reduction.{Lookup, AreLinesFrom}
 use Rattle.pool_history.specs.Wholeness.{IsWhole}
-use Rattle.pool_history.specs.Derived.{is_function_term_of, IsPlainLine, HaveInputSymbols}
+use Rattle.pool_history.specs.Derived.{is_function_term_of, IsPoolLine, HaveInputSymbols, ArePoolLines}
 use Rattle.pool_history.specs.declared.outcome.Outcome.{Outcome}
 use Rattle.pool_history.specs.declared.outcome.Outcome.TheVariants.{Refuted}
-use Rattle.pool_history.proofs.AboutLines.FormedLemmas.{IsFormed, result-formed, result-canonical, each-formed, lines-fit}
+use Rattle.pool_history.proofs.AboutLines.FormedLemmas.{IsFormed, result-formed, result-canonical, result-sorted, each-formed, lines-fit}
 use Rattle.pool_history.proofs.AboutLines.JoinedLemmas.{get-left, get-right, get-taken, BehindAt, get-cases, get-mapped, EndsIn, last-ends, last-there, ends-behind, all-from}
 use Rattle.pool_history.proofs.AboutRecords.ItemLemmas.{all-at}
 use Rattle.pool_history.proofs.AboutRecords.EditLemmas.{get-end}
+use Rattle.pool_history.proofs.AboutLines.AssertionLemmas.{line_names-sorted, line_names-joined, assertions-from, all-met, below-from}
+use Rattle.pool_history.proofs.AboutLines.NamedStepLemmas.{renamed_by, AreMapped, KeepsSorting, comes-mapped}
+use Rattle.pool_history.proofs.AboutLines.NameTableLemmas.{AreNamed, named-joined}
+use Rattle.kernel_steps.proofs.AboutNames.NameRanks.{sorted_names-sorted}
+use Rattle.fol_base.specs.Subsumption.{assertions}
+use Rattle.plain_types.specs.declared.sequence.NameLit.{NameLit}
+use Rattle.plain_types.specs.Names.{opposite}
+use Rattle.std.proofs.lemmas.Option.{none-some}
+use Rattle.std.proofs.lemmas.List.{length-append}
 
 -- ---- steps with other parents
-
--- the parents have the clauses that others have under the first numbers
-abbrev AreMapped : (ℕ → ℕ) → Parents → Parents → Type 0
-AreMapped number ps qs = (n : ℕ) (p : Parent) → ps n ≡ Some p → (q : Parent) × (qs (number n) ≡ Some q) × (q.clause ≡ p.clause)
-
-module _ (number : ℕ → ℕ) (ps qs : Parents) (mapped : AreMapped number ps qs) where
-  one-mapped :
-      (n : ℕ) (bind : List Tree) (rule : List TreeLiteral → Option (List TreeLiteral)) (c : TreeClause)
-      → by_one (ps n) bind rule ≡ concludes c → by_one (qs (number n)) bind rule ≡ concludes c
-  one-mapped n bind rule c h =
-      let p = by_one-parts (ps n) bind rule c h in
-      let q = mapped n p.source p.there in
-      ap (λ o. by_one o bind rule) q.1
-      ∙ ap (λ (d : TreeClause). verdict_if (binds bind d) (option_map (clause_with d.names) (rule (bound_literals bind d)))) q.2
-      ∙ sym (ap (λ o. by_one o bind rule) p.there) ∙ h
-
-  two-mapped :
-      (n m : ℕ) (first second : List Tree) (rule : List TreeLiteral → List TreeLiteral → Option (List TreeLiteral)) (c : TreeClause)
-      → by_two (ps n) first (ps m) second rule ≡ concludes c → by_two (qs (number n)) first (qs (number m)) second rule ≡ concludes c
-  two-mapped n m first second rule c h =
-      let p = by_two-parts (ps n) first (ps m) second rule c h in
-      let source = mapped n p.source p.first_there in
-      let target = mapped m p.target p.second_there in
-      ap₂ (λ o u. by_two o first u second rule) source.1 target.1
-      ∙ ap₂ (λ (d e : TreeClause). verdict_if (binds first d && binds second e) (option_map (clause_with (d.names ++ e.names)) (rule (bound_literals first d) (bound_literals second e)))) source.2 target.2
-      ∙ sym (ap₂ (λ o u. by_two o first u second rule) p.first_there p.second_there) ∙ h
-
-comes-mapped :
-    (inputs : List TreeClause) (number : ℕ → ℕ) (ps : Parents) (earlier : List Line) (step : Step) (c : TreeClause)
-    → AreMapped number ps (line_parents earlier) → is_on_literals step ≡ true
-    → verdict step ps ≡ concludes c → ComesBy (with_parents number step) inputs earlier c
-comes-mapped inputs number ps earlier (Para n m j s k z place first second) c mapped kind h =
-    two-mapped number ps (line_parents earlier) mapped n m first second (λ ls ks. superposed ls j s ks k z place) c h
-comes-mapped inputs number ps earlier (Refl n k bind) c mapped kind h = one-mapped number ps (line_parents earlier) mapped n bind (λ ls. resolved ls k) c h
-comes-mapped inputs number ps earlier (Factor n j s k z bind) c mapped kind h =
-    one-mapped number ps (line_parents earlier) mapped n bind (λ ls. factored ls j s k z) c h
-comes-mapped inputs number ps earlier (Merge n j k bind) c mapped kind h = one-mapped number ps (line_parents earlier) mapped n bind (λ ls. merged ls j k) c h
-comes-mapped inputs number ps earlier (Input place) c mapped kind h = absurd (true≢false (sym kind))
-comes-mapped inputs number ps earlier (Negate place) c mapped kind h = absurd (true≢false (sym kind))
-comes-mapped inputs number ps earlier (Clausify i) c mapped kind h = absurd (true≢false (sym kind))
-comes-mapped inputs number ps earlier (Component name) c mapped kind h = absurd (true≢false (sym kind))
-comes-mapped inputs number ps earlier (Opposite name) c mapped kind h = absurd (true≢false (sym kind))
-comes-mapped inputs number ps earlier (Split parent definitions parts) c mapped kind h = absurd (true≢false (sym kind))
-comes-mapped inputs number ps earlier (Chain numbers pivots) c mapped kind h = absurd (true≢false (sym kind))
 
 same-bindings : (number : ℕ → ℕ) (step : Step) → bindings_of (with_parents number step) ≡ bindings_of step
 same-bindings number (Para n m j s k z place first second) = refl
@@ -100,16 +63,16 @@ same-bindings number (Opposite name) = refl
 same-bindings number (Split parent definitions parts) = refl
 same-bindings number (Chain numbers pivots) = refl
 
--- a conclusion from literals stays one: it is plain, and a clause's
+-- a conclusion from literals stays one: it is a clause's, and introduces no name
 record StaysOne (step : Step) : Type 0 where
-  pub plain : is_plain_step step ≡ true
   pub is_clause : is_clause_step step ≡ true
+  pub no_name : introduces_name step ≡ false
 
 stays-one : (number : ℕ → ℕ) (step : Step) → is_on_literals step ≡ true → StaysOne (with_parents number step)
-stays-one number (Para n m j s k z place first second) kind = record { plain = refl; is_clause = refl }
-stays-one number (Refl n k bind) kind = record { plain = refl; is_clause = refl }
-stays-one number (Factor n j s k z bind) kind = record { plain = refl; is_clause = refl }
-stays-one number (Merge n j k bind) kind = record { plain = refl; is_clause = refl }
+stays-one number (Para n m j s k z place first second) kind = record { is_clause = refl; no_name = refl }
+stays-one number (Refl n k bind) kind = record { is_clause = refl; no_name = refl }
+stays-one number (Factor n j s k z bind) kind = record { is_clause = refl; no_name = refl }
+stays-one number (Merge n j k bind) kind = record { is_clause = refl; no_name = refl }
 stays-one number (Input place) kind = absurd (true≢false (sym kind))
 stays-one number (Negate place) kind = absurd (true≢false (sym kind))
 stays-one number (Clausify i) kind = absurd (true≢false (sym kind))
@@ -118,21 +81,8 @@ stays-one number (Opposite name) kind = absurd (true≢false (sym kind))
 stays-one number (Split parent definitions parts) kind = absurd (true≢false (sym kind))
 stays-one number (Chain numbers pivots) kind = absurd (true≢false (sym kind))
 
-pub plain-clause_step : (step : Step) → is_plain_step step ≡ true → is_clause_step step ≡ true
-plain-clause_step (Para n m j s k z place first second) plain = refl
-plain-clause_step (Refl n k bind) plain = refl
-plain-clause_step (Factor n j s k z bind) plain = refl
-plain-clause_step (Merge n j k bind) plain = refl
-plain-clause_step (Clausify i) plain = refl
-plain-clause_step (Input place) plain = absurd (true≢false (sym plain))
-plain-clause_step (Negate place) plain = absurd (true≢false (sym plain))
-plain-clause_step (Component name) plain = absurd (true≢false (sym plain))
-plain-clause_step (Opposite name) plain = absurd (true≢false (sym plain))
-plain-clause_step (Split parent definitions parts) plain = absurd (true≢false (sym plain))
-plain-clause_step (Chain numbers pivots) plain = absurd (true≢false (sym plain))
-
 -- a line of a clause is found by its number
-parent-there :
+pub parent-there :
     (lines : List Line) (n : ℕ) (line : Line)
     → slice_get lines n ≡ Some line → is_clause_step line.step ≡ true
     → line_parents lines n ≡ Some (record { clause = clause_of line.clause; introduces = introduces_name line.step })
@@ -140,14 +90,29 @@ parent-there lines n line there is_clause =
     ap (λ (o : Option Line). option_and_then line_parent o) there
     ∙ cond-true (is_clause_step line.step) (Some (record { clause = clause_of line.clause; introduces = introduces_name line.step })) None is_clause
 
+-- ---- names for tags
+
+-- a clause as its line has it
+abbrev pub on_line : List (List TreeLiteral) → TreeClause → TreeClause
+on_line parts c = renamed_by (line_names parts) c
+
+pub line_names-keep : (parts : List (List TreeLiteral)) → KeepsSorting (line_names parts)
+line_names-keep parts = record { one = line_names-sorted parts; joined = line_names-joined parts }
+
 -- ---- what a record is to keep
 
 module _ (usage : SymbolUse) (inputs : List TreeClause) where
   -- a registered clause's line has the clause
-  pub record HasLine (lines : List Line) (x : Registered) : Type 0 where
+  pub record HasLine (parts : List (List TreeLiteral)) (lines : List Line) (x : Registered) : Type 0 where
     pub line : Line
     pub there : slice_get lines x.line ≡ Some line
-    pub gives : clause_of line.clause ≡ x.clause
+    pub gives : clause_of line.clause ≡ on_line parts x.clause
+
+  -- a propositional clause's line has the names
+  pub record HasNames (lines : List Line) (p : PropositionalClause) : Type 0 where
+    pub line : Line
+    pub there : slice_get lines p.line ≡ Some line
+    pub gives : clause_of line.clause ≡ under_names [] p.names
 
   -- the last line has the clause
   pub record EndsWith (lines : List Line) (c : TreeClause) : Type 0 where
@@ -156,76 +121,151 @@ module _ (usage : SymbolUse) (inputs : List TreeClause) where
     pub gives : clause_of last.clause ≡ c
 
   pub record IsSound
-      (registered : List Registered) (lines : List Line) (propositional : List PropositionalClause) (solver : Option SolverJob)
-      (ended : Option Outcome) : Type 0 where
-    pub whole : All (λ (x : Registered). IsWhole usage x.clause) registered
-    pub lined : (n : ℕ) (x : Registered) → slice_get registered n ≡ Some x → HasLine lines x
-    pub derived : IsDerivation inputs lines
-    pub plain : All (IsPlainLine usage) lines
-    pub symbols : HaveInputSymbols inputs lines
+      (parts : List (List TreeLiteral)) (registered : List Registered) (lines : List Line) (propositional : List PropositionalClause)
+      (solver : Option SolverJob) (ended : Option Outcome) : Type 0 where
+    pub whole : All (λ (x : Registered). IsWhole usage (length parts) x.clause) registered
+    pub lined : (n : ℕ) (x : Registered) → slice_get registered n ≡ Some x → HasLine parts lines x
+    pub made : ArePoolLines usage inputs lines
+    pub named : AreNamed parts lines
+    pub over_names : (n : ℕ) (p : PropositionalClause) → slice_get propositional n ≡ Some p → HasNames lines p
+    pub handed_few : (s : SolverJob) → solver ≡ Some s → s.clauses ≤ length propositional
+    -- where no part was met there is no propositional clause
+    pub bare : parts ≡ [] → propositional ≡ []
     pub refuted : ended ≡ Some Refuted → EndsWith lines empty_clause
-    pub no_propositional : propositional ≡ []
-    pub no_solver : solver ≡ None
 
   abbrev pub Sound : PoolRecord → Type 0
-  Sound r = IsSound r.registered r.lines r.propositional r.solver r.ended
+  Sound r = IsSound r.parts r.registered r.lines r.propositional r.solver r.ended
 
-  -- lines that may be put behind those of a record, and lead to a clause
-  pub record Continue (lines more : List Line) (c : TreeClause) : Type 0 where
-    pub whole : IsWhole usage c
+  -- lines that may be put after those of a record
+  pub record GoOn (lines more : List Line) : Type 0 where
     pub comes : (k : ℕ) (line : Line) → slice_get more k ≡ Some line → ComesBy line.step inputs (lines ++ take k more) (clause_of line.clause)
-    pub plain : All (IsPlainLine usage) more
+    pub each : All (IsPoolLine usage) more
     pub symbols : HaveInputSymbols inputs more
-    pub ends : EndsWith more c
+
+  -- and introduce no names, and lead to a clause
+  pub record Continue (parts : List (List TreeLiteral)) (lines more : List Line) (c : TreeClause) : Type 0 where
+    pub whole : IsWhole usage (length parts) c
+    pub go_on : GoOn lines more
+    pub no_names : (n : ℕ) (line : Line) → slice_get more n ≡ Some line → introduces_name line.step ≡ false
+    pub ends : EndsWith more (on_line parts c)
 
   pub ends_behind : (lines more : List Line) (c : TreeClause) → EndsWith more c → EndsWith (lines ++ more) c
   ends_behind lines more c is = record { last = is.last; ends = ends-behind lines more is.last is.ends; gives = is.gives }
 
-  pub continued-sound :
-      (r : PoolRecord) (more : List Line) (c : TreeClause)
-      → r.ended ≡ None → Sound r → Continue r.lines more c → Sound (registered_last c (with_lines r more))
-  continued-sound r more c is_open sound is = record {
-    whole = All-push (λ (x : Registered). IsWhole usage x.clause) r.registered (record { clause = c; line = length (r.lines ++ more) - 1 }) sound.whole is.whole;
-    lined =
-        λ n x there.
-        ⊎_elim
-        (λ (before : slice_get r.registered n ≡ Some x).
-        let at = sound.lined n x before in
-        record { line = at.line; there = get-left r.lines more x.line at.line at.there; gives = at.gives })
-        (λ (last : (n ≡ length r.registered) × (record { clause = c; line = length (r.lines ++ more) - 1 } ≡ x)). subst (HasLine (r.lines ++ more)) last.1 new)
-        (get-end r.registered (record { clause = c; line = length (r.lines ++ more) - 1 }) x n there);
+  pub lines-joined : (lines more : List Line) → ArePoolLines usage inputs lines → GoOn lines more → ArePoolLines usage inputs (lines ++ more)
+  lines-joined lines more made is = record {
     derived =
         λ n line there.
         ⊎_elim
-        (λ (before : slice_get r.lines n ≡ Some line).
-        let within : n < length r.lines = slice_get_within r.lines n line before in
-        let below : n ≤ length r.lines = omega (arith, within) in
-        subst (λ ls. ComesBy line.step inputs ls (clause_of line.clause)) (sym (take-append-le n r.lines more below)) (sound.derived n line before))
-        (λ (at : BehindAt r.lines more n line).
+        (λ (before : slice_get lines n ≡ Some line).
+        let within : n < length lines = slice_get_within lines n line before in
+        let below : n ≤ length lines = omega (arith, within) in
+        subst (λ ls. ComesBy line.step inputs ls (clause_of line.clause)) (sym (take-append-le n lines more below)) (made.derived n line before))
+        (λ (at : BehindAt lines more n line).
         subst (λ ls. ComesBy line.step inputs ls (clause_of line.clause))
-        (sym (ap (λ m. take m (r.lines ++ more)) at.whole ∙ take-append-add r.lines more at.place)) (is.comes at.place line at.there))
-        (get-cases r.lines more n line there);
-    plain = All-append (IsPlainLine usage) r.lines more sound.plain is.plain;
+        (sym (ap (λ m. take m (lines ++ more)) at.whole ∙ take-append-add lines more at.place)) (is.comes at.place line at.there))
+        (get-cases lines more n line there);
+    each = All-append (IsPoolLine usage) lines more made.each is.each;
     symbols =
         λ test truth pass.
-        let before = sound.symbols test truth pass in
+        let before = made.symbols test truth pass in
         let after = is.symbols test truth pass in (
-          list_all-joined (λ (l : Line). clause_symbols_pass test (clause_of l.clause)) r.lines more before.0 after.0,
-          list_all-joined (λ (l : Line). binds_each (symbols_pass test) l.step) r.lines more before.1 after.1,
+          list_all-joined (λ (l : Line). clause_symbols_pass test (clause_of l.clause)) lines more before.0 after.0,
+          list_all-joined (λ (l : Line). binds_each (symbols_pass test) l.step) lines more before.1 after.1,
         );
-    refuted = λ (h : r.ended ≡ Some Refuted). absurd (none-refuted (sym is_open ∙ h));
-    no_propositional = sound.no_propositional;
-    no_solver = sound.no_solver;
+  }
+
+  pub not-refuted : (o : Option Outcome) → o ≡ None → o ≡ Some Refuted → ⊥
+  not-refuted o is_open h = none-some Refuted (sym is_open ∙ h)
+
+  -- ---- what is put into a record
+
+  -- lines that introduce no names
+  pub lines-sound :
+      (r : PoolRecord) (more : List Line)
+      → r.ended ≡ None → Sound r → GoOn r.lines more → ((n : ℕ) (line : Line) → slice_get more n ≡ Some line → introduces_name line.step ≡ false)
+      → Sound (with_lines r more)
+  lines-sound r more is_open sound is no_names = record {
+    whole = sound.whole;
+    lined =
+        λ n x there.
+        let at = sound.lined n x there in
+        record { line = at.line; there = get-left r.lines more x.line at.line at.there; gives = at.gives };
+    made = lines-joined r.lines more sound.made is;
+    named = named-joined r.parts r.lines more no_names sound.named;
+    over_names =
+        λ n p there.
+        let at = sound.over_names n p there in
+        record { line = at.line; there = get-left r.lines more p.line at.line at.there; gives = at.gives };
+    handed_few = sound.handed_few;
+    bare = sound.bare;
+    refuted = λ h. absurd (not-refuted r.ended is_open h);
+  }
+
+  -- a clause that has its line
+  pub registered-sound :
+      (r : PoolRecord) (line : ℕ) (c : TreeClause)
+      → Sound r → IsWhole usage (length r.parts) c → HasLine r.parts r.lines (record { clause = c; line = line }) → Sound (registered_by line c r)
+  registered-sound r line c sound whole at = record {
+    whole = All-push (λ (x : Registered). IsWhole usage (length r.parts) x.clause) r.registered (record { clause = c; line = line }) sound.whole whole;
+    lined =
+        λ n x there.
+        ⊎_elim
+        (λ (before : slice_get r.registered n ≡ Some x). sound.lined n x before)
+        (λ (last : (n ≡ length r.registered) × (record { clause = c; line = line } ≡ x)). subst (HasLine r.parts r.lines) last.1 at)
+        (get-end r.registered (record { clause = c; line = line }) x n there);
+    made = sound.made;
+    named = sound.named;
+    over_names = sound.over_names;
+    handed_few = sound.handed_few;
+    bare = sound.bare;
+    refuted = sound.refuted;
+  }
+
+  -- a propositional clause, whose line is the last
+  pub propositional-sound :
+      (r : PoolRecord) (names : List NameLit)
+      → Sound r → (r.parts ≡ [] → ⊥) → EndsWith r.lines (under_names [] names) → Sound (with_propositional names r)
+  propositional-sound r names sound some_part is = record {
+    whole = sound.whole;
+    lined = sound.lined;
+    made = sound.made;
+    named = sound.named;
+    over_names =
+        λ n p there.
+        ⊎_elim
+        (λ (before : slice_get r.propositional n ≡ Some p). sound.over_names n p before)
+        (λ (last : (n ≡ length r.propositional) × (record { names = names; line = length r.lines - 1 } ≡ p)). subst (HasNames r.lines) last.1 new)
+        (get-end r.propositional (record { names = names; line = length r.lines - 1 }) p n there);
+    handed_few =
+        λ s out.
+        let few : s.clauses ≤ length r.propositional = sound.handed_few s out in
+        let count : length (r.propositional ++ record { names = names; line = length r.lines - 1 } ∷ []) ≡ length r.propositional + 1 =
+        length-append r.propositional (record { names = names; line = length r.lines - 1 } ∷ []) in
+        omega (arith, few, count);
+    bare = λ none. absurd (some_part none);
+    refuted = sound.refuted;
   }
     where
-      none-refuted : None ≡ Some Refuted → ⊥
-      none-refuted h = cc
+      new : HasNames r.lines (record { names = names; line = length r.lines - 1 })
+      new = record { line = is.last; there = last-there r.lines is.last is.ends; gives = is.gives }
 
-      ended : EndsWith (r.lines ++ more) c
-      ended = ends_behind r.lines more c is.ends
+  pub continued-lines : (r : PoolRecord) (more : List Line) (c : TreeClause) → r.ended ≡ None → Sound r → Continue r.parts r.lines more c → Sound (with_lines r more)
+  continued-lines r more c is_open sound is = lines-sound r more is_open sound is.go_on is.no_names
 
-      new : HasLine (r.lines ++ more) (record { clause = c; line = length (r.lines ++ more) - 1 })
-      new = record { line = ended.last; there = last-there (r.lines ++ more) ended.last ended.ends; gives = ended.gives }
+  -- the line of a clause to which lines lead
+  pub continued-line :
+      (r : PoolRecord) (more : List Line) (c : TreeClause)
+      → Continue r.parts r.lines more c → HasLine r.parts (r.lines ++ more) (record { clause = c; line = length (r.lines ++ more) - 1 })
+  continued-line r more c is =
+      let ended = ends_behind r.lines more (on_line r.parts c) is.ends in
+      record { line = ended.last; there = last-there (r.lines ++ more) ended.last ended.ends; gives = ended.gives }
+
+  pub continued-sound :
+      (r : PoolRecord) (more : List Line) (c : TreeClause)
+      → r.ended ≡ None → Sound r → Continue r.parts r.lines more c → Sound (registered_last c (with_lines r more))
+  continued-sound r more c is_open sound is =
+      registered-sound (with_lines r more) (length (r.lines ++ more) - 1) c (continued-lines r more c is_open sound is) is.whole (continued-line r more c is)
 
   -- ---- the lines of a batch
 
@@ -251,48 +291,43 @@ module _ (usage : SymbolUse) (inputs : List TreeClause) where
     abbrev number : ℕ → ℕ
     number = line_number r.registered (length r.lines)
 
-    clause-formed : (n : ℕ) (c : TreeClause) → is.clauses n ≡ Some c → IsFormed usage c
+    clause-formed : (n : ℕ) (c : TreeClause) → is.clauses n ≡ Some c → IsFormed usage (length r.parts) c
     clause-formed n c h =
         let at = is.there n c h in
-        let whole = all-at (λ (x : Registered). IsWhole usage x.clause) r.registered n at.0 sound.whole at.1 in
-        subst (IsFormed usage) at.2 (record { literals = whole.formed; no_names = whole.no_names })
+        let whole = all-at (λ (x : Registered). IsWhole usage (length r.parts) x.clause) r.registered n at.0 sound.whole at.1 in
+        subst (IsFormed usage (length r.parts)) at.2
+        (record { literals = whole.formed; below = below-from (length r.parts) (at.0).clause.names whole.asserts.negative whole.met })
 
-    line-is-formed : (k : ℕ) (l : Line) → slice_get lines k ≡ Some l → IsFormed usage (clause_of l.clause)
-    line-is-formed k l there = each-formed usage is.clauses lines is.from clause-formed k l there
+    line-is-formed : (k : ℕ) (l : Line) → slice_get lines k ≡ Some l → IsFormed usage (length r.parts) (clause_of l.clause)
+    line-is-formed k l there = each-formed usage (length r.parts) is.clauses lines is.from clause-formed k l there
 
     kind : (k : ℕ) (l : Line) → slice_get lines k ≡ Some l → is_on_literals l.step ≡ true
     kind k l there = list_all-item (λ (m : Line). is_on_literals m.step) lines k l there is.from.lines_right.kinds
-
-    no-names : (l : Line) → IsFormed usage (clause_of l.clause) → line_names r.parts l.clause.names ≡ []
-    no-names l formed = ap (line_names r.parts) formed.no_names
-
-    same-clause : (l : Line) → IsFormed usage (clause_of l.clause) → clause_of (pool_line r l).clause ≡ clause_of l.clause
-    same-clause l formed = ap (under_names (map literal_of l.clause.literals)) (no-names l formed ∙ sym formed.no_names)
 
     -- a registered clause's line
     mapped-below :
         (k n : ℕ) (p : Parent)
         → nat_lt n CLAUSE_NUMBERS ≡ true → clause_parents is.clauses n ≡ Some p
-        → (q : Parent) × (line_parents (r.lines ++ take k put) (number n) ≡ Some q) × (q.clause ≡ p.clause)
+        → (q : Parent) × (line_parents (r.lines ++ take k put) (number n) ≡ Some q) × (q.clause ≡ on_line r.parts p.clause)
     mapped-below k n p below there =
         option_map-some (λ c. let q : Parent = record { clause = c; introduces = false } in q) (is.clauses n) p there λ c c_is gives.
         let at = is.there n c c_is in
         let line = sound.lined n at.0 at.1 in
-        let plain = all-at (IsPlainLine usage) r.lines at.0.line line.line sound.plain line.there in
+        let plain = all-at (IsPoolLine usage) r.lines at.0.line line.line sound.made.each line.there in
         let place : number n ≡ at.0.line =
         cond-true (nat_lt n CLAUSE_NUMBERS) (unwrap_or (option_map (λ (x : Registered). x.line) (slice_get r.registered n)) 0) (length r.lines + (n - CLAUSE_NUMBERS)) below
         ∙ ap (λ (o : Option Registered). unwrap_or (option_map (λ (x : Registered). x.line) o) 0) at.1 in (
           record { clause = clause_of line.line.clause; introduces = introduces_name line.line.step },
           ap (line_parents (r.lines ++ take k put)) place
-              ∙ parent-there (r.lines ++ take k put) at.0.line line.line (get-left r.lines (take k put) at.0.line line.line line.there) (plain-clause_step line.line.step plain.step),
-          line.gives ∙ at.2 ∙ ap (λ (q : Parent). q.clause) gives,
+              ∙ parent-there (r.lines ++ take k put) at.0.line line.line (get-left r.lines (take k put) at.0.line line.line line.there) plain.step,
+          line.gives ∙ ap (on_line r.parts) (at.2 ∙ ap (λ (q : Parent). q.clause) gives),
         )
 
     -- a line of the batch
     mapped-above :
         (k n : ℕ) (p : Parent)
         → nat_lt n CLAUSE_NUMBERS ≡ false → line_parents (take k lines) (n - CLAUSE_NUMBERS) ≡ Some p
-        → (q : Parent) × (line_parents (r.lines ++ take k put) (number n) ≡ Some q) × (q.clause ≡ p.clause)
+        → (q : Parent) × (line_parents (r.lines ++ take k put) (number n) ≡ Some q) × (q.clause ≡ on_line r.parts p.clause)
     mapped-above k n p above there =
         let at = parent_line lines k (n - CLAUSE_NUMBERS) p there in
         let place : number n ≡ length r.lines + (n - CLAUSE_NUMBERS) =
@@ -302,7 +337,7 @@ module _ (usage : SymbolUse) (inputs : List TreeClause) where
           record { clause = clause_of (pool_line r at.line).clause; introduces = introduces_name (pool_line r at.line).step },
           parent-there (r.lines ++ take k put) (number n) (pool_line r at.line) there_too
               (stays-one number at.line.step (kind (n - CLAUSE_NUMBERS) at.line at.there)).is_clause,
-          same-clause at.line (line-is-formed (n - CLAUSE_NUMBERS) at.line at.there) ∙ ap (λ (q : Parent). q.clause) at.gives,
+          ap (λ (q : Parent). on_line r.parts q.clause) at.gives,
         )
       where
         taken : (k i : ℕ) (l : Line) → i < k → slice_get lines i ≡ Some l → slice_get (take k put) i ≡ Some (pool_line r l)
@@ -310,7 +345,7 @@ module _ (usage : SymbolUse) (inputs : List TreeClause) where
             ap (λ ls. slice_get ls i) (take-map (pool_line r) k lines) ∙ slice_get-map (pool_line r) (take k lines) i
             ∙ ap (λ (o : Option Line). option_map (pool_line r) o) (get-taken lines k i l within there)
 
-    mapped : (k : ℕ) → AreMapped number (continued CLAUSE_NUMBERS (clause_parents is.clauses) (take k lines)) (line_parents (r.lines ++ take k put))
+    mapped : (k : ℕ) → AreMapped (line_names r.parts) number (continued CLAUSE_NUMBERS (clause_parents is.clauses) (take k lines)) (line_parents (r.lines ++ take k put))
     mapped k n p there =
         ⊎_elim
         (λ (below : nat_lt n CLAUSE_NUMBERS ≡ true). mapped-below k n p below (sym (cond-true (nat_lt n CLAUSE_NUMBERS) (clause_parents is.clauses n) (line_parents (take k lines) (n - CLAUSE_NUMBERS)) below) ∙ there))
@@ -320,21 +355,20 @@ module _ (usage : SymbolUse) (inputs : List TreeClause) where
     -- each line comes by its step
     comes-one : (k : ℕ) (l : Line) → slice_get lines k ≡ Some l → ComesBy (pool_line r l).step inputs (r.lines ++ take k put) (clause_of (pool_line r l).clause)
     comes-one k l there =
-        subst (ComesBy (with_parents number l.step) inputs (r.lines ++ take k put)) (sym (same-clause l (line-is-formed k l there)))
-        (comes-mapped inputs number (continued CLAUSE_NUMBERS (clause_parents is.clauses) (take k lines)) (r.lines ++ take k put) l.step (clause_of l.clause)
-        (mapped k) (kind k l there) (is.from.lines_right.steps k l there))
+        comes-mapped inputs (line_names r.parts) number (continued CLAUSE_NUMBERS (clause_parents is.clauses) (take k lines)) (r.lines ++ take k put) l.step
+        (clause_of l.clause) (line_names-keep r.parts) (mapped k) (kind k l there) (is.from.lines_right.steps k l there)
 
-    plain-one : (k : ℕ) (l : Line) → slice_get lines k ≡ Some l → IsPlainLine usage (pool_line r l)
-    plain-one k l there =
+    pool-one : (k : ℕ) (l : Line) → slice_get lines k ≡ Some l → IsPoolLine usage (pool_line r l)
+    pool-one k l there =
         let formed = line-is-formed k l there in
         let numbered = all-at IsNumbered lines k l is.from.lines_right.numbered there in
         let fit : binds_each (is_function_term_of usage) l.step ≡ true =
-        list_all-item (λ (m : Line). binds_each (is_function_term_of usage) m.step) lines k l there (lines-fit usage is.clauses lines is.from clause-formed) in
+        list_all-item (λ (m : Line). binds_each (is_function_term_of usage) m.step) lines k l there (lines-fit usage (length r.parts) is.clauses lines is.from clause-formed) in
         let small : has_small_terms l ≡ true = list_all-item has_small_terms lines k l there is.from.lines_right.small in
         let same : bindings_of (with_parents number l.step) ≡ bindings_of l.step = same-bindings number l.step in
         record {
-          step = (stays-one number l.step (kind k l there)).plain;
-          no_names = no-names l formed;
+          step = (stays-one number l.step (kind k l there)).is_clause;
+          sorted = sorted_names-sorted (map (λ tag. opposite (name_of_tag r.parts tag)) (assertions l.clause.names));
           formed = formed.literals;
           terms = ap (list_all (list_all (is_function_term_of usage))) same ∙ fit;
           numbered = record {
@@ -348,11 +382,11 @@ module _ (usage : SymbolUse) (inputs : List TreeClause) where
 
     put-symbols : HaveInputSymbols inputs put
     put-symbols test truth pass =
-        let before = sound.symbols test truth pass in
+        let before = sound.made.symbols test truth pass in
         let told : (n : ℕ) (c : TreeClause) → is.clauses n ≡ Some c → clause_symbols_pass test c ≡ true = λ n c h.
         let at = is.there n c h in
         let line = sound.lined n at.0 at.1 in
-        ap (clause_symbols_pass test) (sym (line.gives ∙ at.2))
+        ap (λ (d : TreeClause). clause_symbols_pass test d) (sym at.2) ∙ ap (λ (d : TreeClause). clause_symbols_pass test d) (sym line.gives)
         ∙ list_all-item (λ (l : Line). clause_symbols_pass test (clause_of l.clause)) r.lines at.0.line line.line line.there before.0 in
         let both = is.from.symbols test truth told in (
           list_all-map_from (λ (l : Line). clause_symbols_pass test (clause_of l.clause)) (λ (l : Line). clause_symbols_pass test (clause_of l.clause))
@@ -361,31 +395,39 @@ module _ (usage : SymbolUse) (inputs : List TreeClause) where
               (pool_line r) (λ l h. ap (list_all (list_all (symbols_pass test))) (same-bindings number l.step) ∙ h) lines both.1,
         )
 
-    pub batch-continues : (c : TreeClause) → result_of lines ≡ Some c → Continue r.lines put c
+    pub batch-continues : (c : TreeClause) → result_of lines ≡ Some c → Continue r.parts r.lines put c
     batch-continues c led =
-        let formed = result-formed usage is.clauses lines is.from clause-formed c led in
+        let formed = result-formed usage (length r.parts) is.clauses lines is.from clause-formed c led in
         record {
           whole = record {
-            canonical = result-canonical usage is.clauses lines is.from clause-formed c led;
-            no_names = formed.no_names;
+            canonical = result-canonical usage (length r.parts) is.clauses lines is.from clause-formed c led;
+            asserts =
+                assertions-from (length r.parts) c.names formed.below
+                (result-sorted usage (length r.parts) is.clauses lines is.from clause-formed c led);
+            met = all-met (length r.parts) c.names formed.below;
             small = is.small c led;
             formed = formed.literals;
           };
-          comes =
+          go_on = record {
+            comes =
+                λ k line there.
+                let at = get-mapped (pool_line r) lines k line there in
+                subst (λ (m : Line). ComesBy m.step inputs (r.lines ++ take k put) (clause_of m.clause)) at.gives (comes-one k at.item at.there);
+            each =
+                all-from (IsPoolLine usage) put
+                (λ k line there. let at = get-mapped (pool_line r) lines k line there in subst (IsPoolLine usage) at.gives (pool-one k at.item at.there));
+            symbols = put-symbols;
+          };
+          no_names =
               λ k line there.
               let at = get-mapped (pool_line r) lines k line there in
-              subst (λ (m : Line). ComesBy m.step inputs (r.lines ++ take k put) (clause_of m.clause)) at.gives (comes-one k at.item at.there);
-          plain =
-              all-from (IsPlainLine usage) put
-              (λ k line there. let at = get-mapped (pool_line r) lines k line there in subst (IsPlainLine usage) at.gives (plain-one k at.item at.there));
-          symbols = put-symbols;
+              subst (λ (m : Line). introduces_name m.step ≡ false) at.gives (stays-one number at.item.step (kind k at.item at.there)).no_name;
           ends =
               option_map-some (λ (l : Line). clause_of l.clause) (last_or None lines) c led λ line line_is gives.
               let ends = last-ends lines line line_is in
-              let place : ℕ = length lines - 1 in
               record {
                 last = pool_line r line;
                 ends = record { before = map (pool_line r) ends.before; ends = ap (map (pool_line r)) ends.ends ∙ map-append (pool_line r) ends.before (line ∷ []) };
-                gives = same-clause line (line-is-formed place line (last-there lines line ends)) ∙ gives;
+                gives = ap (on_line r.parts) gives;
               };
         }

@@ -1,30 +1,36 @@
--- Where nothing is split, each event of a lawful history keeps the registered clauses whole and the lines a derivation.
-use Rattle.std.proofs.Common.{◌≡◌, ℕ, ◌<◌, ◌≤◌, Bool, true, false, List, [], ◌∷◌, ◌++◌, map, length, refl, ap, ap₂, sym, ◌∙◌, subst, arith}
-use Rattle.std.specs.Prelude.{Option, None, Some, is_none, slice_get, nat_lt, nat_le, fold, find, if◌then◌else◌}
-use Rattle.std.specs.List.{AllByRecursion, cons_option}
-use Rattle.std.proofs.lemmas.Bool.{true≢false, and_parts, eqb-true, ltb-true}
-use Rattle.std.proofs.lemmas.List.Elements.{recursion_from_All}
+-- Each event of a lawful history keeps the registered clauses whole and the lines a derivation.
+use Rattle.std.proofs.Common.{◌≡◌, ℕ, ◌-◌, ◌<◌, ◌≤◌, Bool, true, false, ◌==◌, List, [], ◌∷◌, ◌++◌, map, length, refl, ap, ap₂, sym, ◌∙◌, subst, arith}
+use Rattle.std.specs.Prelude.{Option, None, Some, is_none, slice_get, nat_le, flat_map, fold, find, All, if◌then◌else◌}
+use Rattle.std.specs.List.{list_all, AllByRecursion, cons_option}
+use Rattle.std.proofs.lemmas.Bool.{true≢false, and_parts, or_left, or_right, eqb-true, eq-eqb}
+use Rattle.std.proofs.lemmas.List.Elements.{recursion_from_All, All-head}
+use Rattle.std.proofs.lemmas.List.Folds.{list_any-append}
 use Rattle.std.proofs.lemmas.Option.{none-some, same_Some}
+use Rattle.plain_types.specs.declared.sequence.NameLit.{NameLit}
+use Rattle.fol_base.specs.Tree.{true_symbol}
 use Rattle.fol_base.specs.Clause.{TreeClause, clause_size}
 use Rattle.fol_base.specs.Literal.{clause_of}
 use Rattle.fol_base.specs.WellFormed.{SymbolUse}
 use Rattle.fol_base.specs.declared.limits.TheConstants.{MOST_SYMBOLS}
-use Rattle.fol_base.proofs.WorkedExamples.TestLemmas.{option_map-some}
-use Rattle.kernel_steps.specs.Conclusion.{empty_clause}
+use Rattle.fol_base.proofs.WorkedExamples.TestLemmas.{option_map-some, list_all-item}
 use Rattle.kernel_steps.specs.Moves.{end_of_moves}
-use Rattle.kernel_steps.specs.Split.{has_number}
+use Rattle.kernel_steps.specs.Split.{has_number, is_part, literals_at, canonical_literals}
+use Rattle.kernel_steps.specs.Symbols.{literal_symbols_pass, clause_symbols_pass}
 use Rattle.kernel_steps.specs.declared.key.Key.{Key}
 use Rattle.kernel_steps.specs.declared.key.Key.TheVariants.{Replaced}
 use Rattle.kernel_steps.specs.declared.step.Line.{Line}
 use Rattle.kernel_steps.specs.Derivation.{under_names}
 use Rattle.laws_calculus.specs.Lifting.{among}
-use Rattle.pool_history.specs.Record.{PoolRecord, Registered, GivenJob, clauses_of, given_job, has_living, without_job}
-use Rattle.pool_history.specs.Tags.{line_names}
+use Rattle.pool_history.specs.Record.{PoolRecord, Registered, GivenJob, SolverJob, clauses_of, given_job, has_living, without_job}
+use Rattle.pool_history.specs.Components.{components_of, parts_of, is_to_split}
+use Rattle.pool_history.specs.Tags.{name_count, line_names}
 use Rattle.pool_history.specs.Lines.{with_lines, pool_line, result_of}
-use Rattle.pool_history.specs.Registering.{registered_last, has_none, with_refutation, with_propositional, empty_comes, comes}
+use Rattle.pool_history.specs.Registering.{registered_last, has_none, with_refutation, with_propositional, empty_comes, split_up, comes}
 use Rattle.pool_history.specs.Counting.{lines_of_fate, lines_of_entries, keys_of, comes_by, result_comes, refutes, spends, counts}
 use Rattle.pool_history.specs.Returning.{dies, replaced, removed, takes_effect, proposed, becomes_active, sets_aside, worked, returns_to}
-use Rattle.pool_history.specs.Solving.{must_solve}
+use Rattle.sat_core.specs.Answer.{IsRightLog}
+use Rattle.sat_core.specs.declared.answer.Chain as log
+use Rattle.pool_history.specs.Solving.{handed, cited_line, chain_step, with_step, modelled_by, refuted_by}
 use Rattle.pool_history.specs.Claiming.{next_given, given_out, claimed_by}
 use Rattle.pool_history.specs.Batches.{is_told, is_told_beside, IsRightFate, IsRightRemovalBy, IsRightRemoval, IsRightWork}
 use Rattle.pool_history.specs.Replay.{without_solver, after}
@@ -45,16 +51,17 @@ use Rattle.pool_history.specs.declared.event.Event.TheVariants.{Claim, Return, S
 use Rattle.pool_history.proofs.AboutRecords.FrameLemmas.{by-if, result-registers}
 use Rattle.pool_history.proofs.AboutRecords.GrowthLemmas.{all-proposed-grows, counts-grows}
 use Rattle.pool_history.proofs.AboutLines.JoinedLemmas.{by-test, found-holds}
-use Rattle.pool_history.proofs.AboutLines.PoolLineLemmas.{Sound, Continue, EndsWith, ends_behind, continued-sound, Arrives, arrives-more, batch-continues}
+use Rattle.pool_history.proofs.AboutLines.FinestLemmas.{computed-finest}
+use Rattle.pool_history.proofs.AboutLines.PartLemmas.{IsPart, one-part, some-literals, places-inside}
+use Rattle.pool_history.proofs.AboutLines.PoolLineLemmas.{on_line, HasLine, Sound, Continue, EndsWith, ends_behind, continued-lines, continued-line, continued-sound, propositional-sound, Arrives, arrives-more, batch-continues}
+use Rattle.pool_history.proofs.AboutLines.SplitSoundLemmas.{split_up-sound}
+use Rattle.pool_history.proofs.AboutLines.RefutationLemmas.{refuted-sound}
 use Rattle.pool_history.proofs.AboutLines.SizeLemmas.{moves-size, conclusion-small}
 use Rattle.pool_history.proofs.AboutRecords.ItemLemmas.{all-at}
 
 none-in : {X : Type 0} (xs : List X) → has_none xs ≡ true → xs ≡ []
 none-in [] h = refl
 none-in (x ∷ xs) h = let none : length (x ∷ xs) ≡ 0 = eqb-true (length (x ∷ xs)) 0 h in absurd (omega (arith, none))
-
-no-parts : (c : TreeClause) → c.literals ≡ [] → c.names ≡ [] → c ≡ empty_clause
-no-parts c literals names = ap₂ under_names literals names
 
 pub open-is : (o : Option Outcome) → is_none o ≡ true → o ≡ None
 open-is None h = refl
@@ -64,45 +71,96 @@ module _ (usage : SymbolUse) (inputs : List TreeClause) where
   abbrev Holds : PoolRecord → Type 0
   Holds r = Sound usage inputs r
 
-  abbrev Comes : List Registered → List Line → Type 0
+  abbrev pub Comes : List Registered → List Line → Type 0
   Comes registered lines = Arrives usage inputs registered lines
 
   -- ---- a clause that comes by lines
 
-  -- where nothing is split it is registered, or refutes, or nothing changes
+  -- its parts
+  clause-parts : (r : PoolRecord) → Holds r → (c : TreeClause) (n : ℕ) → IsWhole usage (length r.parts) c → HasLine usage inputs r.parts r.lines (record { clause = c; line = n }) → AllByRecursion (IsPart usage inputs) (parts_of c.literals)
+  clause-parts r sound c n whole line =
+      all (components_of c.literals) (computed-finest c.literals).are_parts (places-inside c.literals)
+    where
+      passes :
+          (test : ℕ → ℕ → Bool)
+          → test true_symbol 0 ≡ true → list_all (clause_symbols_pass test) inputs ≡ true → list_all (literal_symbols_pass test) c.literals ≡ true
+      passes test truth pass =
+          ap (λ (d : TreeClause). clause_symbols_pass test d) (sym line.gives)
+          ∙ list_all-item (λ (l : Line). clause_symbols_pass test (clause_of l.clause)) r.lines n line.line line.there (sound.made.symbols test truth pass).0
+
+      all :
+          (kss : List (List ℕ)) → list_all is_part kss ≡ true → ((j : ℕ) → has_number j (flat_map (λ ks. ks) kss) ≡ true → j < length c.literals)
+          → AllByRecursion (IsPart usage inputs) (map (λ ks. canonical_literals (literals_at c.literals ks)) kss)
+      all [] are inside = tt
+      all (ks ∷ kss) are inside =
+          let both = and_parts (is_part ks) (list_all is_part kss) are in
+          let here : (j : ℕ) → has_number j ks ≡ true → j < length c.literals = λ j there.
+          inside j
+          (list_any-append (λ k. j == k) ks (flat_map (λ js. js) kss) ∙ or_left (has_number j ks) (has_number j (flat_map (λ js. js) kss)) there) in
+          let later : (j : ℕ) → has_number j (flat_map (λ js. js) kss) ≡ true → j < length c.literals = λ j there.
+          inside j
+          (list_any-append (λ k. j == k) ks (flat_map (λ js. js) kss) ∙ or_right (has_number j ks) (has_number j (flat_map (λ js. js) kss)) there) in
+          (one-part usage inputs c.literals ks whole.small whole.formed passes both.0 (some-literals c.literals ks both.0 here), all kss both.1 later)
+
+  -- it is registered, or falls into parts, or gives a propositional clause, or refutes, or nothing changes
   pub comes-sound :
       (split : Bool) (lines : List Line) (c : TreeClause) (r : PoolRecord)
-      → split ≡ false → r.ended ≡ None → Holds r → Continue usage inputs r.lines lines c → Holds (comes split lines c r)
-  comes-sound split lines c r unsplit is_open sound is = subst (λ b. Holds (comes b lines c r)) (sym unsplit) unsplit-sound
+      → r.ended ≡ None → Holds r → Continue usage inputs r.parts r.lines lines c → Holds (comes split lines c r)
+  comes-sound split lines c r is_open sound is =
+      by-test Holds (has_none c.literals) (empty_comes c (with_lines r lines))
+      (if is_to_split split c.literals then split_up c (with_lines r lines) else (if has_living r c then r else registered_last c (with_lines r lines)))
+      empty-sound
+      (λ some.
+      by-if Holds (is_to_split split c.literals) (split_up c (with_lines r lines)) (if has_living r c then r else registered_last c (with_lines r lines))
+      (split_up-sound usage inputs c (with_lines r lines) is_open put is.whole line
+      (λ none. absurd (true≢false (sym (eq-eqb (length c.literals) 0 none) ∙ some)))
+      (clause-parts (with_lines r lines) put c (length (r.lines ++ lines) - 1) is.whole line))
+      (by-if Holds (has_living r c) r (registered_last c (with_lines r lines)) sound registered))
     where
+      put : Holds (with_lines r lines)
+      put = continued-lines usage inputs r lines c is_open sound is
+
+      line : HasLine usage inputs r.parts (r.lines ++ lines) (record { clause = c; line = length (r.lines ++ lines) - 1 })
+      line = continued-line usage inputs r lines c is
+
       registered : Holds (registered_last c (with_lines r lines))
       registered = continued-sound usage inputs r lines c is_open sound is
 
+      -- who asserts a part has one
+      some-part : (ns : List NameLit) → All (λ n. n.name < length r.parts) ns → has_none ns ≡ false → r.parts ≡ [] → ⊥
+      some-part [] met asserted none = true≢false asserted
+      some-part (n ∷ ns) met asserted none =
+          let below : n.name < length r.parts = All-head (λ m. m.name < length r.parts) n ns met in
+          let count : length r.parts ≡ 0 = ap length none in
+          absurd (omega (arith, below, count))
+
+      -- the last line
+      ends : EndsWith usage inputs (r.lines ++ lines) (on_line r.parts c)
+      ends = ends_behind usage inputs r.lines lines (on_line r.parts c) is.ends
+
       empty-sound : has_none c.literals ≡ true → Holds (empty_comes c (with_lines r lines))
       empty-sound none =
-          let empty : c ≡ empty_clause = no-parts c (none-in c.literals none) is.whole.no_names in
-          subst (λ (b : Bool). Holds (if b then with_refutation (registered_last c (with_lines r lines)) else with_propositional (line_names r.parts c.names) (with_lines r lines)))
-          (sym (ap has_none is.whole.no_names))
-          (record {
+          let bare : c.literals ≡ [] = none-in c.literals none in
+          by-test Holds (has_none c.names) (with_refutation (registered_last c (with_lines r lines))) (with_propositional (line_names r.parts c.names) (with_lines r lines))
+          (λ nameless.
+          let without : line_names r.parts c.names ≡ [] = ap (line_names r.parts) (none-in c.names nameless) in
+          record {
             whole = registered.whole;
             lined = registered.lined;
-            derived = registered.derived;
-            plain = registered.plain;
-            symbols = registered.symbols;
-            refuted = λ h. subst (EndsWith usage inputs (r.lines ++ lines)) empty (ends_behind usage inputs r.lines lines c is.ends);
-            no_propositional = registered.no_propositional;
-            no_solver = registered.no_solver;
+            made = registered.made;
+            named = registered.named;
+            over_names = registered.over_names;
+            handed_few = registered.handed_few;
+            bare = registered.bare;
+            refuted = λ h. subst (EndsWith usage inputs (r.lines ++ lines)) (ap₂ under_names bare without) ends;
           })
-
-      unsplit-sound : Holds (comes false lines c r)
-      unsplit-sound =
-          by-test Holds (has_none c.literals) (empty_comes c (with_lines r lines))
-          (if has_living r c then r else registered_last c (with_lines r lines)) empty-sound
-          (λ some. by-if Holds (has_living r c) r (registered_last c (with_lines r lines)) sound registered)
+          (λ asserted.
+          propositional-sound usage inputs (with_lines r lines) (line_names r.parts c.names) put (some-part c.names is.whole.met asserted)
+          (subst (λ ls. EndsWith usage inputs (r.lines ++ lines) (under_names ls (line_names r.parts c.names))) bare ends))
 
   -- ---- results of a batch
 
-  module _ (options : Options) (unsplit : options.split ≡ false) where
+  module _ (options : Options) where
     result-sound : (lines : List Line) (r : PoolRecord) → Comes r.registered lines → Holds r → Holds (result_comes options.split r lines)
     result-sound lines r arrives sound =
         by-test Holds (is_none r.ended) (comes_by options.split lines (result_of lines) r) r
@@ -111,7 +169,7 @@ module _ (usage : SymbolUse) (inputs : List TreeClause) where
         by : (o : Option TreeClause) → result_of lines ≡ o → r.ended ≡ None → Holds (comes_by options.split lines o r)
         by None led is_open = sound
         by (Some c) led is_open =
-            comes-sound options.split (map (pool_line r) lines) c r unsplit is_open sound (batch-continues usage inputs r sound lines arrives c led)
+            comes-sound options.split (map (pool_line r) lines) c r is_open sound (batch-continues usage inputs r sound lines arrives c led)
 
     later-comes : (r s : PoolRecord) → ((cs : List Registered) × (s.registered ≡ r.registered ++ cs)) → (lines : List Line) → Comes r.registered lines → Comes s.registered lines
     later-comes r s more lines arrives = subst (λ xs. Comes xs lines) (sym more.1) (arrives-more usage inputs r.registered more.0 lines arrives)
@@ -136,16 +194,16 @@ module _ (usage : SymbolUse) (inputs : List TreeClause) where
     spends-sound None r all sound = record {
       whole = sound.whole;
       lined = sound.lined;
-      derived = sound.derived;
-      plain = sound.plain;
-      symbols = sound.symbols;
-      refuted = λ (h : Some (Spent (length r.counted)) ≡ Some Refuted). absurd (not-refuted (length r.counted) h);
-      no_propositional = sound.no_propositional;
-      no_solver = sound.no_solver;
+      made = sound.made;
+      named = sound.named;
+      over_names = sound.over_names;
+      handed_few = sound.handed_few;
+      bare = sound.bare;
+      refuted = λ (h : Some (Spent (length r.counted)) ≡ Some Refuted). absurd (spent-not-refuted (length r.counted) h);
     }
       where
-        not-refuted : (n : ℕ) → Some (Spent n) ≡ Some Refuted → ⊥
-        not-refuted n h = cc
+        spent-not-refuted : (n : ℕ) → Some (Spent n) ≡ Some Refuted → ⊥
+        spent-not-refuted n h = cc
     spends-sound (Some lines) r all sound = result-sound lines r (all lines refl) sound
 
     counts-sound :
@@ -160,7 +218,7 @@ module _ (usage : SymbolUse) (inputs : List TreeClause) where
     -- ---- removals
 
     -- the lines of a fate, if it has any
-    abbrev FateComes : List Registered → Fate → Type 0
+    abbrev pub FateComes : List Registered → Fate → Type 0
     FateComes registered fate = (lines : List Line) → lines_of_fate fate ≡ Some lines → Comes registered lines
 
     removed-sound : (m : Removal) (r : PoolRecord) → FateComes r.registered m.fate → Holds r → Holds (removed options m r)
@@ -228,7 +286,7 @@ module _ (usage : SymbolUse) (inputs : List TreeClause) where
         small =
             λ c led.
             let at = told-there victim right.clause right.there in
-            let whole = all-at (λ (x : Registered). IsWhole usage x.clause) r.registered victim at.0 sound.whole at.1 in
+            let whole = all-at (λ (x : Registered). IsWhole usage (length r.parts) x.clause) r.registered victim at.0 sound.whole at.1 in
             let there : clause_size at.0.clause ≡ clause_size right.clause = ap clause_size at.2 in
             let less = moves-size usage.is_predicate (among (is_told_beside j victim) (clauses_of r)) right.clause (right.move ∷ right.moves) right.reduced.moved in
             let same : clause_size (end_of_moves right.clause (right.move ∷ right.moves)) ≡ clause_size right.result = ap clause_size right.reduced.ends in
@@ -238,7 +296,7 @@ module _ (usage : SymbolUse) (inputs : List TreeClause) where
       removal-comes victim justifiers (Dropped redundancy) right lines is = absurd (none-some lines is)
       removal-comes victim justifiers Heavy right lines is = absurd right
 
-      all-entries-come :
+      pub all-entries-come :
           (entries : List Entry) → AllByRecursion (λ (e : Entry). IsRightFate usage.is_predicate options (clauses_of r) j e.key e.fate) entries
           → AllByRecursion (Comes r.registered) (lines_of_entries entries)
       all-entries-come [] right = tt
@@ -251,7 +309,7 @@ module _ (usage : SymbolUse) (inputs : List TreeClause) where
           by (Dropped redundancy) comes rest = rest
           by Heavy comes rest = rest
 
-      all-removals-come :
+      pub all-removals-come :
           (ms : List Removal) → AllByRecursion (IsRightRemoval usage.is_predicate options (clauses_of r) j) ms
           → AllByRecursion (λ (m : Removal). FateComes r.registered m.fate) ms
       all-removals-come [] right = tt
@@ -295,34 +353,75 @@ module _ (usage : SymbolUse) (inputs : List TreeClause) where
     claimed-sound job (Some n) r sound =
         by-if (λ s. Holds (given_out options job n s)) (has_number n r.positions) r (record r { positions = r.positions ++ n ∷ [] }) sound sound
 
-    pub no-solve : (r : PoolRecord) → Holds r → must_solve r ≡ true → ⊥
-    no-solve r sound h =
-        none (and_parts (nat_lt r.modelled (length r.propositional)) (is_none r.solver) h).0
-      where
-        none : nat_lt r.modelled (length r.propositional) ≡ true → ⊥
-        none is =
-            let less : r.modelled < length r.propositional = ltb-true r.modelled (length r.propositional) is in
-            let count : length r.propositional ≡ 0 = ap length sound.no_propositional in
-            absurd (omega (arith, less, count))
+    without-solver : (r : PoolRecord) → Holds r → Holds (record r { solver = None })
+    without-solver r sound = record {
+      whole = sound.whole;
+      lined = sound.lined;
+      made = sound.made;
+      named = sound.named;
+      over_names = sound.over_names;
+      handed_few = λ s none. absurd (none-some s none);
+      bare = sound.bare;
+      refuted = sound.refuted;
+    }
 
-    after-sound : (r : PoolRecord) (e : Event) → IsAllowed usage.is_predicate options r e → Holds r → Holds (after options r e)
+    modelled-sound : (o : Option SolverJob) (truths : List Bool) (r : PoolRecord) → Holds r → Holds (modelled_by o truths r)
+    modelled-sound None truths r sound = sound
+    modelled-sound (Some s) truths r sound = without-solver r sound
+
+    refutation-sound :
+        (o : Option SolverJob) (s : SolverJob) (chains : List log.Chain) (r : PoolRecord)
+        → r.solver ≡ Some s → o ≡ Some s → IsRightLog (handed r s) chains → Holds r → Holds (refuted_by o chains r)
+    refutation-sound o s chains r out is right sound =
+        subst (λ p. Holds (refuted_by p chains r)) (sym is)
+        (by-test Holds (is_none r.ended)
+        (record r { solver = None; lines = fold with_step r.lines (map (chain_step (cited_line r s (length r.lines))) chains); ended = Some Refuted })
+        (record r { solver = None })
+        (λ is_open. refuted-sound usage inputs r s chains (open-is r.ended is_open) out sound right)
+        (λ ended. without-solver r sound))
+
+    pub after-sound : (r : PoolRecord) (e : Event) → IsAllowed usage.is_predicate options r e → Holds r → Holds (after options r e)
     after-sound r (Claim job) allowed sound = claimed-sound job (next_given r) r sound
     after-sound r (Return batch) allowed sound = returned-sound batch (given_job r batch.job) allowed.given r allowed.out (allowed.says).2 sound
     after-sound r (Stale job justifier) allowed sound = sound
     after-sound r (Void job) allowed sound = sound
-    after-sound r (ClaimSolve job) allowed sound = absurd (no-solve r sound allowed.1)
-    after-sound r (ReturnModel job truths) allowed sound = absurd (none-some allowed.solver (sym sound.no_solver ∙ allowed.out))
-    after-sound r (ReturnRefuted job chains) allowed sound = absurd (none-some allowed.solver (sym sound.no_solver ∙ allowed.out))
+    after-sound r (ClaimSolve job) allowed sound = record {
+      whole = sound.whole;
+      lined = sound.lined;
+      made = sound.made;
+      named = sound.named;
+      over_names = sound.over_names;
+      handed_few =
+          λ s same.
+          let all : length r.propositional ≡ s.clauses =
+          ap (λ (j : SolverJob). j.clauses) (same_Some (record { job = job; clauses = length r.propositional; names = name_count r.parts }) s same) in
+          omega (arith, all);
+      bare = sound.bare;
+      refuted = sound.refuted;
+    }
+    after-sound r (ReturnModel job truths) allowed sound = modelled-sound r.solver truths r sound
+    after-sound r (ReturnRefuted job chains) allowed sound =
+        refutation-sound r.solver allowed.solver chains r allowed.out allowed.out allowed.says sound
     after-sound r (Abandon job) allowed sound = record {
       whole = sound.whole;
       lined = sound.lined;
-      derived = sound.derived;
-      plain = sound.plain;
-      symbols = sound.symbols;
+      made = sound.made;
+      named = sound.named;
+      over_names = sound.over_names;
+      handed_few = kept r.solver sound.handed_few;
+      bare = sound.bare;
       refuted = sound.refuted;
-      no_propositional = sound.no_propositional;
-      no_solver = ap (without_solver job) sound.no_solver;
     }
+      where
+        kept :
+            (o : Option SolverJob) → ((s : SolverJob) → o ≡ Some s → s.clauses ≤ length r.propositional)
+            → (s : SolverJob) → without_solver job o ≡ Some s → s.clauses ≤ length r.propositional
+        kept None few s same = absurd (none-some s same)
+        kept (Some j) few s same = by (j.job == job) same
+          where
+            by : (b : Bool) → (if b then None else Some j) ≡ Some s → s.clauses ≤ length r.propositional
+            by true h = absurd (none-some s h)
+            by false h = few s h
 
     pub history-sound :
         (es : List Event) (r : PoolRecord) → IsLawfulFrom usage.is_predicate options r es → Holds r → Holds (fold (after options) r es)

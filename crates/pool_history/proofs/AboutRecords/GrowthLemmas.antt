@@ -26,6 +26,7 @@ pub record Grows (r r' : PoolRecord) : Type 0 where
   pub jobs : r'.jobs ≡ r.jobs
   pub claims : r'.claims ≡ r.claims
   pub solver : r'.solver ≡ r.solver
+  pub model : (r'.model ≡ r.model) × (r'.modelled ≡ r.modelled)
   pub events : r'.events ≡ r.events
   pub clauses : (cs : List Registered) × (r'.registered ≡ r.registered ++ cs)
   pub names : (ps : List PropositionalClause) × (r'.propositional ≡ r.propositional ++ ps)
@@ -39,6 +40,7 @@ grows-all r = record {
   jobs = refl;
   claims = refl;
   solver = refl;
+  model = (refl, refl);
   events = refl;
   clauses = ([], sym (append-nil r.registered));
   names = ([], sym (append-nil r.propositional));
@@ -57,6 +59,7 @@ grows-then r s t first second = record {
   jobs = second.jobs ∙ first.jobs;
   claims = second.claims ∙ first.claims;
   solver = second.solver ∙ first.solver;
+  model = (second.model.0 ∙ first.model.0, second.model.1 ∙ first.model.1);
   events = second.events ∙ first.events;
   clauses = more-then r.registered s.registered t.registered first.clauses second.clauses;
   names = more-then r.propositional s.propositional t.propositional first.names second.names;
@@ -71,6 +74,7 @@ registers-grows r r' is = record {
   jobs = ap (λ (s : PoolRecord). s.jobs) is.same;
   claims = ap (λ (s : PoolRecord). s.claims) is.same;
   solver = ap (λ (s : PoolRecord). s.solver) is.same;
+  model = (ap (λ (s : PoolRecord). s.model) is.same, ap (λ (s : PoolRecord). s.modelled) is.same);
   events = ap (λ (s : PoolRecord). s.events) is.same;
   clauses = is.more;
   names = is.more_names;
@@ -87,6 +91,7 @@ spends-grows options None r s grown = record {
   jobs = grown.jobs;
   claims = grown.claims;
   solver = grown.solver;
+  model = grown.model;
   events = grown.events;
   clauses = grown.clauses;
   names = grown.names;
@@ -107,6 +112,7 @@ with_keys-grows keys r = record {
   jobs = refl;
   claims = refl;
   solver = refl;
+  model = (refl, refl);
   events = refl;
   clauses = ([], sym (append-nil r.registered));
   names = ([], sym (append-nil r.propositional));
@@ -136,6 +142,7 @@ dies-grows victim justifiers r = record {
   jobs = refl;
   claims = refl;
   solver = refl;
+  model = (refl, refl);
   events = refl;
   clauses = ([], sym (append-nil r.registered));
   names = ([], sym (append-nil r.propositional));
@@ -177,6 +184,7 @@ met-grows options n entries removals r =
       jobs = refl;
       claims = refl;
       solver = refl;
+      model = (refl, refl);
       events = refl;
       clauses = ([], sym (append-nil s.registered));
       names = ([], sym (append-nil s.propositional));

@@ -1,5 +1,5 @@
 -- Items of lists, the first item that passes a test, and equal clauses.
-use Rattle.std.proofs.Common.{◌≡◌, ℕ, zero, suc, ◌+◌, ◌<◌, ◌≤◌, Bool, true, false, not, ◌&&◌, ◌||◌, List, [], ◌∷◌, length, refl, ap, ap₂, sym, ◌∙◌, subst, arith}
+use Rattle.std.proofs.Common.{◌≡◌, ℕ, zero, suc, ◌+◌, ◌<◌, ◌≤◌, Bool, true, false, not, ◌||◌, List, [], ◌∷◌, length, refl, ap, ap₂, sym, ◌∙◌, subst, arith}
 use Rattle.std.specs.Prelude.{Option, None, Some, cond, nat_lt, position, slice_get, unwrap_or, All}
 use Rattle.std.specs.List.{list_any, range_with_len, position_or_len}
 use Rattle.std.proofs.lemmas.Bool.{true≢false, and_parts, and_from, or_left, or_right, or_from, ltb-false}
@@ -8,6 +8,8 @@ use Rattle.std.proofs.lemmas.List.Quantifiers.{position-Some}
 use Rattle.std.proofs.lemmas.List.Sums.{prefix_len-le-length}
 use Rattle.std.proofs.lemmas.Option.{none-some, same_Some, get_or_from_slice_get}
 use Rattle.plain_types.specs.declared.sequence.NameLit.{NameLit}
+use Rattle.plain_types.specs.Names.{same_name}
+use Rattle.plain_types.proofs.NameLemmas.{same_name-true}
 use Rattle.fol_base.specs.Clause.{TreeLiteral, TreeClause, clause_eq, literals_eq, names_eq}
 use Rattle.kernel_steps.specs.Conclusion.{empty_clause}
 use Rattle.kernel_steps.proofs.AboutSplits.SplitTests.{literals_eq-says}
@@ -82,15 +84,23 @@ pub clause_eq-refl : (c : TreeClause) → c.names ≡ [] → clause_eq c c ≡ t
 clause_eq-refl c no_names =
     and_from (literals_eq c.literals c.literals) (names_eq c.names c.names) (literals_eq-refl c.literals) (ap (λ ns. names_eq ns ns) no_names)
 
-pub clause_eq-says : (c d : TreeClause) → c.names ≡ [] → clause_eq c d ≡ true → c ≡ d
-clause_eq-says c d no_names same =
+names_eq-says : (ns ms : List NameLit) → names_eq ns ms ≡ true → ns ≡ ms
+names_eq-says [] [] same = refl
+names_eq-says [] (m ∷ ms) same = absurd (true≢false (sym same))
+names_eq-says (n ∷ ns) [] same = absurd (true≢false (sym same))
+names_eq-says (n ∷ ns) (m ∷ ms) same =
+    let parts = and_parts (same_name n m) (names_eq ns ms) same in
+    ap₂ (λ k ks. k ∷ ks) (same_name-true n m parts.0) (names_eq-says ns ms parts.1)
+
+-- names and all
+pub clauses-equal : (c d : TreeClause) → clause_eq c d ≡ true → c ≡ d
+clauses-equal c d same =
     let parts = and_parts (literals_eq c.literals d.literals) (names_eq c.names d.names) same in
     let make : List TreeLiteral → List NameLit → TreeClause = λ ls ns. record { literals = ls; names = ns } in
-    ap₂ make (literals_eq-says c.literals d.literals parts.0) (no_names ∙ sym (none d.names (ap (λ ns. names_eq ns d.names) (sym no_names) ∙ parts.1)))
-  where
-    none : (ns : List NameLit) → names_eq [] ns ≡ true → ns ≡ []
-    none [] h = refl
-    none (n ∷ ns) h = absurd (true≢false (sym h))
+    ap₂ make (literals_eq-says c.literals d.literals parts.0) (names_eq-says c.names d.names parts.1)
+
+pub clause_eq-says : (c d : TreeClause) → c.names ≡ [] → clause_eq c d ≡ true → c ≡ d
+clause_eq-says c d no_names same = clauses-equal c d same
 
 pub clause-numbered : (r : PoolRecord) (n : ℕ) (c : TreeClause) → clauses_of r n ≡ Some c → clause_numbered r n ≡ c
 clause-numbered r n c there = ap (λ (o : Option TreeClause). unwrap_or o empty_clause) there

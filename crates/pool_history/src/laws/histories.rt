@@ -1,8 +1,8 @@
 // Laws of lawful histories: each is the contract of a function without arguments and with an empty body.
 
-ghost use Rattle.pool_history.specs.Derived.{LinesAreDerived, RefutedIsRefutation};
+ghost use Rattle.pool_history.specs.Derived.{LinesAreDerived, NamesRise, RefutedIsRefutation};
 ghost use Rattle.pool_history.specs.Laws.{BatchesStayRight, ClaimedInTime, CountedOnce, DeathsAreJustified, GivenJobsStayOut, HeavyOrNot, JobsAreCounted, JobsWereGiven, NumbersFit, OutcomesStay, PicksAreChosen, PositionsStay, ReplacedWereReduced, SetAsideAreHeavy, SolverJobsStayOut, SpentIsTheCount};
-ghost use Rattle.pool_history.specs.Wholeness.{PositionsAreRegistered, RegisteredAreWhole, ToldHavePositions};
+ghost use Rattle.pool_history.specs.Wholeness.{PositionsAreRegistered, RegisteredAreOnePart, RegisteredAreWhole, ToldHavePositions};
 
 /// A clause that stays awake and alive, with m older ones, is claimed within 6(m + 1) given claims, while no job is given up.
 pub fn claimed_in_time()
@@ -39,17 +39,27 @@ pub fn heavy_or_not()
     ensures { HeavyOrNot }
 {}
 
-/// Where nothing is split, the registered clauses are canonical, small, without names, and well-formed together.
+/// The registered clauses are canonical, small and well-formed together, and their names are assertions of parts that were met.
 pub fn registered_are_whole()
     ensures { RegisteredAreWhole }
 {}
 
-/// Where nothing is split, the lines are a derivation from the inputs, of small terms over their symbols alone.
+/// The lines are a derivation from the inputs, of small terms over their symbols alone.
 pub fn lines_are_derived()
     ensures { LinesAreDerived }
 {}
 
-/// Where nothing is split, the lines of a pool that is refuted are a refutation of the inputs.
+/// Where splitting is on, no registered clause falls into two parts.
+pub fn registered_are_one_part()
+    ensures { RegisteredAreOnePart }
+{}
+
+/// The component lines introduce the names from 0 on, in order, each once.
+pub fn names_rise()
+    ensures { NamesRise }
+{}
+
+/// The lines of a pool that is refuted are a refutation of the inputs.
 pub fn refuted_is_refutation()
     ensures { RefutedIsRefutation }
 {}
@@ -90,7 +100,7 @@ pub fn positions_stay()
     ensures { PositionsStay }
 {}
 
-/// Where nothing is split, the numbers of clauses and their positions have 32 bits.
+/// The numbers of clauses and their positions have 32 bits.
 pub fn numbers_fit()
     ensures { NumbersFit }
 {}

@@ -1,0 +1,42 @@
+-- Laws of propositional clauses and their models, for every list of events.
+use Rattle.std.specs.Prelude.{◌≡◌, ℕ, ◌≤◌, Bool, List, ◌++◌, length, take, Some, IsTrue}
+use Rattle.plain_types.specs.declared.sequence.NameLit.{NameLit}
+use Rattle.sat_core.specs.Clause.{valuation_of, clauses_true}
+use Rattle.sat_core.specs.Answer.{IsRightAnswer}
+use Rattle.sat_core.specs.declared.answer.Answer.{Answer}
+use Rattle.pool_history.specs.Record.{SolverJob, propositional_clauses}
+use Rattle.pool_history.specs.Outcomes.{is_at_rest}
+use Rattle.pool_history.specs.Solving.{handed}
+use Rattle.pool_history.specs.Replay.{Origin, replay}
+use Rattle.pool_history.specs.Lawful.{IsLawful}
+use Rattle.pool_history.specs.declared.event.Event.{Event}
+
+-- Propositional clauses only come: so for every list of events, lawful or not.
+abbrev pub PropositionalClausesStay : Type 0
+PropositionalClausesStay =
+    (origin : Origin) (history later : List Event)
+    → (more : List (List NameLit))
+    × (propositional_clauses (replay origin (history ++ later)) ≡ propositional_clauses (replay origin history) ++ more)
+
+-- So what is right for the clauses that a job was told stays right for them.
+abbrev pub AnswersStayRight : Type 0
+AnswersStayRight =
+    (origin : Origin) (history later : List Event) (s : SolverJob) (answer : Answer)
+    → (replay origin history).solver ≡ Some s → IsRightAnswer s.names (handed (replay origin history) s) answer
+    → IsRightAnswer s.names (handed (replay origin (history ++ later)) s) answer
+
+-- The model makes true each propositional clause that it is of.
+abbrev pub ModelsAreRight : Type 0
+ModelsAreRight =
+    (is_predicate : ℕ → Bool) (origin : Origin) (history : List Event)
+    → IsLawful is_predicate origin history
+    → let r = replay origin history in
+    (r.modelled ≤ length r.propositional) × IsTrue (clauses_true (valuation_of r.model) (take r.modelled (propositional_clauses r)))
+
+-- A pool at rest, which a saturated one is, has a model that makes every propositional clause true.
+abbrev pub RestingModels : Type 0
+RestingModels =
+    (is_predicate : ℕ → Bool) (origin : Origin) (history : List Event)
+    → IsLawful is_predicate origin history
+    → let r = replay origin history in
+    IsTrue (is_at_rest r) → IsTrue (clauses_true (valuation_of r.model) (propositional_clauses r))
