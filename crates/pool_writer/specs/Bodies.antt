@@ -1,5 +1,5 @@
--- The bodies of names: the literals for which they stand, by the names' numbers.
-use Rattle.std.specs.Prelude.{◌≡◌, ℕ, List, [], map, option_map, Some, slice_get, slice_index_or, if◌then◌else◌}
+-- The names that the lines of a derivation introduce: the literals for which they stand, and their order.
+use Rattle.std.specs.Prelude.{◌≡◌, ℕ, ◌<◌, List, [], map, option_map, Some, slice_get, slice_index_or, if◌then◌else◌}
 use Rattle.plain_types.specs.declared.sequence.NameLit.{NameLit}
 use Rattle.fol_base.specs.Clause.{TreeLiteral, TreeClause}
 use Rattle.fol_base.specs.Literal.{clause_of}
@@ -8,7 +8,8 @@ use Rattle.kernel_steps.specs.declared.step.Step.{Step}
 use Rattle.kernel_steps.specs.declared.step.Step.TheVariants.{Component, Opposite}
 use Rattle.kernel_steps.specs.declared.step.Line.{Line}
 
--- The literals of a line that introduces a name: a component line has the name's body, an opposite line its complement.
+-- Each name stands for some literals, its body; the bodies are listed by the numbers of the names. A component line has the literals of
+-- its name's body, and an opposite line their complements.
 abbrev pub HasBody : List (List TreeLiteral) → Step → TreeClause → Type 0
 HasBody bodies (Component name) c = slice_get bodies name ≡ Some c.literals
 HasBody bodies (Opposite name) c = option_map (map complement) (slice_get bodies name) ≡ Some c.literals
@@ -18,6 +19,13 @@ HasBody bodies step c = Unit {0}
 abbrev pub HaveBodies : List (List TreeLiteral) → List Line → Type 0
 HaveBodies bodies lines =
     (n : ℕ) (line : Line) → slice_get lines n ≡ Some line → HasBody bodies line.step (clause_of line.clause)
+
+-- later component lines introduce greater names
+abbrev pub NamesRise : List Line → Type 0
+NamesRise lines =
+    (n m name greater : ℕ) (line later : Line)
+    → slice_get lines n ≡ Some line → slice_get lines m ≡ Some later → n < m
+    → line.step ≡ Component name → later.step ≡ Component greater → name < greater
 
 -- ---- definitions for private functions alone
 

@@ -1,6 +1,7 @@
 -- The clauses that are made for steps.
 use Rattle.std.proofs.Common.{◌≡◌, ℕ, ◌<◌, Bool, true, false, not, ◌==◌, List, [], ◌∷◌, map, length, Option, Some, refl, ap, ap₂, sym, ◌∙◌, subst}
 use Rattle.std.specs.Prelude.{slice_get, slice_index_or, option_map, if◌then◌else◌}
+use Rattle.std.proofs.lemmas.Bool.{false≢true, true≢false}
 use Rattle.std.proofs.lemmas.Option.{slice_get_within, get_or_from_slice_get}
 use Rattle.plain_types.specs.declared.sequence.NameLit.{NameLit}
 use Rattle.plain_types.specs.Names.{positive_of, negative_of, opposite}
@@ -66,8 +67,8 @@ same-sign :
     → part ≡ (if s then body else map complement body)
 same-sign false true part body named same = named
 same-sign true false part body named same = sym (complements-back part) ∙ ap (map complement) named
-same-sign true true part body named same = absurd (cc)
-same-sign false false part body named same = absurd (cc)
+same-sign true true part body named same = absurd (false≢true same)
+same-sign false false part body named same = absurd (true≢false same)
 
 other-sign :
     (g s : Bool) (part body : List TreeLiteral) → affirmed_by g part ≡ body → (not g ≡ s → ⊥)

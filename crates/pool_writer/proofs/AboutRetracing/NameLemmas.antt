@@ -1,5 +1,5 @@
 -- The component lines of names.
-use Rattle.std.proofs.Common.{◌≡◌, ℕ, zero, suc, Bool, true, false, List, [], ◌∷◌, Option, None, Some, refl, ap, sym, ◌∙◌, subst, arith}
+use Rattle.std.proofs.Common.{◌≡◌, ℕ, zero, suc, Bool, true, false, List, [], ◌∷◌, take, Option, None, Some, refl, ap, sym, ◌∙◌, subst}
 use Rattle.std.specs.Prelude.{slice_get, if◌then◌else◌}
 use Rattle.std.proofs.lemmas.Bool.{true≢false}
 use Rattle.std.proofs.lemmas.Option.{none-some, same_Some}
@@ -89,8 +89,8 @@ pub is-definition :
     → IsDefinition bodies name (clause_of line.clause)
 is-definition form bodies lines derived have name n line at is_one =
     let step_is : line.step ≡ Component name = component-named name line.step is_one in
-    let is : IsComponent name _ (clause_of line.clause) =
-    subst (λ (s : Step). ComesBy s form _ (clause_of line.clause)) step_is (derived n line at) in
+    let is : IsComponent name (take n lines) (clause_of line.clause) =
+    subst (λ (s : Step). ComesBy s form (take n lines) (clause_of line.clause)) step_is (derived n line at) in
     record {
       body = subst (λ (s : Step). HasBody bodies s (clause_of line.clause)) step_is (have n line at);
       one_name = is.one_name;
