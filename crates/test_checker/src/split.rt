@@ -10,10 +10,11 @@ ghost use Rattle.kernel_steps.specs.Derivation.{complement};
 ghost use Rattle.kernel_steps.specs.Examples.{halves};
 ghost use Rattle.kernel_steps.specs.declared.step.Step.TheVariants as step;
 ghost use Rattle.split_parts.specs.PartKeys.{key_part};
+ghost use Rattle.split_parts.specs.SignedNames.{named};
 ghost use Rattle.split_parts.specs.Tags.{with_part};
 ghost use Rattle.tstp_writer.specs.Cone.{AreAllNeeded};
 ghost use Rattle.pool_writer.specs.Retraced.{steps_of};
-ghost use Rattle.pool_writer.specs.SplitExamples.{p, q, p₀, q₀, two_parts, two_parts_lines, four_clauses, four_clauses_lines};
+ghost use Rattle.pool_writer.specs.SplitExamples.{p, q, p₀, q₀, two_parts, two_bodies, two_parts_lines, four_clauses, four_bodies, four_clauses_lines};
 
 use crate::examples::ExampleName;
 use crate::outcome::{Outcome, answer_on};
@@ -113,6 +114,23 @@ fn table(rt: &impl Abort, alloc: Global, first: Literal, second: Literal) -> Nam
     let _ = parts.put(part(rt, alloc, first));
     let _ = parts.put(part(rt, alloc, second));
     parts
+}
+
+fn two_parts_table(rt: &impl Abort, alloc: Global) -> NameTable
+    ensures { named result.parts ≡ two_bodies }
+{
+    let first = p_of(rt, alloc, Term::Var(0));
+    let second = q_of(rt, alloc, Term::Var(0));
+    table(rt, alloc, first, second)
+}
+
+/// The part with which the first name comes is the negative literal.
+fn four_clauses_table(rt: &impl Abort, alloc: Global) -> NameTable
+    ensures { named result.parts ≡ four_bodies }
+{
+    let first = negated(p_alone(alloc));
+    let second = q_alone(alloc);
+    table(rt, alloc, first, second)
 }
 
 // ---- steps
@@ -295,20 +313,17 @@ fn expect_written(
 fn parts_with_variables_are_written(rt: HostRuntime) {
     let alloc = rt.alloc();
     let form = two_parts_form(&rt, alloc);
-    let first = p_of(&rt, alloc, Term::Var(0));
-    let second = q_of(&rt, alloc, Term::Var(0));
-    let parts = table(&rt, alloc, first, second);
+    let parts = two_parts_table(&rt, alloc);
     let steps = two_parts_steps(&rt, alloc);
     let lines = refutation(alloc, &form, &parts, steps.as_slice()).expect(&rt, "memory");
     expect_written(&rt, alloc, ExampleName::TwoComponents, "r10.p", &lines);
 }
 
-/// The part with which the first name comes is the negative literal.
 #[test]
 fn signed_names_are_written(rt: HostRuntime) {
     let alloc = rt.alloc();
     let form = four_clauses_form(&rt, alloc);
-    let parts = table(&rt, alloc, negated(p_alone(alloc)), q_alone(alloc));
+    let parts = four_clauses_table(&rt, alloc);
     let steps = four_clauses_steps(&rt, alloc);
     let lines = refutation(alloc, &form, &parts, steps.as_slice()).expect(&rt, "memory");
     expect_written(&rt, alloc, ExampleName::SignedNames, "r11.p", &lines);
