@@ -114,29 +114,3 @@ pub interned-part :
 interned-part ls i l first second third below is near far =
     subst (λ ts. InternsFirst ts first third) (sym (sides-split ls i l below is))
     (part-of (sides (map literal_of (take i ls))) (literal_sides (literal_of l)) (sides (map literal_of (drop (suc i) ls))) first second third near far)
-
--- ---- literals that are handed over, one after another
-
--- the sides of one more
-pub handed-literal :
-    (front : List Literal) (l : Literal) (first second third : Table)
-    → InternsAll (sides (map literal_of front)) first second
-    → InternsAll (literal_sides (literal_of l)) second third
-    → InternsAll (sides (map literal_of (front ++ l ∷ []))) first third
-handed-literal front l first second third near far =
-    subst (λ ts. InternsAll ts first third)
-    (sym (ap sides (map-append literal_of front (l ∷ [])) ∙ flat_map-append literal_sides (map literal_of front) (literal_of l ∷ [])))
-    (interns_onward (sides (map literal_of front)) (literal_sides (literal_of l)) first second third near far)
-
--- the first ones of them are first ones of all
-pub handed-part :
-    (ls front behind : List Literal) (l : Literal) (first second third : Table)
-    → front ++ l ∷ behind ≡ ls
-    → InternsAll (sides (map literal_of front)) first second
-    → InternsFirst (literal_sides (literal_of l)) second third
-    → InternsFirst (sides (map literal_of ls)) first third
-handed-part ls front behind l first second third all near far =
-    subst (λ ks. InternsFirst (sides (map literal_of ks)) first third) all
-    (subst (λ ts. InternsFirst ts first third)
-    (sym (ap sides (map-append literal_of front (l ∷ behind)) ∙ flat_map-append literal_sides (map literal_of front) (map literal_of (l ∷ behind))))
-    (part-of (sides (map literal_of front)) (literal_sides (literal_of l)) (sides (map literal_of behind)) first second third near far))

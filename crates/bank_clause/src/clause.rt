@@ -16,7 +16,7 @@ ghost use Rattle.bank_clause.specs.Clause.{
   sides,
 };
 
-use crate::interning::{bare_names, intern_literals, move_literals};
+use crate::interning::{bare_names, intern_literals};
 use crate::trees::{negative_names, tree_literals};
 use fol_base::{Clause, Literals, SIZE_LIMIT};
 use plain_types::{Mem, Names};
@@ -84,40 +84,6 @@ impl BankClause {
             names,
             symbols: clause.size() as u32,
             variables: clause.variable_bound() as u32,
-        })
-    }
-
-    /// As `of_clause`, for a clause that is handed over: its new terms are moved into the bank, and not copied.
-    pub fn of_clause_owned<R: Wait>(
-        rt: &R,
-        alloc: Global,
-        bank: &Bank,
-        table: &mut Table,
-        clause: Clause,
-    ) -> Mem<BankClause>
-        requires table { IsTableOf bank.now table.old }
-        requires canonical { IsCanonical (clause_of clause) }
-        requires names { AreAssertions clause.names }
-        requires size { clause_size (clause_of clause) < SIZE_LIMIT }
-        ensures of_bank { IfOk result (IsClauseOf bank.now) }
-        ensures same { IfOk result (λ made. clause_at made ≡ clause_of clause) }
-        ensures known { IfOk result (λ made. All (IsKnown table.new) made.literals) }
-        ensures table { IsTableOf bank.now table.new }
-        ensures interned { OnOk result
-            (InternsAll (sides (clause_of clause).literals) table.old table.new) }
-        ensures interned_first { OnErr result
-            (InternsFirst (sides (clause_of clause).literals) table.old table.new) }
-    {
-        let symbols = clause.size() as u32;
-        let variables = clause.variable_bound() as u32;
-        let Clause { literals, names } = clause;
-        let names = bare_names(alloc, names.as_slice())?;
-        let literals = move_literals(rt, alloc, bank, table, literals.into_vec())?;
-        Ok(BankClause {
-            literals,
-            names,
-            symbols,
-            variables,
         })
     }
 

@@ -1,14 +1,13 @@
-// Equality of bank clauses by the numbers of their references, for maps.
+// Equality of bank clauses by the numbers of their references.
 
 ghost use Rattle.std.specs.Prelude.{◌≡◌, true};
 ghost use Rattle.std.specs.Cmp.{partial_equiv_from_equiv};
 ghost use lib.Pointwise.{pointwise};
 ghost use Rattle.term_bank.specs.Literal.{IsLiteralOf, AreLiteralsOf, literal_at, literals_at, same_numbers};
 ghost use Rattle.bank_clause.specs.Clause.{IsClauseOf, clause_at, equal_by_numbers};
-ghost use Rattle.bank_clause.specs.Equality.{clause_input, equal_by_numbers_equiv, clauses_alike};
+ghost use Rattle.bank_clause.specs.Equality.{equal_by_numbers_equiv};
 
 use crate::clause::BankClause;
-use std::hash::{Hash, Hasher};
 use term_bank::{Bank, BankLit};
 
 impl PartialEq for BankClause {
@@ -23,17 +22,6 @@ impl PartialEq for BankClause {
 
 impl Eq for BankClause {
     ghost laws = { equal_by_numbers_equiv };
-}
-
-impl Hash for BankClause {
-    ghost hash_input = { clause_input };
-
-    ghost respects_eq = { clauses_alike.fed };
-
-    fn hash<H: Hasher>(&self, state: &mut H) {
-        self.literals().hash(state);
-        self.names().hash(state);
-    }
 }
 
 impl BankClause {

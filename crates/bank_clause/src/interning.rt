@@ -67,61 +67,6 @@ fn intern_literal<R: Wait>(
     })
 }
 
-/// As `intern_literals`, for literals that are handed over.
-pub(crate) fn move_literals<R: Wait>(
-    rt: &R,
-    alloc: Global,
-    bank: &Bank,
-    table: &mut Table,
-    literals: Vec<Literal>,
-) -> Mem<BankLits>
-    requires { IsTableOf bank.now table.old }
-    ensures references { IfOk result (λ made. AreLiteralsOf bank.now made.items) }
-    ensures same { IfOk result (λ made. literals_at made.items ≡ map literal_of literals.items) }
-    ensures known { IfOk result (λ made. All (IsKnown table.new) made.items) }
-    ensures table { IsTableOf bank.now table.new }
-    ensures interned { OnOk result (InternsAll (sides (map literal_of literals.items)) table.old table.new) }
-    ensures interned_first { OnErr result
-        (InternsFirst (sides (map literal_of literals.items)) table.old table.new) }
-{
-    let mut made = SmallVec::with_capacity(alloc, literals.len())?;
-    for literal in literals {
-        made.push(move_literal(rt, alloc, bank, table, literal)?)?;
-    }
-    Ok(made)
-}
-
-/// As `intern_literal`, for a literal that is handed over.
-fn move_literal<R: Wait>(
-    rt: &R,
-    alloc: Global,
-    bank: &Bank,
-    table: &mut Table,
-    literal: Literal,
-) -> Mem<BankLit>
-    requires { IsTableOf bank.now table.old }
-    ensures references { IfOk result (IsLiteralOf bank.now) }
-    ensures same { IfOk result (λ made. literal_at made ≡ literal_of literal) }
-    ensures known { IfOk result (IsKnown table.new) }
-    ensures table { IsTableOf bank.now table.new }
-    ensures interned { OnOk result (InternsAll (literal_sides (literal_of literal)) table.old table.new) }
-    ensures interned_first { OnErr result
-        (InternsFirst (literal_sides (literal_of literal)) table.old table.new) }
-{
-    let Literal {
-        positive,
-        left,
-        right,
-    } = literal;
-    let left = bank.intern_owned(rt, alloc, table, left)?;
-    let right = bank.intern_owned(rt, alloc, table, right)?;
-    Ok(BankLit {
-        positive,
-        left,
-        right,
-    })
-}
-
 /// The names without their signs.
 pub(crate) fn bare_names(alloc: Global, names: &[NameLit]) -> Mem<Vec<u32>>
     ensures { IfOk result (λ bare. bare.items ≡ map (λ n. n.name) names.now) }

@@ -1,16 +1,13 @@
 // The laws of clauses in banks, and worked examples of their definitions: the contracts of functions
 // without arguments and with empty bodies.
 
-ghost use Rattle.std.specs.Prelude.{◌≡◌, true, false, [], ◌∷◌, ◌++◌, nat_eq};
-ghost use Rattle.std.specs.Hash as fed;
+ghost use Rattle.std.specs.Prelude.{◌≡◌, true, false, [], ◌∷◌, nat_eq};
 ghost use Rattle.std.specs.List.{All};
 ghost use Rattle.plain_types.specs.Names.{positive_of, negative_of};
 ghost use Rattle.fol_base.specs.Tree.{true_tree};
 ghost use Rattle.fol_base.specs.Examples.{x, a, p};
 ghost use Rattle.fol_base.specs.Canonical.{IsCanonical, bound_of};
 ghost use Rattle.fol_base.specs.Clause.{clause_size, clause_variables};
-ghost use Rattle.term_bank.specs.Equality.{literal_input};
-ghost use Rattle.bank_clause.specs.Equality.{clause_input};
 ghost use Rattle.bank_clause.specs.ClauseHash.{clause_hash, EqualClausesHashAlike, literals_hash, names_hash};
 ghost use Rattle.bank_clause.specs.Clause.{AreAssertions, IsKnown, equal_by_numbers, sides};
 ghost use Rattle.bank_clause.specs.Examples.{IsOfItsBank, StandsForRow, first_clause, known_sides, other_clause, row, row_of_another};
@@ -55,7 +52,7 @@ pub fn hash_examples()
     ensures literals_first { clause_hash first_clause ≡ names_hash (literals_hash first_clause.literals) (3 ∷ []) }
 {}
 
-/// The clause for which a bank clause stands, which clauses are of a bank, and the parts of one that are hashed.
+/// The clause for which a bank clause stands, and which clauses are of a bank.
 pub fn examples()
     ensures stands_for { StandsForRow }
     ensures of_bank { IsOfItsBank }
@@ -63,7 +60,6 @@ pub fn examples()
     ensures variables_counted { bound_of (clause_variables row) ≡ 1 }
     ensures known { All (IsKnown known_sides) first_clause.literals }
     ensures not_known { ¬ All (IsKnown known_sides) other_clause.literals }
-    ensures hashed { clause_input first_clause ≡ fed.slice literal_input first_clause.literals ++ fed.slice fed.u32 (3 ∷ []) }
     ensures equal { equal_by_numbers first_clause first_clause ≡ true }
     ensures other_number { equal_by_numbers first_clause other_clause ≡ false }
     ensures other_name { equal_by_numbers first_clause (record { literals = first_clause.literals; names = [] }) ≡ false }

@@ -24,9 +24,8 @@
 //! literals under that one name, and can't fail. Clauses that are equal by numbers stand for one clause (`agree`) and have one hash; two
 //! clauses that stand for one and whose references one table knows are equal by numbers.
 //!
-//! **Cost.** Up to four literals stand in the clause itself, without an allocation. `of_clause` looks up each subterm once;
-//! `of_clause_owned` moves the terms that are new. Equality and hashes are linear in the number of literals and names, whatever the size
-//! of the terms. A clause takes 128 bytes.
+//! **Cost.** Up to four literals stand in the clause itself, without an allocation. `of_clause` looks up each subterm once. Equality and
+//! hashes are linear in the number of literals and names, whatever the size of the terms. A clause takes 128 bytes.
 #![tactic(auto)]
 
 mod clause;

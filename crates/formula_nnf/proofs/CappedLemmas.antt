@@ -6,10 +6,12 @@ use Rattle.plain_types.specs.Capped.{capped}
 use Rattle.tptp_tree.specs.Formula.{FormulaTree, FormulaTrees, no_formulas, formula_then, formulas_of}
 use Rattle.tptp_tree.specs.Shape.{formula_of}
 use Rattle.tptp_tree.specs.declared.formula.Formula.{Formula}
-use Rattle.signature.proofs.OccurrenceLemmas.{drop-item, drop-end}
 use Rattle.signature.specs.Clausal.{is_large_count}
 use Rattle.formula_nnf.specs.ClauseCount.{ClauseCount, sum_count, product_count, joined_count, constant_count, clause_counts, listed_counts, product_counts, several_counts}
 use Rattle.formula_nnf.specs.CappedCount.{capped_count, total_count}
+use Rattle.list_lemmas.proofs.Numbers.{times-none, times-more}
+use Rattle.list_lemmas.proofs.Bools.{and-false}
+use Rattle.list_lemmas.proofs.Places.{drop-item, drop-all}
 
 same : (a b : ClauseCount) → a.clauses ≡ b.clauses → a.defining ≡ b.defining → a ≡ b
 same a b h k = λ i. record { clauses = h i; defining = k i }
@@ -22,18 +24,8 @@ capped-twice a = omega arith
 small : (a : ℕ) → a ≤ 2 ^ 64 - 1 → capped a ≡ a
 small a h = omega (arith, h)
 
-times-more : (a b : ℕ) → a ≤ a * suc b
-times-more a b = omega arith
-
-times-larger : (a b : ℕ) → 1 ≤ b → a ≤ a * b
-times-larger a zero h = absurd (omega (arith, h))
-times-larger a (suc b) h = times-more a b
-
 times-turned : (a b : ℕ) → a * b ≡ b * a
 times-turned a b = omega arith
-
-times-none : (a : ℕ) → a * 0 ≡ 0
-times-none a = omega arith
 
 both-over : (x y : ℕ) → 2 ^ 64 - 1 ≤ x → 2 ^ 64 - 1 ≤ y → capped x ≡ capped y
 both-over x y h k = omega (arith, h, k)
@@ -43,8 +35,8 @@ over-times : (a b : ℕ) → 2 ^ 64 - 1 < a → capped (capped a * capped b) ≡
 over-times a zero h = ap capped (times-none (capped a) ∙ sym (times-none a))
 over-times a (suc b) h =
     both-over (capped a * capped (suc b)) (a * suc b)
-    (omega (arith, h, times-larger (capped a) (capped (suc b)) (omega arith)))
-    (omega (arith, h, times-larger a (suc b) (omega arith)))
+    (omega (arith, h, times-more (capped a) (capped (suc b)) (omega arith)))
+    (omega (arith, h, times-more a (suc b) (omega arith)))
 
 times-capped : (a b : ℕ) → capped (capped a * capped b) ≡ capped (a * b)
 times-capped a b = by (nat_lt (2 ^ 64 - 1) a) refl (nat_lt (2 ^ 64 - 1) b) refl
@@ -69,10 +61,6 @@ large : (a b : ℕ) → 2 ≤ a → 2 ≤ b → 64 < a * b → is_large_count a 
 large a b h k l =
     ap (λ t. t && (nat_le 2 b && nat_lt 64 (a * b))) (le-leb 2 a h) ∙ ap (λ t. t && nat_lt 64 (a * b)) (le-leb 2 b k) ∙ lt-ltb 64 (a * b) l
 
-and-false : (t : Bool) → (t && false) ≡ false
-and-false true = refl
-and-false false = refl
-
 short-first : (a b : ℕ) → a < 2 → is_large_count a b ≡ false
 short-first a b h = ap (λ t. t && (nat_le 2 b && nat_lt 64 (a * b))) (le-false 2 a h)
 
@@ -89,8 +77,8 @@ over-large a b h = by (nat_lt b 2) refl
     by false e =
         let l : 2 ≤ b = ltb-false b 2 e in
         large (capped a) (capped b) (omega (arith, h)) (omega (arith, l))
-        (omega (arith, h, times-larger (capped a) (capped b) (omega (arith, l))))
-        ∙ sym (large a b (omega (arith, h)) l (omega (arith, h, times-larger a b (omega (arith, l)))))
+        (omega (arith, h, times-more (capped a) (capped b) (omega (arith, l))))
+        ∙ sym (large a b (omega (arith, h)) l (omega (arith, h, times-more a b (omega (arith, l)))))
 
 large-turned : (a b : ℕ) → is_large_count a b ≡ is_large_count b a
 large-turned a b = ap (λ n. nat_le 2 a && (nat_le 2 b && nat_lt 64 n)) (times-turned a b) ∙ by (nat_le 2 a) (nat_le 2 b) (nat_lt 64 (b * a))
@@ -224,7 +212,7 @@ pub rest-end :
 rest-end listed fs i sign a all h k m =
     sym k
     ∙ ap capped_count (sym (rest-none listed a sign))
-    ∙ ap (λ gs. capped_count (rest_counts listed a (formulas_of (map formula_of gs)) sign)) (sym (drop-end fs i h))
+    ∙ ap (λ gs. capped_count (rest_counts listed a (formulas_of (map formula_of gs)) sign)) (sym (drop-all fs i h))
     ∙ m
 
 pub constant-capped : (listed : Bool) → capped_count (constant_count listed) ≡ constant_count listed

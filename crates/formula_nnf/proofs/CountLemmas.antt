@@ -6,21 +6,14 @@ use Rattle.signature.specs.Environment.{Environment, free_names}
 use Rattle.signature.specs.Clausal.{SymbolNumbers, Made, Worked, Scope, Literals, Work, all_pairs, is_large_count, is_large, named, product, joined, truth_value, with_variables, with_skolem_terms, scope_of, makes_variables, clauses_of, listed_clauses, product_clauses}
 use Rattle.formula_nnf.specs.ClauseCount.{ClauseCount, product_count, joined_count, plain_count, constant_count, clause_counts, listed_counts, product_counts}
 use Rattle.formula_nnf.specs.ClauseCountLaws.{IsCounted, ClausesAreCounted}
-
-length-append : {X : Type 0} (xs ys : List X) → length (xs ++ ys) ≡ length xs + length ys
-length-append [] ys = omega arith
-length-append (x ∷ xs) ys = omega (arith, length-append xs ys)
-
-length-map : {X Y : Type 0} (g : X → Y) (xs : List X) → length (map g xs) ≡ length xs
-length-map g [] = refl
-length-map g (x ∷ xs) = ap suc (length-map g xs)
+use Rattle.list_lemmas.proofs.Lists.{length-joined, length-mapped}
 
 pairs-count : (first second : List Literals) → length (all_pairs first second) ≡ length first * length second
 pairs-count [] second = omega arith
 pairs-count (c ∷ first) second =
     let all : length (all_pairs (c ∷ first) second) ≡ length (map (λ d. c ++ d) second) + length (all_pairs first second) =
-    length-append (map (λ d. c ++ d) second) (all_pairs first second) in
-    all ∙ ap (λ k. k + length (all_pairs first second)) (length-map (λ d. c ++ d) second)
+    length-joined (map (λ d. c ++ d) second) (all_pairs first second) in
+    all ∙ ap (λ k. k + length (all_pairs first second)) (length-mapped (λ d. c ++ d) second)
     ∙ ap (λ k. length second + k) (pairs-count first second) ∙ step (length first) (length second)
   where
     step : (a b : ℕ) → b + a * b ≡ suc a * b
@@ -71,14 +64,14 @@ product-lengths n began first second m =
         let less : length first < length second = ltb-true (length first) (length second) e in
         record {
           clauses = pairs-count first w.clauses ∙ times-one (length first) ∙ smaller (length first) (length second) less;
-          defining = length-append m.defining _ ∙ ap (λ k. length m.defining + k) (length-map _ second ∙ larger (length first) (length second) less);
+          defining = length-joined m.defining _ ∙ ap (λ k. length m.defining + k) (length-mapped _ second ∙ larger (length first) (length second) less);
         }
     by true false e =
         let w : Worked = named n began first m in
         let most : length second ≤ length first = ltb-false (length first) (length second) e in
         record {
           clauses = pairs-count w.clauses second ∙ one-times (length second) ∙ smaller_second (length first) (length second) most;
-          defining = length-append m.defining _ ∙ ap (λ k. length m.defining + k) (length-map _ first ∙ larger_first (length first) (length second) most);
+          defining = length-joined m.defining _ ∙ ap (λ k. length m.defining + k) (length-mapped _ first ∙ larger_first (length first) (length second) most);
         }
 
 -- the clauses that define the operands' names are added
@@ -123,7 +116,7 @@ joined-counted :
     → Counts first a → Counts second b → Counts (joined n listed first second) (joined_count listed a b)
 joined-counted n true first second a b f g m =
     record {
-      clauses = omega (arith, length-append (first m).clauses (second (first m).made).clauses, (f m).clauses, (g (first m).made).clauses);
+      clauses = omega (arith, length-joined (first m).clauses (second (first m).made).clauses, (f m).clauses, (g (first m).made).clauses);
       defining = omega (arith, (f m).defining, (g (first m).made).defining);
     }
 joined-counted n false first second a b f g m =

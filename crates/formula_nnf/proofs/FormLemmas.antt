@@ -3,9 +3,9 @@ use Rattle.std.proofs.Common.{◌≡◌, ℕ, ◌+◌, ◌<◌, ◌≤◌, Bool,
 use Rattle.tptp_tree.specs.Formula.{FormulaTree, FormulaTrees, no_formulas, formula_then, formulas_of, list_of_formulas}
 use Rattle.tptp_tree.specs.Shape.{formula_of}
 use Rattle.tptp_tree.specs.declared.formula.Formula.{Formula}
-use Rattle.signature.proofs.OccurrenceLemmas.{drop-item, drop-end}
 use Rattle.formula_nnf.specs.Expanded.{expanded_count, all_expanded_count}
 use Rattle.formula_nnf.specs.NormalForm.{normal_form, normal_forms}
+use Rattle.list_lemmas.proofs.Places.{drop-item, drop-all}
 
 -- one more formula is counted
 pub expanded-step :
@@ -16,7 +16,7 @@ pub expanded-step :
 expanded-step fs i f h e = ap (λ gs. all_expanded_count (formulas_of (map formula_of gs))) (drop-item fs i f h e)
 
 pub expanded-end : (fs : List Formula) (i : ℕ) → length fs ≤ i → all_expanded_count (formulas_of (map formula_of (drop i fs))) ≡ 0
-expanded-end fs i h = ap (λ gs. all_expanded_count (formulas_of (map formula_of gs))) (drop-end fs i h)
+expanded-end fs i h = ap (λ gs. all_expanded_count (formulas_of (map formula_of gs))) (drop-all fs i h)
 
 pub listed : (fs : FormulaTrees) → formulas_of (list_of_formulas fs) ≡ fs
 listed no_formulas = refl
@@ -43,5 +43,5 @@ pub forms-end :
     → length fs ≤ i → formulas_of (made ++ forms_left fs i sign) ≡ all → formulas_of made ≡ all
 forms-end made fs i sign all h m =
     ap formulas_of (sym (append-nil made))
-    ∙ ap (λ gs. formulas_of (made ++ list_of_formulas (normal_forms (formulas_of (map formula_of gs)) sign))) (sym (drop-end fs i h))
+    ∙ ap (λ gs. formulas_of (made ++ list_of_formulas (normal_forms (formulas_of (map formula_of gs)) sign))) (sym (drop-all fs i h))
     ∙ m

@@ -1,6 +1,6 @@
 -- A normal form has the free variables of the formula, though not as often.
 use Rattle.std.proofs.Common.{◌≡◌, ℕ, ◌==◌, Bool, true, false, not, ◌&&◌, ◌||◌, List, [], ◌∷◌, ◌++◌, ◌+◌, length, refl, ap, sym, ◌∙◌}
-use Rattle.std.specs.Prelude.{filter, flat_map, bytes_eq, if◌then◌else◌}
+use Rattle.std.specs.Prelude.{filter, bytes_eq, if◌then◌else◌}
 use Rattle.std.specs.List.{list_any}
 use Rattle.tptp_tree.specs.Formula.{implies, implied, equivalent, different, nor, nand, FormulaTree, truth, falsity, predicate, equation, negation, conjunction, disjunction, connected, quantified, FormulaTrees, no_formulas, formula_then}
 use Rattle.fol_base.specs.Tree.{tree_variables}
@@ -8,30 +8,8 @@ use Rattle.fol_base.specs.Canonical.{numbers_from}
 use Rattle.signature.specs.Environment.{Environment, free_names, all_free_names, without_names, term_in_force}
 use Rattle.signature.specs.Clausal.{SymbolNumbers, Made, skolem_arguments, with_skolem_terms, applied}
 use Rattle.formula_nnf.specs.NormalForm.{list_form, pair_form, normal_form, normal_forms}
-
-any-append : {X : Type 0} (p : X → Bool) (xs ys : List X) → list_any p (xs ++ ys) ≡ (list_any p xs || list_any p ys)
-any-append p [] ys = refl
-any-append p (x ∷ xs) ys = by (p x) (any-append p xs ys)
-  where
-    by :
-        (t : Bool) → list_any p (xs ++ ys) ≡ (list_any p xs || list_any p ys)
-        → (t || list_any p (xs ++ ys)) ≡ ((t || list_any p xs) || list_any p ys)
-    by true h = refl
-    by false h = h
-
-any-filter : {X : Type 0} (p r : X → Bool) (xs : List X) → list_any p (filter r xs) ≡ list_any (λ x. r x && p x) xs
-any-filter p r [] = refl
-any-filter p r (x ∷ xs) = by (r x) (any-filter p r xs)
-  where
-    by :
-        (t : Bool) → list_any p (filter r xs) ≡ list_any (λ y. r y && p y) xs
-        → list_any p (if t then x ∷ filter r xs else filter r xs) ≡ ((t && p x) || list_any (λ y. r y && p y) xs)
-    by true h = ap (λ t. p x || t) h
-    by false h = h
-
-any-flat_map : {X Y : Type 0} (p : Y → Bool) (g : X → List Y) (xs : List X) → list_any p (flat_map g xs) ≡ list_any (λ x. list_any p (g x)) xs
-any-flat_map p g [] = refl
-any-flat_map p g (x ∷ xs) = any-append p (g x) (flat_map g xs) ∙ ap (λ t. list_any p (g x) || t) (any-flat_map p g xs)
+use Rattle.list_lemmas.proofs.Tests.{any-joined, any-filter, any-flat_map}
+use Rattle.list_lemmas.proofs.Bools.{or-false}
 
 filter-same : {X : Type 0} (p q : X → Bool) (xs : List X) → ((x : X) → p x ≡ q x) → filter p xs ≡ filter q xs
 filter-same p q [] h = refl
@@ -77,10 +55,6 @@ list-names : (all : Bool) (fs : FormulaTrees) → free_names (list_form all fs) 
 list-names true fs = refl
 list-names false fs = refl
 
-or-false : (t : Bool) → (t || false) ≡ t
-or-false true = refl
-or-false false = refl
-
 or-itself : (t : Bool) → (t || t) ≡ t
 or-itself true = refl
 or-itself false = refl
@@ -88,8 +62,8 @@ or-itself false = refl
 pair-names : (all : Bool) (f g : FormulaTree) (p : List ℕ → Bool) → list_any p (free_names (pair_form all f g)) ≡ (list_any p (free_names f) || list_any p (free_names g))
 pair-names all f g p =
     ap (list_any p) (list-names all (formula_then f (formula_then g no_formulas)))
-    ∙ any-append p (free_names f) (free_names g ++ [])
-    ∙ ap (λ t. list_any p (free_names f) || t) (any-append p (free_names g) [] ∙ or-false (list_any p (free_names g)))
+    ∙ any-joined p (free_names f) (free_names g ++ [])
+    ∙ ap (λ t. list_any p (free_names f) || t) (any-joined p (free_names g) [] ∙ or-false (list_any p (free_names g)))
 
 -- a pair of forms that have the free variables of two formulas
 paired :
@@ -97,7 +71,7 @@ paired :
     → Same (free_names (pair_form all a b)) (free_names f ++ free_names g)
 paired all a b f g h k p =
     pair-names all a b p ∙ ap (λ t. t || list_any p (free_names b)) (h p) ∙ ap (λ t. list_any p (free_names f) || t) (k p)
-    ∙ sym (any-append p (free_names f) (free_names g))
+    ∙ sym (any-joined p (free_names f) (free_names g))
 
 doubled :
     (a b c d f g : FormulaTree)
@@ -140,7 +114,7 @@ mutual
   all-names-same : (fs : FormulaTrees) (sign : Bool) → Same (all_free_names (normal_forms fs sign)) (all_free_names fs)
   all-names-same no_formulas sign p = refl
   all-names-same (formula_then f fs) sign p =
-      any-append p (free_names (normal_form f sign)) (all_free_names (normal_forms fs sign))
+      any-joined p (free_names (normal_form f sign)) (all_free_names (normal_forms fs sign))
       ∙ ap (λ t. t || list_any p (all_free_names (normal_forms fs sign))) (names-same f sign p)
       ∙ ap (λ t. list_any p (free_names f) || t) (all-names-same fs sign p)
-      ∙ sym (any-append p (free_names f) (all_free_names fs))
+      ∙ sym (any-joined p (free_names f) (all_free_names fs))

@@ -9,7 +9,5 @@ pub mod AboutWork
 pub mod AboutForms
 -- AboutReturn: the way back, formulas are true where their clauses are.
 pub mod AboutReturn
--- AboutReading: problems that are read have no free variables.
-pub mod AboutReading
 -- WorkedExamples: worked examples.
 pub mod WorkedExamples

@@ -1,9 +1,6 @@
 -- What the clausal form means: it is true in an extended interpretation where the problem's axioms are and its conjecture isn't.
-use Rattle.std.specs.Prelude.{ℕ, List, map, Option, IsTrue, IsFalse}
-use Rattle.outside.specs.Library.{Holdings}
+use Rattle.std.specs.Prelude.{ℕ, List, IsTrue, IsFalse}
 use Rattle.tptp_tree.specs.declared.problem.Annotated.{Annotated}
-use Rattle.tptp_problem.specs.Formulas.{placed}
-use Rattle.tptp_problem.specs.Problem.{IsProblem}
 use Rattle.fol_base.specs.Interpretation.{Interpretation}
 use Rattle.signature.specs.Truth.{is_model_of_problem}
 use Rattle.clausal_form.specs.FormFunctions.{IsHerbrandRefuted}
@@ -43,11 +40,3 @@ RefutedAxiomsAreUnsatisfiable =
 abbrev pub AcceptedDerivationsProve : Type 0
 AcceptedDerivationsProve =
     (fs : List Annotated) (bytes : List ℕ) (count : ℕ) → IsTrue (are_closed fs) → IsAcceptedDerivation fs bytes count → ConjectureFollows fs
-
--- ---- reading
-
--- a problem that is read has no formula with a free variable
-abbrev pub ReadProblemsAreClosed : Type 0
-ReadProblemsAreClosed =
-    (told : Option Holdings) (file : List ℕ) (root : Option (List ℕ)) (fs : List Annotated)
-    → IsProblem told file root (map placed fs) → IsTrue (are_closed fs)

@@ -2,7 +2,6 @@
 
 mod examples;
 mod meaning;
-mod reading;
 
 pub use examples::{
     conjecture_examples, consequence_examples, extension_examples, hiding_examples,
@@ -12,4 +11,3 @@ pub use meaning::{
     accepted_derivations_prove, forms_return, models_extend, refuted_axioms_are_unsatisfiable,
     refuted_conjectures_follow, refuted_problems_have_no_model,
 };
-pub use reading::read_problems_are_closed;

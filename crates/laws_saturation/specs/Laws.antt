@@ -1,5 +1,5 @@
--- Laws of the saturation of a pool, for every list of events. A law says where it is for pools that don't split alone.
-use Rattle.std.specs.Prelude.{◌≡◌, ◌⊎◌, ℕ, Bool, true, false, ◌&&◌, List, Option, None, Some, slice_get, All, IsTrue}
+-- Laws of the saturation of a pool, for every list of events, whether clauses are split or not.
+use Rattle.std.specs.Prelude.{◌≡◌, ◌⊎◌, ℕ, Bool, true, ◌&&◌, List, Option, None, Some, slice_get, All, IsTrue}
 use Rattle.fol_base.specs.Clause.{TreeClause}
 use Rattle.fol_base.specs.Symbols.{FunctionSymbols}
 use Rattle.fol_base.specs.Selection.{SelectionMode}
@@ -35,11 +35,11 @@ InferencesKeepSymbols =
 -- ---- what is carried
 
 -- While the pool is neither refuted nor spent, what is held covers what is owed: under each truth values of the names that make the
--- propositional clauses true, and over each list of function symbols that holds the inputs'. Where nothing is split.
+-- propositional clauses true, and over each list of function symbols that holds the inputs'.
 abbrev pub CarriedThrough : Type 0
 CarriedThrough =
     (usage : SymbolUse) (functions : FunctionSymbols usage.is_predicate) (origin : Origin) (history : List Event) (truth : Valuation)
-    → AreInputs origin.inputs → IsUseOf origin.inputs usage → origin.options.split ≡ false
+    → AreInputs origin.inputs → IsUseOf origin.inputs usage
     → All (HasSymbolsOf functions) origin.inputs → IsLawful usage.is_predicate origin history
     → let r = replay origin history in
     r.ended ≡ None → IsTrue (clauses_true truth (propositional_clauses r))
@@ -58,22 +58,21 @@ FixedAreRefutedOrSpent =
 abbrev pub is_member : PoolRecord → ℕ → Bool
 is_member r n = lives r n && is_awake r n
 
--- The outcome Saturated says that the members are saturated for the inputs, over each list of function symbols that holds the inputs'. Where
--- nothing is split.
+-- The outcome Saturated says that the members, which are awake under the final model, are saturated for the inputs, over each list of function
+-- symbols that holds the inputs'.
 abbrev pub SaturatedIsSaturated : Type 0
 SaturatedIsSaturated =
     (usage : SymbolUse) (functions : FunctionSymbols usage.is_predicate) (origin : Origin) (history : List Event)
-    → AreInputs origin.inputs → IsUseOf origin.inputs usage → origin.options.split ≡ false
+    → AreInputs origin.inputs → IsUseOf origin.inputs usage
     → All (HasSymbolsOf functions) origin.inputs → IsLawful usage.is_predicate origin history
     → outcome_of (replay origin history) ≡ Some Saturated
     → IsSaturated functions (mode_of origin.options.select) origin.inputs (members_of (replay origin history))
 
 -- And each inference that is named among the members was met: it was counted and not set aside, and the job of its last premise found it.
--- Where nothing is split.
 abbrev pub MembersHaveMet : Type 0
 MembersHaveMet =
     (usage : SymbolUse) (origin : Origin) (history : List Event) (key : Key) (c : TreeClause)
-    → AreInputs origin.inputs → IsUseOf origin.inputs usage → origin.options.split ≡ false
+    → AreInputs origin.inputs → IsUseOf origin.inputs usage
     → IsLawful usage.is_predicate origin history
     → let r = replay origin history in
     outcome_of r ≡ Some Saturated

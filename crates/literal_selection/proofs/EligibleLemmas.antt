@@ -1,9 +1,8 @@
 -- What is eligible in an instance is eligible in the clause.
-use Rattle.std.proofs.Common.{◌≡◌, ℕ, zero, suc, Bool, true, false, not, ◌&&◌, List, [], ◌∷◌, ◌++◌, length, length-take-le, map, take, drop, ◌+◌, Option, None, Some, refl, ap, ap₂, sym, ◌∙◌, inl, inr, arith}
+use Rattle.std.proofs.Common.{◌≡◌, ℕ, zero, suc, Bool, true, false, not, ◌&&◌, List, [], ◌∷◌, ◌++◌, length, length-take-le, map, take, ◌+◌, Option, None, Some, refl, ap, sym, ◌∙◌, inl, inr, arith}
 use Rattle.std.specs.Prelude.{option_map, slice_get, remove}
 use Rattle.std.specs.List.{list_all}
 use Rattle.std.proofs.lemmas.Bool.{and_parts, and_from, not-true, false_from_ne_true, true≢false}
-use Rattle.std.proofs.lemmas.List.{take-map, drop-map, map-append}
 use Rattle.std.proofs.lemmas.List.Folds.{list_all-append}
 use Rattle.std.proofs.lemmas.Option.{same_Some, slice_get-map, slice_get_within}
 use Rattle.fol_base.specs.Instance.{Substitution}
@@ -19,11 +18,7 @@ use Rattle.kbo_order.proofs.AboutMultisets.ClauseLoops.{greater-is, take-more, I
 use Rattle.kbo_order.proofs.AboutMultisets.MemberLemmas.{In, In-map, all-In, In-all}
 use Rattle.kbo_order.proofs.AboutLaws.StableLemmas.{literals_stable, equivalent_stable}
 use Rattle.literal_selection.specs.Laws.{EligibleLifts}
-
-remove-map : {X Y : Type 0} (f : X → Y) (xs : List X) (i : ℕ) → remove (map f xs) i ≡ map f (remove xs i)
-remove-map f xs i =
-    ap₂ ◌++◌ (take-map f i xs) (drop-map f (suc i) xs)
-    ∙ sym (map-append f (take i xs) (drop (suc i) xs))
+use Rattle.list_lemmas.proofs.Lists.{remove-map}
 
 -- a test that fails in the instance fails before
 untrue : (a b : Bool) → (a ≡ true → b ≡ true) → not b ≡ true → not a ≡ true

@@ -1,6 +1,6 @@
 -- Members by their numbers: as the map has them, as contracts see them, and as the trees give them.
 use Rattle.std.proofs.Common.{◌≡◌, ℕ, ◌≤◌, Bool, true, false, List, [], ◌∷◌, map, length, refl, ap, ap₂, sym, ◌∙◌, subst, ⊎_elim, arith}
-use Rattle.std.specs.Prelude.{Option, None, Some, option_map, cond, nat_eq, if◌then◌else◌, ◌==◌, ◌↔◌, slice_get, Contains, Result, Ok, OnOk}
+use Rattle.std.specs.Prelude.{Option, None, Some, option_map, cond, nat_eq, if◌then◌else◌, ◌==◌, ◌↔◌, slice_get, Contains}
 use Rattle.std.specs.List.Sorted.{IsStrictlyIncreasing}
 use Rattle.std.specs.Map.{lookup}
 use Rattle.std.proofs.lemmas.Bool.{cases_Bool, cond-true, cond-false, eq-eqb, eqb-true, true≢false}
@@ -274,6 +274,3 @@ fewer-of-bank bank number old new fewer all n p there =
     (λ yes. absurd (none-some p (sym (cond-true (number == n) None (placed_numbered n old.members) yes) ∙ sym (fewer.members n) ∙ there)))
     (λ no_it. all n p (sym (cond-false (number == n) None (placed_numbered n old.members) no_it) ∙ sym (fewer.members n) ∙ there))
     (cases_Bool (number == n))
-
-pub on_ok-at : {A E P : Type 0} (r : Result A E) (x : A) → r ≡ Ok x → OnOk r P → P
-on_ok-at {A} {E} {P} r x is h = subst (λ (s : Result A E). OnOk s P) is h

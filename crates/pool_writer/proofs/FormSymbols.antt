@@ -27,11 +27,11 @@ use Rattle.signature.proofs.SkolemLemmas.{skolem_symbols_of_problem_are_counted}
 use Rattle.kernel_steps.specs.Symbols.{symbols_pass, all_symbols_pass, literal_symbols_pass, clause_symbols_pass}
 use Rattle.clausal_form.proofs.AboutForms.FunctionLemmas.{truth-first}
 use Rattle.clausal_form.proofs.AboutWriting.LoopLemmas.{all-come, fold-append}
-use Rattle.clausal_form.proofs.AboutCounts.MeasureLemmas.{length-append}
 use Rattle.clausal_form.proofs.AboutNaming.NameLemmas.{closed-known}
 use Rattle.tstp_writer.specs.ReadableLines.{is_symbol_in}
 use Rattle.pool_writer.proofs.SymbolTests.{slice-front, slice-behind, AreKnown, SymbolTest, Knows, RightLiteral, RightClauses, clauses-joined}
 use Rattle.pool_writer.proofs.FormulaSymbols.{Fits, force-none, formula-back, Known, formula-right}
+use Rattle.list_lemmas.proofs.Lists.{length-joined}
 
 -- ---- problems
 
@@ -190,7 +190,7 @@ naming-at fs k a h =
     let far : length (with_skolem known m) + k ≡ length known + problem_skolem_count fs + k =
     omega (
       arith,
-      length-append known skolem,
+      length-joined known skolem,
       numbered-length function_symbol (fresh_prefix_of known (codes "sk")) 0 m.skolem_arities,
       skolem_symbols_of_problem_are_counted fs,
     ) in

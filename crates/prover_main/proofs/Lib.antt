@@ -3,5 +3,7 @@
 pub mod AboutPages
 -- AboutOutcomes: what each outcome says of the problem.
 pub mod AboutOutcomes
+-- AboutReading: problems that are read have no free variables, and can be printed.
+pub mod AboutReading
 -- AboutRuns: the whole run, and what each of its statuses says.
 pub mod AboutRuns

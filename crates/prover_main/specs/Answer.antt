@@ -33,7 +33,6 @@ use Rattle.pool_history.specs.declared.event.Event.{Event}
 use Rattle.pool_history.specs.declared.options.Options.{Options}
 use Rattle.pool_history.specs.declared.outcome.Outcome.{Outcome}
 use Rattle.pool_history.specs.declared.outcome.Outcome.TheVariants as outcome
-use Rattle.pool_writer.specs.Retraced.{steps_of}
 use Rattle.laws_saturation.specs.Found.{finds_of, WasMet}
 use Rattle.laws_saturation.specs.Laws.{is_member}
 use Rattle.tstp_checker.specs.Causes.{cause_meant}
@@ -155,7 +154,7 @@ pub record IsSaturation (symbols : List Symbol) (inputs : List TreeClause) (opti
 pub record IsRefuted (file : List ℕ) (formulas : List Annotated) (options : Options) (conjecture : Bool) (derivation : List ℕ) : Type 0 where
   pub r : PoolRecord
   pub history : HasHistory (clausal_form formulas).symbols (clausal_form formulas).clauses options outcome.Refuted r
-  pub printed : IsRefutationText (shown file) formulas (steps_of r.lines) derivation
+  pub printed : IsRefutationText (shown file) formulas r.lines derivation
   pub conjecture_is : conjecture ≡ has_conjecture formulas
   pub count : ℕ
   pub accepted : IsAcceptedDerivation formulas derivation count

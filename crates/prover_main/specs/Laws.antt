@@ -1,6 +1,11 @@
--- Laws of answers: the bytes that a library tells decide them where something is wrong with the input.
-use Rattle.std.specs.Prelude.{◌≡◌, ◌==◌, ◌||◌, ℕ, true, Bool, List}
+-- Laws of answers: the bytes that a library tells decide them where something is wrong with the input. And laws of problems that are read.
+use Rattle.std.specs.Prelude.{◌≡◌, ◌==◌, ◌||◌, ℕ, true, Bool, List, map, Option, IsTrue}
+use Rattle.outside.specs.Library.{Holdings}
 use Rattle.tptp_tree.specs.declared.problem.Annotated.{Annotated}
+use Rattle.tptp_problem.specs.Formulas.{placed}
+use Rattle.tptp_problem.specs.Problem.{IsProblem}
+use Rattle.laws_meaning.specs.Meaning.{are_closed}
+use Rattle.tstp_writer.specs.ProblemLaws.{ArePrintableEntries}
 use Rattle.pool_history.specs.declared.options.Options.{Options}
 use Rattle.prover_main.specs.Outside.{Outside, IsTold}
 use Rattle.prover_main.specs.declared.answer.Answer.{Answer}
@@ -30,3 +35,15 @@ abbrev pub FormedIsValid : Type 0
 FormedIsValid =
     (outside : Outside) (source : Source) (formulas : List Annotated) → IsTold outside → IsFormed (IsRead outside source) formulas
     → IsValid outside source
+
+-- A problem that is read has no formula with a free variable,
+abbrev pub ReadProblemsAreClosed : Type 0
+ReadProblemsAreClosed =
+    (told : Option Holdings) (file : List ℕ) (root : Option (List ℕ)) (formulas : List Annotated)
+    → IsProblem told file root (map placed formulas) → IsTrue (are_closed formulas)
+
+-- and its formulas can be printed.
+abbrev pub ReadProblemsArePrintable : Type 0
+ReadProblemsArePrintable =
+    (told : Option Holdings) (file : List ℕ) (root : Option (List ℕ)) (formulas : List Annotated)
+    → IsProblem told file root (map placed formulas) → ArePrintableEntries formulas

@@ -1,6 +1,6 @@
 -- The table of answers: what each status of a run says of the words of its command line, what the library tells of the run, and what the
 -- sink took. A write that fails, or out of memory, may take the place of each other status.
-use Rattle.std.specs.Prelude.{◌≡◌, ◌⊎◌, ℕ, List, Some, None, IfSome}
+use Rattle.std.specs.Prelude.{◌≡◌, ◌⊎◌, ℕ, List, Some, None}
 use Rattle.outside.specs.Faults.{Rose}
 use Rattle.outside.specs.Sink.{with_bytes, HasPrefixAfter}
 use Rattle.tptp_tree.specs.declared.problem.Annotated.{Annotated}
@@ -20,7 +20,7 @@ use Rattle.prover_main.specs.Outside.{Outside, IsTold}
 use Rattle.prover_main.specs.Meaning.{IsTheorem}
 use Rattle.prover_main.specs.Words.{Command, prove, check, command_of}
 use Rattle.prover_main.specs.declared.status.TheConstants.{SINK_FAILED, USAGE_SHOWN, MEMORY_OUT}
-use Rattle.prover_main.specs.Answer.{Source, IsUnread, IsUnformed, IsFormed, OfFormed, IsRefuted, IsSpent, IsHeavy, IsSaturation, IsLoaded, IsTooLong, IsRead}
+use Rattle.prover_main.specs.Answer.{Source, IsUnread, IsUnformed, IsFormed, OfFormed, IsRefuted, IsSpent, IsHeavy, IsSaturation, IsLoaded, IsTooLong, IsUnloaded, IsRead}
 use Rattle.prover_main.specs.Reports.{read_status, unread_report, unformed_report, lost_report, refuted_report, saturated_report, spent_report, heavy_report, accepted_line, refused_line, memory_out_report, usage_report}
 use Rattle.prover_main.specs.Run.{file_of, Taken, IsDue}
 
@@ -162,14 +162,19 @@ pub record FormFaultRow (words : List (List ℕ)) (outside : Outside) (taken : T
 
 -- ---- 4: a load failed
 
--- The library failed on a file that the report names, which is that of its last load that failed, where it tells.
+-- The derivation's file couldn't be loaded, after the problem had got its clausal form.
+abbrev pub IsDerivationLost : Outside → Command → List ℕ → Type 0
+IsDerivationLost outside (prove file root options) name = ⊥
+IsDerivationLost outside (check file derivation root) name =
+    OfFormed (IsRead outside (record { file = file; root = root })) (λ formulas. IsUnloaded outside derivation name)
+
+-- The library failed on a file of the problem, or on the derivation's, and the report of that was taken.
 pub record PrintedLoadFault (outside : Outside) (taken : Taken) (command : Command) : Type 0 where
-  pub rose : Rose outside.faults_before outside.faults_after
   pub name : List ℕ
-  pub failed : IfSome outside.failed_after (λ failed. failed ≡ name)
+  pub lost : ((place : ℕ) × IsUnread outside (source_of command) Load name place) ⊎ IsDerivationLost outside command name
   pub report : Took taken (lost_report (file_of command) name)
 
--- 4 comes only where the library's count of faults rose.
+-- 4 comes only where a load failed, and so the library's count of faults rose.
 abbrev pub LoadFaultRow : List (List ℕ) → Outside → Taken → ℕ → Type 0
 LoadFaultRow words outside taken status = status ≡ 4 → ForCommand words (PrintedLoadFault outside taken)
 
@@ -183,8 +188,10 @@ pub record IsLost (words : List (List ℕ)) (outside : Outside) (taken : Taken) 
   pub is_due : IsDue (command_of words) outside due text
   pub prefix : HasPrefixAfter taken.bytes_before taken.bytes_after text
 
-abbrev pub LostOutputRow : List (List ℕ) → Outside → Taken → ℕ → Type 0
-LostOutputRow words outside taken status = status ≡ SINK_FAILED → IsLost words outside taken
+-- 5 comes only so. With each other status the sink's count of faults is as it was.
+pub record LostOutputRow (words : List (List ℕ)) (outside : Outside) (taken : Taken) (status : ℕ) : Type 0 where
+  pub only : status ≡ SINK_FAILED → IsLost words outside taken
+  pub otherwise : (status ≡ SINK_FAILED → ⊥) → taken.faults_after ≡ taken.faults_before
 
 -- ---- 6: usage
 

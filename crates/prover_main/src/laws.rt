@@ -21,9 +21,9 @@ ghost use Rattle.laws_meaning.specs.Examples.{hiding_alone, every_p, some_p, con
 ghost use Rattle.prover_main.specs.Meaning.{FormMeans, IsTheorem};
 ghost use Rattle.prover_main.specs.Reports.{status_of, read_status, read_status_word, report_of, memory_out_report, usage_report, read_word, form_word, limit_word, cause_word};
 ghost use Rattle.prover_main.specs.Outside.{IsTold};
-ghost use Rattle.prover_main.specs.Laws.{is_exact, ChecksHaveOneAnswer, FaultsAreTheOnlyAnswer, FormedIsValid};
+ghost use Rattle.prover_main.specs.Laws.{is_exact, ChecksHaveOneAnswer, FaultsAreTheOnlyAnswer, FormedIsValid, ReadProblemsAreClosed, ReadProblemsArePrintable};
 ghost use Rattle.prover_main.specs.Examples.{counting, formula_in, hiding_with, holding_nothing, taking, proving_row, AreWritesBy, DeliversInPiecesBy};
-ghost use Rattle.prover_main.specs.Rows.{UsageRow, TheoremRow, MemoryOutRow, LoadFaultRow};
+ghost use Rattle.prover_main.specs.Rows.{UsageRow, TheoremRow, SaturatedRow, GaveUpRow, ReadFaultRow, FormFaultRow, LoadFaultRow, LostOutputRow, MemoryOutRow, CheckedRow};
 ghost use Rattle.prover_main.specs.Run.{IsDue};
 ghost use Rattle.prover_main.specs.declared.status.TheConstants.{SINK_FAILED, USAGE_SHOWN, MEMORY_OUT};
 
@@ -37,6 +37,12 @@ pub fn one_answer()
 {
     texts_have_one_answer();
 }
+
+/// No formula of a problem that is read has a free variable, and each can be printed, with at most twice the levels that a text may have.
+pub fn read_problems_are_admissible()
+    ensures closed { ReadProblemsAreClosed }
+    ensures printable { ReadProblemsArePrintable }
+{}
 
 /// The formulas of a problem within the limits show that nothing is wrong with it: completeness speaks of such problems.
 pub fn formed_problems_are_valid()
@@ -216,6 +222,12 @@ pub fn row_examples()
     ensures memory_out { MemoryOutRow proving_row (taking (memory_out_report (codes "r1.p"))) 7 }
     ensures nothing_told { ¬ MemoryOutRow proving_row (taking []) 7 }
     ensures no_fault { ¬ LoadFaultRow proving_row (holding_nothing 3 3) (taking []) 4 }
+    ensures no_saturation { ¬ SaturatedRow [] (holding_nothing 3 3) (taking []) 1 }
+    ensures nothing_given_up { ¬ GaveUpRow [] (holding_nothing 3 3) (taking []) 2 }
+    ensures no_form_fault { ¬ FormFaultRow [] (holding_nothing 3 3) (taking []) 3 }
+    ensures nothing_lost { ¬ LostOutputRow [] (holding_nothing 3 3) (taking []) 5 }
+    ensures no_read_fault { ¬ ReadFaultRow [] (holding_nothing 3 3) (taking []) 8 }
+    ensures nothing_refused { ¬ CheckedRow [] (holding_nothing 3 3) (taking []) 9 }
 {}
 
 /// Deliveries of a text in pieces: of two, as only out of memory is told, and of two of

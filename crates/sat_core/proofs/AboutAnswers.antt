@@ -1,4 +1,5 @@
 -- Right answers.
+pub mod ModelLemmas
 pub mod SolverLemmas
 pub mod SoundLemmas
 pub mod TrimLemmas

@@ -4,4 +4,4 @@ pub mod LogLemmas
 pub mod MarkLemmas
 pub mod ReduceLemmas
 pub mod ResolveLemmas
-pub mod SpanLemmas
+pub mod EndLemmas

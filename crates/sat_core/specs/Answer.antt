@@ -1,5 +1,5 @@
 -- When an answer to a list of propositional clauses is right.
-use Rattle.std.specs.Prelude.{◌≡◌, ℕ, List, length, Some, IsTrue, IsFalse}
+use Rattle.std.specs.Prelude.{◌≡◌, ℕ, ◌<◌, List, length, Some, IsTrue, IsFalse}
 use Rattle.sat_core.specs.declared.answer.Chain.{Chain}
 use Rattle.sat_core.specs.declared.answer.Answer.{Answer}
 use Rattle.sat_core.specs.declared.answer.Answer.TheVariants.{Model, Refuted}
@@ -21,6 +21,11 @@ pub record IsRightLog (clauses : List PropClause) (log : List Chain) : Type 0 wh
 abbrev pub IsRightAnswer : ℕ → List PropClause → Answer → Type 0
 IsRightAnswer names clauses (Model truths) = IsRightModel names clauses truths
 IsRightAnswer names clauses (Refuted log) = IsRightLog clauses log
+
+-- values that were given are the answer: each name has its given value, and a name without one is false
+abbrev pub AreAnswered : ℕ → List Bool → Answer → Type 0
+AreAnswered names first (Model truths) = (length truths ≡ names) × ((name : ℕ) → name < names → valuation_of truths name ≡ valuation_of first name)
+AreAnswered names first (Refuted log) = ⊥
 
 -- ---- laws
 

@@ -6,7 +6,9 @@ pub mod Trail
 pub mod Literals
 pub mod Values
 pub mod State
-pub mod Spans
+pub mod Ends
+pub mod ClauseBuffer
+pub mod Buffer
 pub mod Known
 pub mod Trimming
 pub mod Conflict

@@ -1,7 +1,8 @@
 //! The propositional solver: clause learning, with a model or a log of resolutions as its answer.
 //!
 //! Clauses are learned from conflicts (Marques-Silva and Sakallah 1996) in the way of MiniSat (Eén and Sörensson 2003). `answer.rt` has
-//! what goes in and comes out, `clauses.rt` the clauses with the log, over `lists.rt`, where lists stand one after another in one vector,
+//! what goes in and comes out, `clauses.rt` the clauses with the log, over `lists.rt`, where lists stand one after another in one vector
+//! (`buffer.rt` has such clauses with room for more, for a caller that takes its memory before),
 //! `trail.rt` the literals that are true in the order in which they became so, over `literals.rt`, literals as numbers, and `values.rt`,
 //! the values by these, `watches.rt` the propagation, over `copies.rt`, the clauses once more, `marks.rt` and `analysis.rt` the conflicts,
 //! `minimise.rt` the smaller clauses, `order.rt` the decisions, `forgetting.rt` which learned clauses are watched, `trimming.rt` the log
@@ -45,6 +46,7 @@
 
 mod analysis;
 mod answer;
+mod buffer;
 mod clauses;
 mod copies;
 mod forgetting;
@@ -61,6 +63,7 @@ mod values;
 mod watches;
 
 pub use answer::{Answer, Chain, Link, Links, Log, PropClauses, Truths, names_are_below};
+pub use buffer::PropClauseBuffer;
 pub use lists::Lists;
 pub use models::{are_true, truths_over};
 pub use solver::{solve, solve_from};

@@ -7,7 +7,7 @@ use crate::answer::{PropClauses, Truths};
 use plain_types::{Mem, NameLit};
 use std::alloc::Global;
 
-/// A value for each of so many names: the known ones, and false for the names after these.
+/// A value for each name below `names`: the known ones, and false for the names after these.
 pub fn truths_over(alloc: Global, names: u32, known: &[bool]) -> Mem<Truths>
     ensures count { IfOk result (λ truths. length truths ≡ names) }
     ensures values { IfOk result (λ truths. (name : ℕ) → name < names → valuation_of truths name ≡ valuation_of known.now name) }

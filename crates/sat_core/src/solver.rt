@@ -3,7 +3,7 @@
 ghost use Rattle.std.specs.Prelude.{◌≡◌, ◌*◌, ◌<◌, ◌≤◌, [], length, map, take, IfOk, IfSome, IfNone, MatchOption, IsTrue};
 ghost use Rattle.std.specs.List.{list_any};
 ghost use Rattle.sat_core.specs.Clause.{names_below, clauses_true, valuation_of};
-ghost use Rattle.sat_core.specs.Answer.{IsRightAnswer, IsRightLog};
+ghost use Rattle.sat_core.specs.Answer.{AreAnswered, IsRightAnswer, IsRightLog};
 ghost use Rattle.sat_core.specs.Trimming.{is_trimmed, has_trimmed_log};
 ghost use Rattle.sat_core.specs.Trail.{is_true, place_of};
 ghost use Rattle.sat_core.specs.State.{clause_at};
@@ -259,12 +259,22 @@ pub fn solve(alloc: Global, clauses: &PropClauses, names: u32) -> Mem<Answer>
 pub fn solve_from(alloc: Global, clauses: &PropClauses, names: u32, first: &[bool]) -> Mem<Answer>
     requires { IsTrue (names_below names clauses.now) }
     ensures right { IfOk result (IsRightAnswer names clauses.now) }
+    ensures holds { IsTrue (clauses_true (valuation_of first.now) clauses.now) → IfOk result (AreAnswered names first.now) }
     ensures trimmed { IfOk result (λ answer. IsTrue (has_trimmed_log (length clauses.now) answer)) }
 {
     let truths = truths_over(alloc, names, first)?;
     if are_true(clauses, 0, truths.as_slice()) {
         return Ok(Answer::Model(truths));
     }
+    search(alloc, clauses, names, first)
+}
+
+/// The answer of the search, which tries these values first.
+fn search(alloc: Global, clauses: &PropClauses, names: u32, first: &[bool]) -> Mem<Answer>
+    requires { IsTrue (names_below names clauses.now) }
+    ensures right { IfOk result (IsRightAnswer names clauses.now) }
+    ensures trimmed { IfOk result (λ answer. IsTrue (has_trimmed_log (length clauses.now) answer)) }
+{
     let mut solver = Solver::new(alloc, clauses, names, first)?;
     loop {
         match solver.step(alloc)? {

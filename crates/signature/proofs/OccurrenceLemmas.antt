@@ -11,6 +11,7 @@ use Rattle.signature.specs.declared.symbol.Symbol.{Symbol}
 use Rattle.signature.specs.Symbol.{with_symbol}
 use Rattle.signature.specs.Occurrences.{terms_count, term_symbols, terms_symbols, formula_symbols, formulas_symbols, annotated_symbols}
 use Rattle.tptp_tree.specs.ProblemSize.{occurrences, all_occurrences, total_occurrences}
+use Rattle.list_lemmas.proofs.Places.{drop-item, drop-all}
 
 pub folded : (known first rest : List Symbol) → fold with_symbol known (first ++ rest) ≡ fold with_symbol (fold with_symbol known first) rest
 folded known [] rest = refl
@@ -34,18 +35,6 @@ drop-suc x xs i = ap (λ k. drop k (x ∷ xs)) step
     step : suc (i + 1) ≡ suc i + 1
     step = omega arith
 
--- the items from a place on
-pub drop-item : {X : Type 0} (xs : List X) (i : ℕ) (x : X) → i < length xs → x ≡ get_or xs i x → drop i xs ≡ x ∷ drop (i + 1) xs
-drop-item [] i x h e = absurd (omega arith)
-drop-item (y ∷ ys) zero x h e = ap (λ z. z ∷ ys) (sym e)
-drop-item (y ∷ ys) (suc i) x h e = drop-item ys i x (omega arith) e ∙ ap (λ zs. x ∷ zs) (drop-suc y ys i)
-
-pub drop-end : {X : Type 0} (xs : List X) (i : ℕ) → length xs ≤ i → drop i xs ≡ []
-drop-end [] zero h = refl
-drop-end [] (suc i) h = refl
-drop-end (x ∷ xs) zero h = absurd (omega arith)
-drop-end (x ∷ xs) (suc i) h = drop-end xs i (omega arith)
-
 -- one more term is walked over
 pub terms-step :
     (known : List Symbol) (ts : List TreeTerm) (i : ℕ) (t : TreeTerm)
@@ -59,7 +48,7 @@ terms-step known ts i t h e =
 pub terms-end :
     (known : List Symbol) (ts : List TreeTerm) (i : ℕ)
     → length ts ≤ i → fold with_symbol known (terms_symbols (terms_of (map term_of (drop i ts)))) ≡ known
-terms-end known ts i h = ap (λ us. fold with_symbol known (terms_symbols (terms_of (map term_of us)))) (drop-end ts i h)
+terms-end known ts i h = ap (λ us. fold with_symbol known (terms_symbols (terms_of (map term_of us)))) (drop-all ts i h)
 
 pub formulas-step :
     (known : List Symbol) (fs : List Formula) (i : ℕ) (f : Formula)
@@ -73,7 +62,7 @@ formulas-step known fs i f h e =
 pub formulas-end :
     (known : List Symbol) (fs : List Formula) (i : ℕ)
     → length fs ≤ i → fold with_symbol known (formulas_symbols (formulas_of (map formula_of (drop i fs)))) ≡ known
-formulas-end known fs i h = ap (λ gs. fold with_symbol known (formulas_symbols (formulas_of (map formula_of gs)))) (drop-end fs i h)
+formulas-end known fs i h = ap (λ gs. fold with_symbol known (formulas_symbols (formulas_of (map formula_of gs)))) (drop-all fs i h)
 
 pub annotated-step :
     (known : List Symbol) (fs : List Annotated) (i : ℕ) (f : Annotated)
@@ -87,7 +76,7 @@ annotated-step known fs i f h e =
 pub annotated-end :
     (known : List Symbol) (fs : List Annotated) (i : ℕ)
     → length fs ≤ i → fold with_symbol known (flat_map annotated_symbols (drop i fs)) ≡ known
-annotated-end known fs i h = ap (λ gs. fold with_symbol known (flat_map annotated_symbols gs)) (drop-end fs i h)
+annotated-end known fs i h = ap (λ gs. fold with_symbol known (flat_map annotated_symbols gs)) (drop-all fs i h)
 
 -- ---- sizes
 

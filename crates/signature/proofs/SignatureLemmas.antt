@@ -11,9 +11,12 @@ use Rattle.tptp_tree.specs.Shape.{formula_of}
 use Rattle.signature.specs.declared.symbol.Symbol.{Symbol}
 use Rattle.signature.specs.Symbol.{is_predicate_kind, is_named, true_symbol, same_symbol, has_symbol, with_symbol, are_different, IsSignature}
 use Rattle.signature.specs.SymbolLaws.{same_symbol-refl, same_symbol-true}
-use Rattle.signature.proofs.OccurrenceLemmas.{annotated-end, drop-item, drop-end}
+use Rattle.signature.proofs.OccurrenceLemmas.{annotated-end}
 use Rattle.signature.specs.Occurrences.{term_symbols, terms_symbols, formula_symbols, formulas_symbols, annotated_symbols, problem_symbols}
 use Rattle.tptp_tree.specs.ProblemSize.{occurrences, all_occurrences, total_occurrences, HasProblemSize}
+use Rattle.list_lemmas.proofs.Lists.{length-joined, length-last, push-joined}
+use Rattle.list_lemmas.proofs.Bools.{and-false}
+use Rattle.list_lemmas.proofs.Places.{drop-item, drop-all}
 
 same_symbol-sym : (s t : Symbol) → same_symbol s t ≡ false → same_symbol t s ≡ false
 same_symbol-sym s t h = by (same_symbol t s) refl
@@ -53,10 +56,6 @@ different-end (k ∷ known) s h e =
     neither true b g = cc
     neither false b g = (refl, g)
 
-length-end : {X : Type 0} (xs : List X) (x : X) → length (xs ++ x ∷ []) ≡ 1 + length xs
-length-end [] x = omega arith
-length-end (y ∷ ys) x = omega (arith, length-end ys x)
-
 get-end : (known : List Symbol) (s t : Symbol) → slice_get known 0 ≡ Some t → slice_get (known ++ s ∷ []) 0 ≡ Some t
 get-end [] s t h = cc
 get-end (k ∷ known) s t h = h
@@ -67,7 +66,7 @@ signature-end known s h e l =
     record {
       truth = get-end known s true_symbol h.truth;
       different = different-end known s h.different e;
-      few = omega (arith, length-end known s, l);
+      few = omega (arith, length-last known s, l);
     }
 
 few-with : (known : List Symbol) (s : Symbol) → length (with_symbol known s) ≤ length known + 1
@@ -75,7 +74,7 @@ few-with known s = by (has_symbol s known)
   where
     by : (b : Bool) → length (if b then known else known ++ s ∷ []) ≤ length known + 1
     by true = omega arith
-    by false = omega (arith, length-end known s)
+    by false = omega (arith, length-last known s)
 
 -- a symbol that is met
 signature-with : (known : List Symbol) (s : Symbol) → IsSignature known → length known < 2 ^ 32 → IsSignature (with_symbol known s)
@@ -92,10 +91,6 @@ signature-fold known (s ∷ ss) h l =
 
 -- ---- how many symbols there are
 
-length-append : {X : Type 0} (xs ys : List X) → length (xs ++ ys) ≡ length xs + length ys
-length-append [] ys = omega arith
-length-append (x ∷ xs) ys = omega (arith, length-append xs ys)
-
 mutual
   term-few : (t : TermTree) → length (term_symbols t) ≤ term_size t
   term-few (variable x) = omega arith
@@ -103,29 +98,29 @@ mutual
 
   terms-few : (ts : TermTrees) → length (terms_symbols ts) ≤ terms_size ts
   terms-few no_terms = omega arith
-  terms-few (term_then t ts) = omega (arith, length-append (term_symbols t) (terms_symbols ts), term-few t, terms-few ts)
+  terms-few (term_then t ts) = omega (arith, length-joined (term_symbols t) (terms_symbols ts), term-few t, terms-few ts)
 
 mutual
   formula-few : (f : FormulaTree) → length (formula_symbols f) ≤ occurrences f
   formula-few truth = omega arith
   formula-few falsity = omega arith
   formula-few (predicate p ts) = omega (arith, terms-few ts)
-  formula-few (equation positive s t) = omega (arith, length-append (term_symbols s) (term_symbols t), term-few s, term-few t)
+  formula-few (equation positive s t) = omega (arith, length-joined (term_symbols s) (term_symbols t), term-few s, term-few t)
   formula-few (negation f) = formula-few f
   formula-few (conjunction fs) = formulas-few fs
   formula-few (disjunction fs) = formulas-few fs
-  formula-few (connected c f g) = omega (arith, length-append (formula_symbols f) (formula_symbols g), formula-few f, formula-few g)
+  formula-few (connected c f g) = omega (arith, length-joined (formula_symbols f) (formula_symbols g), formula-few f, formula-few g)
   formula-few (quantified q xs f) = omega (arith, formula-few f)
 
   formulas-few : (fs : FormulaTrees) → length (formulas_symbols fs) ≤ all_occurrences fs
   formulas-few no_formulas = omega arith
-  formulas-few (formula_then f fs) = omega (arith, length-append (formula_symbols f) (formulas_symbols fs), formula-few f, formulas-few fs)
+  formulas-few (formula_then f fs) = omega (arith, length-joined (formula_symbols f) (formulas_symbols fs), formula-few f, formulas-few fs)
 
 annotated-few : (fs : List Annotated) → length (flat_map annotated_symbols fs) ≤ total_occurrences fs
 annotated-few [] = omega arith
 annotated-few (f ∷ fs) =
     let all : length (flat_map annotated_symbols (f ∷ fs)) ≡ length (annotated_symbols f) + length (flat_map annotated_symbols fs) =
-    length-append (annotated_symbols f) (flat_map annotated_symbols fs) in
+    length-joined (annotated_symbols f) (flat_map annotated_symbols fs) in
     omega (arith, all, formula-few (formula_of f.formula), annotated-few fs)
 
 -- the symbols of a problem are those of a signature
@@ -234,10 +229,6 @@ all-different s (k ∷ known) ss h =
     apart [] g = first (same_symbol k s) (has_symbol k ss) g
     apart (j ∷ ks) g = apart ks (later (same_symbol k j) (has_symbol k (ks ++ s ∷ ss)) g)
 
-append-one : {X : Type 0} (xs : List X) (y : X) (ys : List X) → (xs ++ y ∷ []) ++ ys ≡ xs ++ y ∷ ys
-append-one [] y ys = refl
-append-one (x ∷ xs) y ys = ap (λ zs. x ∷ zs) (append-one xs y ys)
-
 append-none : {X : Type 0} (xs : List X) → xs ++ [] ≡ xs
 append-none [] = refl
 append-none (x ∷ xs) = ap (λ zs. x ∷ zs) (append-none xs)
@@ -246,15 +237,15 @@ met-different : (known ss : List Symbol) → are_different (known ++ ss) ≡ tru
 met-different known [] h = sym (append-none known)
 met-different known (s ∷ ss) h =
     ap (λ b. fold with_symbol (if b then known else known ++ s ∷ []) ss) (all-different s known ss h)
-    ∙ met-different (known ++ s ∷ []) ss (ap are_different (append-one known s ss) ∙ h)
-    ∙ append-one known s ss
+    ∙ met-different (known ++ s ∷ []) ss (ap are_different (push-joined known s ss) ∙ h)
+    ∙ push-joined known s ss
 
 -- different symbols, met one after another
 pub copy-begins : (known ss : List Symbol) → known ≡ [] → IsSignature ss → fold with_symbol known ss ≡ ss
 copy-begins known ss e h = ap (λ ks. fold with_symbol ks ss) e ∙ met-different [] ss h.different
 
 pub symbols-end : (known ss : List Symbol) (i : ℕ) → length ss ≤ i → fold with_symbol known (drop i ss) ≡ known
-symbols-end known ss i h = ap (fold with_symbol known) (drop-end ss i h)
+symbols-end known ss i h = ap (fold with_symbol known) (drop-all ss i h)
 
 pub symbols-step :
     (known ss : List Symbol) (i : ℕ) (s : Symbol)
@@ -262,10 +253,6 @@ pub symbols-step :
 symbols-step known ss i s h e = ap (fold with_symbol known) (sym (drop-item ss i s h e))
 
 -- ---- a symbol whose name no other has is new
-
-and-false : (t : Bool) → (t && false) ≡ false
-and-false true = refl
-and-false false = refl
 
 other-name : (s t : Symbol) → bytes_eq s.name t.name ≡ false → same_symbol s t ≡ false
 other-name s t h =

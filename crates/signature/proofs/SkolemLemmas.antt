@@ -8,6 +8,7 @@ use Rattle.signature.specs.Environment.{Environment, free_names, without_names, 
 use Rattle.signature.specs.Clausal.{SymbolNumbers, Made, Worked, Scope, Literals, Work, all_pairs, is_large, named, product, joined, truth_value, with_variables, with_skolem_terms, skolem_arguments, scope_of, makes_variables, clauses_of, listed_clauses, product_clauses, begun, annotated_clauses, formed}
 use Rattle.signature.specs.Form.{skolem_count, all_skolem_count, problem_skolem_count, symbol_numbers, problem_form, nothing_made}
 use Rattle.signature.specs.FormLaws.{SkolemSymbolsAreCounted, SkolemSymbolsOfProblemAreCounted}
+use Rattle.list_lemmas.proofs.Lists.{length-joined}
 
 abbrev made_count : Made → ℕ
 made_count m = length m.skolem_arities
@@ -15,10 +16,6 @@ made_count m = length m.skolem_arities
 -- the work makes that many
 abbrev Adds : Work → ℕ → Type 0
 Adds work k = (m : Made) → made_count (work m).made ≡ made_count m + k
-
-length-append : {X : Type 0} (xs ys : List X) → length (xs ++ ys) ≡ length xs + length ys
-length-append [] ys = omega arith
-length-append (x ∷ xs) ys = omega (arith, length-append xs ys)
 
 product-count :
     (n : SymbolNumbers) (began : ℕ) (first second : List Literals) (m : Made) → made_count (product n began first second m).made ≡ made_count m
@@ -64,7 +61,7 @@ terms-count n free (x ∷ xs) env m =
     let arguments : List ℕ = skolem_arguments (without_names (x ∷ xs) free) env m in
     let rest : made_count (with_skolem_terms n free (x ∷ xs) env m).made ≡ length (m.skolem_arities ++ length arguments ∷ []) + length xs =
     terms-count n free xs _ _ in
-    omega (arith, rest, length-append m.skolem_arities (length arguments ∷ []))
+    omega (arith, rest, length-joined m.skolem_arities (length arguments ∷ []))
 
 scope-count :
     (n : SymbolNumbers) (new : Bool) (xs : List (List ℕ)) (f : FormulaTree) (env : Environment) (m : Made)

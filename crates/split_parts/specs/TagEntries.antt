@@ -9,12 +9,12 @@ use Rattle.split_parts.specs.SignedNames.{affirmed, named, signed_name}
 use Rattle.split_parts.specs.Tags.{tag_of}
 use Rattle.split_parts.specs.declared.tags.NameTable.TheInside.{Inside}
 
--- There is a tag below 2^32 for each further part, and a place in the set and in both lists.
+-- There is a tag below 2^32 - 1 for each further part, and a place in the set and in both lists.
 abbrev pub table_of : Inside → PartTable
 table_of a = record {
   parts = map key_part a.parts.keys;
   spare =
-      min (2 ^ 32 - length a.parts.keys)
+      min (2 ^ 32 - 1 - length a.parts.keys)
       (min (spare a.parts) (min (vec_capacity a.signed - vec_len a.signed) (vec_capacity a.firsts - vec_len a.firsts)));
 }
 

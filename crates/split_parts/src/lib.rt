@@ -24,7 +24,7 @@
 //! it, so that tags are those that the parts would have got one by one.
 //!
 //! **Invariant.** The list of signed names is that of the parts by the definition (`signed_name`), and the list of first tags has for each
-//! name the tag of the part with which it came; there are at most 2^32 parts.
+//! name the tag of the part with which it came; there are fewer than 2^32 parts.
 //!
 //! **Proved.** `components` gives the components by the definition, which are unique. `put` and `name_of` add a part as `with_part` says
 //! and answer its tag and whether it is new; `put` always succeeds where there is room. `part`, `signed` and `first_tag` lend what the

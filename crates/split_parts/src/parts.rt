@@ -17,9 +17,26 @@ use std::collections::HashMap;
 pub fn components(alloc: Global, clause: &Clause) -> Mem<Parts>
     ensures { IfOk result (λ parts. IsComponents (clause_of clause.now).literals parts) }
 {
-    let links = linked(alloc, clause.literals.as_slice())?;
+    let literals = clause.literals.as_slice();
+    if literals.len() < 2 {
+        return at_most_one_part(alloc, literals);
+    }
+    let links = linked(alloc, literals)?;
     let parts = grouped(alloc, links.as_slice())?;
     Ok(Parts::from_vec(parts))
+}
+
+/// The component of a clause of one literal; the empty clause has none.
+fn at_most_one_part(alloc: Global, literals: &[Literal]) -> Mem<Parts>
+    requires { length literals.now < 2 }
+    ensures { IfOk result (λ parts. IsComponents (map literal_of literals.now) parts) }
+{
+    if literals.is_empty() {
+        return Ok(Parts::new(alloc));
+    }
+    let mut parts = Parts::new(alloc);
+    parts.push(Numbers::from_slice(alloc, &[0])?)?;
+    Ok(parts)
 }
 
 /// The classes of literals that are connected by variables.

@@ -16,8 +16,8 @@ use plain_types::{Mem, NameLit, NoMemory};
 use std::alloc::Global;
 use std::marker::Model;
 
-/// Tags are below it.
-const TAGS: usize = 1 << 32;
+/// Tags are below it, so that the number of names has 32 bits.
+const TAGS: usize = u32::MAX as usize;
 
 /// Different parts, each under a tag, with signed names: a ground literal and its complement share a name. Contracts see the list of the
 /// parts' literals, in the order of the tags, and how many more parts can be put without memory.
@@ -32,7 +32,7 @@ pub struct NameTable {
 }
 
 impl Model for NameTable {
-    ghost use Rattle.std.specs.Prelude.{map, length, ◌≡◌, ◌≤◌, ◌^◌};
+    ghost use Rattle.std.specs.Prelude.{map, length, ◌≡◌, ◌<◌, ◌^◌};
     ghost use Rattle.split_parts.specs.PartKeys.{key_part};
     ghost use Rattle.split_parts.specs.PartTable.{PartTable, part_table_code};
     ghost use Rattle.split_parts.specs.TagEntries.{table_of, signed_names, first_tags};
@@ -43,7 +43,7 @@ impl Model for NameTable {
 
     ghost view = { table_of };
 
-    ghost invariant = { λ a. (length a.parts.keys ≤ 2 ^ 32) × (a.signed.items ≡ signed_names (map key_part a.parts.keys))
+    ghost invariant = { λ a. (length a.parts.keys < 2 ^ 32) × (a.signed.items ≡ signed_names (map key_part a.parts.keys))
         × (a.firsts.items ≡ first_tags (map key_part a.parts.keys)) };
 }
 
@@ -59,7 +59,7 @@ impl NameTable {
         }
     }
 
-    /// Makes room for so many more parts, and leaves the parts as they are. Past 2^32 parts there are no tags for more.
+    /// Makes room for `more` parts, and leaves the parts as they are. There are tags for fewer than 2^32 parts.
     pub fn reserve(&mut self, more: usize) -> Mem<()>
         ensures parts { self.new.parts ≡ self.old.parts }
         ensures kept { self.old.spare ≤ self.new.spare }
@@ -87,16 +87,27 @@ impl NameTable {
         if let Some(tag) = self.parts.get_index_of(PartRef { literals }) {
             return (tag as u32, false);
         }
+        (self.push_new(part), true)
+    }
+
+    /// Gives the next tag to a part that has none. There is room, so it takes no memory.
+    fn push_new(&mut self, part: PartKey) -> u32
+        requires room { 0 < self.old.spare }
+        requires new { has_part (key_part part) self.old.parts ≡ false }
+        ensures added { self.new.parts ≡ with_part self.old.parts (key_part part) }
+        ensures tag { result ≡ tag_of self.old.parts (key_part part) }
+        ensures room { self.old.spare ≤ self.new.spare + 1 }
+    {
         let tag = self.parts.len() as u32;
-        let signed = self.next_name(literals);
+        let signed = self.next_name(part.literals.as_slice());
         note_first(&mut self.firsts, signed.name, tag);
         self.signed.push_reserved(signed);
         self.parts.insert_full(part).unwrap();
-        (tag, true)
+        tag
     }
 
     /// The tag of a canonical clause, and whether the clause is new; a new one gets the next tag. After an out-of-memory error, which a clause
-    /// after 2^32 others meets too, the parts are as before.
+    /// after 2^32 - 1 others meets too, the parts are as before.
     pub fn name_of(&mut self, alloc: Global, part: &Clause) -> Mem<(u32, bool)>
         requires canonical { IsCanonical (clause_of part.now) }
         requires unnamed { part.now.names ≡ [] }
@@ -104,6 +115,8 @@ impl NameTable {
         ensures tag { IfOk result (λ tag. tag.0 ≡ tag_of self.old.parts (clause_of part.now).literals) }
         ensures new { IfOk result (λ tag. tag.1 ≡ not (has_part (clause_of part.now).literals self.old.parts)) }
         ensures unchanged { OnErr result (self.new.parts ≡ self.old.parts) }
+        ensures kept { OnErr result (self.old.spare ≤ self.new.spare) }
+        ensures room { OnOk result (self.old.spare ≤ self.new.spare + 1) }
     {
         let literals = part.literals.as_slice();
         if let Some(tag) = self.parts.get_index_of(PartRef { literals }) {
@@ -111,7 +124,7 @@ impl NameTable {
         }
         let key = PartKey::of(alloc, literals)?;
         self.reserve(1)?;
-        Ok(self.put(key))
+        Ok((self.push_new(key), true))
     }
 
     /// The literals of a tag's part, lent.
@@ -148,10 +161,10 @@ impl NameTable {
     }
 
     /// How many names there are.
-    pub fn names(&self) -> u64
+    pub fn names(&self) -> u32
         ensures { result ≡ length (named self.now.parts) }
     {
-        self.firsts.len() as u64
+        self.firsts.len() as u32
     }
 
     /// The signed name of a part that is met for the first time.

@@ -50,7 +50,7 @@ fn named_clause(rt: &impl Abort, alloc: Global, text: &str, names: &[u32]) -> Cl
     made
 }
 
-/// Whether a clause comes back with its names, and is equal by numbers where it is handed over then.
+/// Whether a clause comes back with its names, and is equal by numbers where it is interned once more.
 fn comes_back<R: Wait + Abort>(
     rt: &R,
     alloc: Global,
@@ -68,9 +68,9 @@ fn comes_back<R: Wait + Abort>(
     let made = BankClause::of_clause(rt, alloc, bank, table, form).expect(rt, "memory");
     let back = made.to_clause(bank).expect(rt, "memory");
     let same = same_clause(&back, form);
-    let moved = BankClause::of_clause_owned(rt, alloc, bank, table, back).expect(rt, "memory");
+    let again = BankClause::of_clause(rt, alloc, bank, table, &back).expect(rt, "memory");
     let copied = made.copied().expect(rt, "memory");
-    same && made.names() == names && moved == made && copied == made
+    same && made.names() == names && again == made && copied == made
 }
 
 /// More literals than stand inline.

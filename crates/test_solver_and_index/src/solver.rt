@@ -298,6 +298,19 @@ fn tells_whether_values_make_later_clauses_true(rt: HostRuntime) {
     assert!(rt; are_true(&clauses, 3, &[]));
 }
 
+// The room is made before, and the copy has both clauses.
+#[test]
+fn clauses_are_pushed_where_there_is_room(rt: HostRuntime) {
+    let alloc = rt.alloc();
+    let mut clauses = PropClauseBuffer::new(alloc);
+    clauses.reserve(2, 3).expect(&rt, "memory");
+    clauses.push_reserved(&[yes(0), no(1)]);
+    clauses.push_reserved(&[yes(1)]);
+    let copied = clauses.copy(alloc).expect(&rt, "memory");
+    assert!(rt; copied.get(0) == [yes(0), no(1)].as_slice());
+    assert!(rt; copied.get(1) == [yes(1)].as_slice());
+}
+
 fn random_literal(random: &mut Random, names: u32) -> NameLit
     requires { 0 < names }
 {

@@ -7,7 +7,6 @@ pub mod FaultLemmas
 pub mod OnwardLemmas
 pub mod OutcomeLemmas
 pub mod EntryOutcomes
-pub mod PassedLemmas
 pub mod ReadLemmas
 pub mod SpelledLemmas
 pub mod LevelLemmas

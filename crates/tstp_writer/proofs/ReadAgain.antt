@@ -1,9 +1,8 @@
 -- What is printed is read again as it was.
 pub mod InputLines
 pub mod LiteralKinds
-pub mod ProblemForms
+pub mod Parentheses
 pub mod ProblemLemmas
-pub mod ProblemLevels
 pub mod ProblemTrees
 pub mod ReadableSources
 pub mod ReadableTexts

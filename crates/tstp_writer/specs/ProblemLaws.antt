@@ -1,14 +1,11 @@
--- A problem that was read can be printed: each of its formulas as a line, and so the negation of its conjecture.
-use Rattle.std.specs.Prelude.{◌≡◌, ℕ, ◌*◌, ◌≤◌, true, false, ◌&&◌, List, map, filter_map, Option, IfSome}
+-- Problems whose formulas can be printed: each as a line, and so can the negation of the conjecture.
+use Rattle.std.specs.Prelude.{◌≡◌, ℕ, ◌*◌, ◌≤◌, true, false, ◌&&◌, List, filter_map, IfSome}
 use Rattle.std.specs.List.{AllByRecursion}
-use Rattle.outside.specs.Library.{Holdings}
 use Rattle.tptp_tree.specs.declared.limits.TheConstants.{MOST_PRINTED_NESTING}
 use Rattle.tptp_tree.specs.declared.problem.Annotated.{Annotated}
 use Rattle.tptp_tree.specs.Printing.{formula_text}
 use Rattle.tptp_tree.specs.Spelling.{SpellsFormula}
 use Rattle.tptp_tree.specs.Entries.{AnnotatedTree, is_conjecture}
-use Rattle.tptp_problem.specs.Formulas.{placed}
-use Rattle.tptp_problem.specs.Problem.{IsProblem}
 use Rattle.kernel_steps.specs.declared.step.Line.{Line}
 use Rattle.tptp_tree.specs.Shape.{entry_of}
 use Rattle.tptp_tree.specs.Levels.{formula_levels}
@@ -51,20 +48,13 @@ pub record HasPrintableBeginning (script : Script) (layout : Layout) : Type 0 wh
   pub negated :
       AllByRecursion IsPrintable (filter_map (λ place. negate_at script layout (negated_name layout place) place) layout.negated)
 
--- ---- problems that were read
-
-abbrev pub ProblemFormulasArePrintable : Type 0
-ProblemFormulasArePrintable =
-    (told : Option Holdings) (file : List ℕ) (root : Option (List ℕ)) (formulas : List Annotated)
-    → IsProblem told file root (map placed formulas) → ArePrintableEntries formulas
-
--- ---- problems whose formulas can be printed
+-- ---- laws
 
 abbrev pub ProblemLinesArePrintable : Type 0
 ProblemLinesArePrintable =
     (formulas : List Annotated) → ArePrintableEntries formulas → AllByRecursion (λ (a : Annotated). HasPrintableLines (entry_of a)) formulas
 
--- the formulas of a script can be printed by their places, where the file's name is shown
+-- the same by places, where the file's name is shown
 abbrev pub ScriptFormulasArePrintable : Type 0
 ScriptFormulasArePrintable =
     (formulas : List Annotated) → ArePrintableEntries formulas → (name : List ℕ) → IsShown name → HasPrintableFormulas (script_of name formulas)

@@ -18,7 +18,7 @@ ghost use Rattle.tstp_writer.specs.LineTrees.{script_of, derived_name, step_sour
 ghost use Rattle.tstp_writer.specs.ReadableExamples as factor;
 ghost use Rattle.tstp_writer.specs.ReadableLines.{IsReadable, NumbersFit, read_clause, read_renaming, read_terms};
 ghost use Rattle.tstp_writer.specs.Printable.{PrintedLinesAreSpelled};
-ghost use Rattle.tstp_writer.specs.ProblemLaws.{ProblemFormulasArePrintable, ProblemLinesArePrintable, ScriptFormulasArePrintable, BeginningsArePrintable, LineNamesAreShown};
+ghost use Rattle.tstp_writer.specs.ProblemLaws.{ProblemLinesArePrintable, ScriptFormulasArePrintable, BeginningsArePrintable, LineNamesAreShown};
 ghost use Rattle.tstp_writer.specs.WrittenTexts.{FormSymbolsAreShown, ReadableLinesArePrintable, ReadableDerivationsArePrintable, ReadableDerivationsAreSpelled, WrittenTextsAreAccepted};
 ghost use Rattle.tstp_writer.specs.WrittenLaws.{WrittenLinesAreAccepted};
 ghost use Rattle.tstp_writer.specs.TextExamples.{implication_steps, implication_numbers, implication_text, named_components, components_steps, components_numbers, components_text, split_or_q, signed_steps, signed_numbers, signed_text};
@@ -48,11 +48,9 @@ pub fn cone_examples()
     ensures implication { IsCone implication_steps 7 implication_numbers }
 {}
 
-/// The formulas of a problem that was read can be printed, with at most twice the levels that a text may have; so can the lines
-/// of them and of a conjecture's negation, where their names and the file's name are shown, and so those with which a written
-/// derivation begins.
+/// Where the formulas of a problem can be printed, so can the lines of them and of a conjecture's negation, where their names and the
+/// file's name are shown, and so those with which a written derivation begins.
 pub fn problems_are_printable()
-    ensures formulas { ProblemFormulasArePrintable }
     ensures lines { ProblemLinesArePrintable }
     ensures by_places { ScriptFormulasArePrintable }
     ensures beginnings { BeginningsArePrintable }

@@ -11,9 +11,10 @@ use Rattle.bank_clause.specs.Clause.{clause_at}
 use Rattle.bank_clause.specs.declared.clause.BankClause.{BankClause}
 use Rattle.bank_clause.specs.declared.member.Member.{Member}
 use Rattle.disc_tree.specs.Entries.{IsIn, IsWith, numbers_where}
-use Rattle.rewriting.proofs.AboutIndexes.IndexLemmas.{in-fewer, in-found, in-left, in-more, in-right}
+use Rattle.rewriting.proofs.AboutIndexes.IndexLemmas.{in-fewer, in-found, in-more}
 use Rattle.rewriting.proofs.AboutIndexes.NumberedLemmas as by_number
 use Rattle.unit_cutting.specs.Indexed.{HasCandidates, HasOneLiteral, IsIndexedAt, KeepsOthers, member_of}
+use Rattle.disc_tree.proofs.AboutPaths.PrefixLemmas.{in-left, in-right}
 
 abbrev pub clause_of_member : Member → BankClause
 clause_of_member m = m.clause

@@ -8,11 +8,11 @@ use Rattle.tptp_tree.specs.Shape.{formula_of}
 use Rattle.tptp_tree.specs.declared.formula.Formula.{Formula}
 use Rattle.signature.specs.Environment.{closed}
 use Rattle.signature.specs.Form.{skolem_count, all_skolem_count, problem_skolem_count}
-use Rattle.signature.proofs.OccurrenceLemmas.{drop-item, drop-end}
 use Rattle.formula_nnf.specs.Expanded.{expanded_count}
 use Rattle.clausal_form.specs.Progress.{expandable, counted_skolem}
 use Rattle.fol_base.specs.declared.limits.TheConstants.{MOST_FORM_SYMBOLS}
 use Rattle.clausal_form.specs.declared.fault.TheConstants.{MOST_EXPANDED}
+use Rattle.list_lemmas.proofs.Places.{drop-item, drop-all}
 
 pub count-then :
     (fs : List Formula) (i : ℕ) (f : Formula) (sign : Bool) → i < length fs → f ≡ get_or fs i f
@@ -34,7 +34,7 @@ expandable-none : (fs gs : List Annotated) (total : ℕ) → gs ≡ [] → (min 
 expandable-none fs gs total e h k = let none : problem_skolem_count gs ≡ 0 = ap problem_skolem_count e in omega (arith, none, h, k)
 
 pub counted-end : (fs : List Annotated) (i total : ℕ) → length fs ≤ i → IsCounted fs i total → total ≡ counted_skolem fs
-counted-end fs i total h c = expandable-none fs (expandable (drop i fs)) total (ap expandable (drop-end fs i h)) c.0 c.1
+counted-end fs i total h c = expandable-none fs (expandable (drop i fs)) total (ap expandable (drop-all fs i h)) c.0 c.1
 
 pub counted-stop :
     (fs : List Annotated) (i : ℕ) (a : Annotated) (total : ℕ) → i < length fs → a ≡ get_or fs i a

@@ -21,8 +21,9 @@ use Rattle.skolem.specs.SkolemizedLaws.{is_predicate}
 use Rattle.skolem.specs.Heavy.{has_clauses, some_have_clauses, all_have_clauses, heavy_matrix, some_heavy, all_forms_have_clauses}
 use Rattle.clausal_form.specs.Heavy.{heavy_form, some_heavy_form}
 use Rattle.clausal_form.specs.Measure.{literals_size, largest}
-use Rattle.skolem.proofs.AboutFormulas.HeavyLemmas.{or-first, or-second, or-either, all-forms-have}
+use Rattle.skolem.proofs.AboutFormulas.HeavyLemmas.{all-forms-have}
 use Rattle.clausal_form.proofs.AboutNaming.OccurringLemmas.{is_some, some-append, some-pairs}
+use Rattle.list_lemmas.proofs.Bools.{or-second, or-first, or-either}
 
 -- ---- heavy clauses
 

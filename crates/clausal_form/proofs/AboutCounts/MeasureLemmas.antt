@@ -1,11 +1,10 @@
 -- Measures of lists one after the other and of products, with sums that stop and without.
 use Rattle.std.proofs.Common.{◌≡◌, ℕ, zero, suc, ◌+◌, ◌-◌, ◌*◌, ◌^◌, ◌≤◌, ◌==◌, ◌&&◌, max, Bool, true, false, List, [], ◌∷◌, ◌++◌, length, map, refl, ap, sym, ◌∙◌, append-nil, arith}
-use Rattle.std.specs.Prelude.{nat_lt}
+use Rattle.std.specs.Prelude.{nat_lt, flat_map}
 use Rattle.std.proofs.lemmas.Bool.{and_parts, eqb-true, ltb-true, ltb-false}
 use Rattle.std.proofs.lemmas.List.Sums.{sum_by-append, sum_by-cons}
 use Rattle.fol_base.specs.Clause.{TreeLiteral, literal_size}
 use Rattle.signature.specs.Clausal.{Literals, all_pairs}
-use Rattle.std.specs.Prelude.{flat_map}
 use Rattle.std.proofs.lemmas.Grind.{flat_map-append}
 use Rattle.fol_base.proofs.AboutTerms.TreeLemmas.{tree_size-positive}
 use Rattle.skolem.specs.Shape.{matrix_tree}
@@ -16,22 +15,20 @@ use Rattle.clausal_form.specs.Measure.{literals_size, symbols_in, largest, Claus
 use Rattle.plain_types.specs.Capped.{capped}
 use Rattle.clausal_form.specs.declared.measure.Measure.{Measure}
 use Rattle.clausal_form.proofs.AboutNaming.PairLemmas.{pairs-unit, unit-pairs}
+use Rattle.list_lemmas.proofs.Lists.{length-joined}
+use Rattle.list_lemmas.proofs.Numbers.{times-none, times-suc}
 
 same : (a b : ClauseMeasure) → a.clauses ≡ b.clauses → a.symbols ≡ b.symbols → a.largest ≡ b.largest → a ≡ b
 same a b h k l = λ i. record { clauses = h i; symbols = k i; largest = l i }
 
 -- ---- one list after the other
 
-pub length-append : {X : Type 0} (a b : List X) → length (a ++ b) ≡ length a + length b
-length-append [] b = omega arith
-length-append (x ∷ a) b = omega (arith, length-append a b)
-
 pub largest-append : (a b : List Literals) → largest (a ++ b) ≡ max (largest a) (largest b)
 largest-append [] b = omega arith
 largest-append (c ∷ a) b = omega (arith, largest-append a b)
 
 measured-append : (a b : List Literals) → measured (a ++ b) ≡ sum_measure (measured a) (measured b)
-measured-append a b = same _ _ (length-append a b) (sum_by-append literals_size a b) (largest-append a b)
+measured-append a b = same _ _ (length-joined a b) (sum_by-append literals_size a b) (largest-append a b)
 
 sum-capped : (a b : ClauseMeasure) → capped_measure (sum_measure (capped_measure a) (capped_measure b)) ≡ capped_measure (sum_measure a b)
 sum-capped a b = same _ _ refl (omega arith) (omega arith)
@@ -46,9 +43,6 @@ measured-sum a b c cs ds h k l =
     ∙ sum-capped (measured cs) (measured ds) ∙ ap capped_measure (sym (measured-append cs ds))
 
 -- ---- products
-
-times-none : (a : ℕ) → a * 0 ≡ 0
-times-none a = omega arith
 
 none-times : (a : ℕ) → 0 * a ≡ 0
 none-times a = omega arith
@@ -76,7 +70,7 @@ before-largest c (d ∷ (e ∷ b)) = omega (arith, sum_by-append literal_size c 
 pub pairs-length : (a b : List Literals) → length (all_pairs a b) ≡ length a * length b
 pairs-length [] b = omega arith
 pairs-length (c ∷ a) b =
-    omega (arith, length-append (map (λ d. c ++ d) b) (all_pairs a b), before-length c b, pairs-length a b)
+    omega (arith, length-joined (map (λ d. c ++ d) b) (all_pairs a b), before-length c b, pairs-length a b)
 
 pub pairs-symbols : (a b : List Literals) → symbols_in (all_pairs a b) ≡ symbols_in a * length b + symbols_in b * length a
 pairs-symbols [] b = omega (arith, times-none (symbols_in b))
@@ -132,9 +126,6 @@ measured-pairs a b = same _ _ (pairs-length a b) (pairs-symbols a b) (pairs-larg
 
 -- ---- products that stop
 
-times-larger : (a b : ℕ) → a ≤ a * suc b
-times-larger a b = omega arith
-
 both-over : (x y : ℕ) → 2 ^ 64 - 1 ≤ x → 2 ^ 64 - 1 ≤ y → capped x ≡ capped y
 both-over x y h k = omega (arith, h, k)
 
@@ -145,8 +136,8 @@ times-capped a (suc b) = by (nat_lt (2 ^ 64 - 1) a) refl
     by : (t : Bool) → nat_lt (2 ^ 64 - 1) a ≡ t → capped (capped a * suc b) ≡ capped (a * suc b)
     by true e =
         both-over (capped a * suc b) (a * suc b)
-        (omega (arith, ltb-true (2 ^ 64 - 1) a e, times-larger (capped a) b))
-        (omega (arith, ltb-true (2 ^ 64 - 1) a e, times-larger a b))
+        (omega (arith, ltb-true (2 ^ 64 - 1) a e, times-suc (capped a) b))
+        (omega (arith, ltb-true (2 ^ 64 - 1) a e, times-suc a b))
     by false e = ap (λ x. capped (x * suc b)) (let small : capped a ≡ a = omega (arith, ltb-false (2 ^ 64 - 1) a e) in small)
 
 sums-capped : (x y z w : ℕ) → capped x ≡ capped z → capped y ≡ capped w → capped (x + y) ≡ capped (z + w)

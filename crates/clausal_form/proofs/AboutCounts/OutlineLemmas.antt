@@ -13,8 +13,11 @@ use Rattle.skolem.specs.Outline.{ClauseOutline, constant_outline, sum_outline, p
 use Rattle.skolem.proofs.AboutBindings.BoundTermLemmas.{variables-of, sizes-of}
 use Rattle.clausal_form.specs.Occurring.{clauses_variables}
 use Rattle.clausal_form.specs.Measure.{literals_size, largest, product_largest}
-use Rattle.clausal_form.proofs.AboutNaming.OccurringLemmas.{is_some, any-append, any-lists, any-pairs, Same, same-order}
-use Rattle.clausal_form.proofs.AboutCounts.MeasureLemmas.{length-append, largest-append, before-largest, pairs-length, pairs-largest, some-largest}
+use Rattle.clausal_form.proofs.AboutNaming.OccurringLemmas.{is_some, any-lists, any-pairs, Same, same-order}
+use Rattle.clausal_form.proofs.AboutCounts.MeasureLemmas.{largest-append, before-largest, pairs-length, pairs-largest, some-largest}
+use Rattle.list_lemmas.proofs.Tests.{any-joined}
+use Rattle.list_lemmas.proofs.Lists.{length-joined}
+use Rattle.list_lemmas.proofs.Numbers.{times-none, max-none}
 
 pub record Tells (t : ClauseOutline) (cs : List Literals) : Type 0 where
   pub clauses : length cs ≡ t.clauses
@@ -31,11 +34,11 @@ pub record TellsWork (t : ClauseOutline) (before : ℕ) (w : Worked) : Type 0 wh
 tells-sum : (t u : ClauseOutline) (cs ds : List Literals) → Tells t cs → Tells u ds → Tells (sum_outline t u) (cs ++ ds)
 tells-sum t u cs ds h k =
     record {
-      clauses = omega (arith, length-append cs ds, h.clauses, k.clauses);
+      clauses = omega (arith, length-joined cs ds, h.clauses, k.clauses);
       largest = omega (arith, largest-append cs ds, h.largest, k.largest);
       variables = λ p.
           any-lists p cs ds ∙ ap (λ b. b || list_any p (clauses_variables ds)) (h.variables p)
-          ∙ ap (λ b. list_any p t.variables || b) (k.variables p) ∙ sym (any-append p t.variables u.variables);
+          ∙ ap (λ b. list_any p t.variables || b) (k.variables p) ∙ sym (any-joined p t.variables u.variables);
     }
 
 -- ---- products
@@ -47,9 +50,6 @@ some-of (c ∷ cs) n h k = refl
 
 none-times : (b : ℕ) → 0 * b ≡ 0
 none-times b = omega arith
-
-times-none : (a : ℕ) → a * 0 ≡ 0
-times-none a = omega arith
 
 times-some : (a b : ℕ) → (a * b == 0) ≡ false → ((a == 0) ≡ false) × ((b == 0) ≡ false)
 times-some zero b h = absurd (true≢false (sym (eq-eqb (0 * b) 0 (none-times b)) ∙ h))
@@ -91,7 +91,7 @@ tells-pairs t u cs ds h k = by (t.clauses * u.clauses == 0) refl
               ∙ ap (λ b. b && (list_any p (clauses_variables cs) || list_any p (clauses_variables ds))) second
               ∙ ap (λ b. b || list_any p (clauses_variables ds)) (h.variables p)
               ∙ ap (λ b. list_any p t.variables || b) (k.variables p)
-              ∙ sym (any-append p t.variables u.variables);
+              ∙ sym (any-joined p t.variables u.variables);
         }
       where
         sized : (n : ℕ) → (n == 0) ≡ false → product_largest n (largest cs + largest ds) ≡ largest cs + largest ds
@@ -204,13 +204,10 @@ tells-product n began before t u cs ds m h k d =
 
 -- ---- matrices
 
-no-more : (n : ℕ) → n ≡ max n 0
-no-more n = omega arith
-
 mutual
   pub tells : (n : SymbolNumbers) (x : MatrixTree) (m : Made) → TellsWork (outline_of x) (largest m.defining) (matrix_clauses n x m)
-  tells n true_matrix m = record { own = record { clauses = refl; largest = refl; variables = λ p. refl }; defining = no-more (largest m.defining) }
-  tells n false_matrix m = record { own = record { clauses = refl; largest = refl; variables = λ p. refl }; defining = no-more (largest m.defining) }
+  tells n true_matrix m = record { own = record { clauses = refl; largest = refl; variables = λ p. refl }; defining = max-none (largest m.defining) }
+  tells n false_matrix m = record { own = record { clauses = refl; largest = refl; variables = λ p. refl }; defining = max-none (largest m.defining) }
   tells n (literal l) m =
       record {
         own =
@@ -219,14 +216,14 @@ mutual
               largest = omega (arith, sum_by-cons literal_size l []);
               variables = λ p. ap (list_any p) (append-nil (literal_variables l ++ []) ∙ append-nil (literal_variables l));
             };
-        defining = no-more (largest m.defining);
+        defining = max-none (largest m.defining);
       }
   tells n (all_of xs) m =
       tells-listed n xs m [] (constant_outline true) (largest m.defining)
-      (record { clauses = refl; largest = refl; variables = λ p. refl }) (no-more (largest m.defining))
+      (record { clauses = refl; largest = refl; variables = λ p. refl }) (max-none (largest m.defining))
   tells n (some_of began xs) m =
       tells-products n began xs m ([] ∷ []) (constant_outline false) (largest m.defining)
-      (record { clauses = refl; largest = refl; variables = λ p. refl }) (no-more (largest m.defining))
+      (record { clauses = refl; largest = refl; variables = λ p. refl }) (max-none (largest m.defining))
 
   tells-listed :
       (n : SymbolNumbers) (xs : MatrixTrees) (m : Made) (cs : List Literals) (t : ClauseOutline) (before : ℕ)

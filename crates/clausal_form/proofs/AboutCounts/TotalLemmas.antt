@@ -1,6 +1,6 @@
 -- The symbols of the literals in a matrix's clauses are no more than those of its clauses with the ones that define names; and those of a form, as
 -- they are written, no more than those of its matrix.
-use Rattle.std.proofs.Common.{◌≡◌, ℕ, zero, suc, ◌+◌, ◌*◌, ◌≤◌, Bool, true, false, not, List, [], ◌∷◌, ◌++◌, length, map, refl, ap, sym, arith}
+use Rattle.std.proofs.Common.{◌≡◌, ℕ, ◌+◌, ◌≤◌, Bool, true, false, not, List, [], ◌∷◌, ◌++◌, length, map, refl, ap, sym, arith}
 use Rattle.std.specs.Prelude.{nat_lt, if◌then◌else◌}
 use Rattle.std.proofs.lemmas.Bool.{and_parts, true≢false}
 use Rattle.std.proofs.lemmas.List.Sums.{sum_by-append, sum_by-cons}
@@ -18,6 +18,7 @@ use Rattle.skolem.proofs.AboutFormulas.HeavyLemmas.{all-forms-have}
 use Rattle.clausal_form.proofs.AboutNaming.OccurringLemmas.{is_some}
 use Rattle.clausal_form.proofs.AboutCounts.HeavyLemmas.{has-clauses, product-some, written-size, written-sizes}
 use Rattle.clausal_form.proofs.AboutCounts.MeasureLemmas.{before-symbols, pairs-symbols}
+use Rattle.list_lemmas.proofs.Numbers.{times-more}
 
 -- the symbols of a work's clauses, and of those that define names
 abbrev all_symbols : Worked → ℕ
@@ -26,10 +27,6 @@ all_symbols w = symbols_in w.clauses + symbols_in w.made.defining
 some-length : (cs : List Literals) → is_some cs ≡ true → 1 ≤ length cs
 some-length [] h = absurd (true≢false (sym h))
 some-length (c ∷ cs) h = omega arith
-
-times-more : (a n : ℕ) → 1 ≤ n → a ≤ a * n
-times-more a zero h = absurd (omega (arith, h))
-times-more a (suc n) h = omega arith
 
 pairs-more : (cs ds : List Literals) → is_some cs ≡ true → is_some ds ≡ true → symbols_in cs + symbols_in ds ≤ symbols_in (all_pairs cs ds)
 pairs-more cs ds h k =

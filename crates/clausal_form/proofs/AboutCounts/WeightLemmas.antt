@@ -5,12 +5,13 @@ use Rattle.tptp_tree.specs.Term.{term_size, terms_size, terms_of}
 use Rattle.tptp_tree.specs.Shape.{term_of}
 use Rattle.tptp_tree.specs.declared.term.TreeTerm.{TreeTerm}
 use Rattle.tptp_tree.specs.Formula.{formulas_of}
-use Rattle.signature.proofs.OccurrenceLemmas.{drop-item, drop-end}
 use Rattle.formula_nnf.specs.declared.form.Nnf.{Nnf}
 use Rattle.formula_nnf.specs.Shape.{nnf_tree}
 use Rattle.skolem.specs.Heavy.{form_has_clauses, some_form_has_clauses, all_forms_have_clauses}
 use Rattle.clausal_form.specs.Heavy.{heavy_form, some_heavy_form, written_total, written_totals}
 use Rattle.plain_types.specs.Capped.{capped}
+use Rattle.list_lemmas.proofs.Bools.{or-false, and-true}
+use Rattle.list_lemmas.proofs.Places.{drop-item, drop-all}
 
 -- one member more of a disjunction or a conjunction of tests
 or-then : (made new found rest all : Bool) → new ≡ (made || found) → (made || (found || rest)) ≡ all → (new || rest) ≡ all
@@ -26,14 +27,6 @@ and-then made new found rest all h k = ap (λ t. t && rest) h ∙ by made found 
     by : (t u : Bool) → ((t && u) && rest) ≡ (t && (u && rest))
     by true u = refl
     by false u = refl
-
-or-none : (t : Bool) → (t || false) ≡ t
-or-none true = refl
-or-none false = refl
-
-and-none : (t : Bool) → (t && true) ≡ t
-and-none true = refl
-and-none false = refl
 
 -- ---- normal forms
 
@@ -68,19 +61,19 @@ pub some-forms-end :
     (made all : Bool) (fs : List Nnf) (i : ℕ)
     → length fs ≤ i → (made || some_form_has_clauses (formulas_of (map nnf_tree (drop i fs)))) ≡ all → made ≡ all
 some-forms-end made all fs i h k =
-    sym (or-none made) ∙ ap (λ us. made || some_form_has_clauses (formulas_of (map nnf_tree us))) (sym (drop-end fs i h)) ∙ k
+    sym (or-false made) ∙ ap (λ us. made || some_form_has_clauses (formulas_of (map nnf_tree us))) (sym (drop-all fs i h)) ∙ k
 
 pub all-forms-end :
     (made all : Bool) (fs : List Nnf) (i : ℕ)
     → length fs ≤ i → (made && all_forms_have_clauses (formulas_of (map nnf_tree (drop i fs)))) ≡ all → made ≡ all
 all-forms-end made all fs i h k =
-    sym (and-none made) ∙ ap (λ us. made && all_forms_have_clauses (formulas_of (map nnf_tree us))) (sym (drop-end fs i h)) ∙ k
+    sym (and-true made) ∙ ap (λ us. made && all_forms_have_clauses (formulas_of (map nnf_tree us))) (sym (drop-all fs i h)) ∙ k
 
 pub heavy-forms-end :
     (made all : Bool) (fs : List Nnf) (i : ℕ)
     → length fs ≤ i → (made || some_heavy_form (formulas_of (map nnf_tree (drop i fs)))) ≡ all → made ≡ all
 heavy-forms-end made all fs i h k =
-    sym (or-none made) ∙ ap (λ us. made || some_heavy_form (formulas_of (map nnf_tree us))) (sym (drop-end fs i h)) ∙ k
+    sym (or-false made) ∙ ap (λ us. made || some_heavy_form (formulas_of (map nnf_tree us))) (sym (drop-all fs i h)) ∙ k
 
 -- ---- the symbols of literals together
 
@@ -98,7 +91,7 @@ pub totals-end :
     (made all : ℕ) (fs : List Nnf) (i : ℕ)
     → length fs ≤ i → made ≤ 2 ^ 64 - 1 → capped (made + written_totals (formulas_of (map nnf_tree (drop i fs)))) ≡ all → made ≡ all
 totals-end made all fs i h l k =
-    let none : written_totals (formulas_of (map nnf_tree (drop i fs))) ≡ 0 = ap (λ gs. written_totals (formulas_of (map nnf_tree gs))) (drop-end fs i h) in
+    let none : written_totals (formulas_of (map nnf_tree (drop i fs))) ≡ 0 = ap (λ gs. written_totals (formulas_of (map nnf_tree gs))) (drop-all fs i h) in
     omega (arith, none, l, k)
 
 -- ---- sizes of terms
@@ -117,5 +110,5 @@ pub sizes-end :
     (made all most : ℕ) (ts : List TreeTerm) (i : ℕ)
     → length ts ≤ i → made ≤ most → min (made + terms_size (terms_of (map term_of (drop i ts)))) most ≡ all → made ≡ all
 sizes-end made all most ts i h l m =
-    let none : terms_size (terms_of (map term_of (drop i ts))) ≡ 0 = ap (λ us. terms_size (terms_of (map term_of us))) (drop-end ts i h) in
+    let none : terms_size (terms_of (map term_of (drop i ts))) ≡ 0 = ap (λ us. terms_size (terms_of (map term_of us))) (drop-all ts i h) in
     omega (arith, none, l, m)

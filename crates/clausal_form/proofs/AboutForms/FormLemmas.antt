@@ -13,8 +13,8 @@ use Rattle.clausal_form.specs.Measure.{literals_size, largest}
 use Rattle.clausal_form.specs.Fault.{counted_in, formula_fault, first_fault}
 use Rattle.clausal_form.specs.FormLaws.{FormsAreCanonical, FormsHaveSmallClauses, FormsAreSmall}
 use Rattle.clausal_form.proofs.AboutCounts.FaultLemmas.{no_fault, rest-none, first-none, formula-limits}
-use Rattle.clausal_form.proofs.AboutCounts.MeasureLemmas.{length-append}
 use Rattle.fol_base.specs.declared.limits.TheConstants.{MOST_SYMBOLS, MOST_FORM_SYMBOLS}
+use Rattle.list_lemmas.proofs.Lists.{length-joined}
 
 both-hold : (P : TreeClause → Type 0) (xs ys : List TreeClause) → AllByRecursion P xs → AllByRecursion P ys → AllByRecursion P (xs ++ ys)
 both-hold P [] ys h k = k
@@ -55,7 +55,7 @@ abbrev total : List TreeClause → ℕ
 total cs = length cs + sum_by clause_size cs
 
 total-append : (cs ds : List TreeClause) → total (cs ++ ds) ≡ total cs + total ds
-total-append cs ds = omega (arith, length-append cs ds, sum_by-append clause_size cs ds)
+total-append cs ds = omega (arith, length-joined cs ds, sum_by-append clause_size cs ds)
 
 literals-total : (cs : List Literals) → total (map canonical_literals cs) ≡ counted_in cs
 literals-total [] = refl

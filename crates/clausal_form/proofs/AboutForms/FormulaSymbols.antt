@@ -14,9 +14,10 @@ use Rattle.signature.specs.Occurrences.{terms_count, term_symbols, terms_symbols
 use Rattle.signature.specs.Environment.{Environment, free_names, without_names, term_in_force, term_under, terms_under}
 use Rattle.signature.specs.Clausal.{SymbolNumbers, Made, Worked, Scope, Literals, Work, applied, with_variables, skolem_arguments, with_skolem_terms, makes_variables, scope_of, is_large, atom_literal, made_in_order, named, product, joined, truth_value, one_literal, clauses_of, listed_clauses, product_clauses}
 use Rattle.skolem.specs.Skolemized.{AreKnown}
-use Rattle.skolem.proofs.AboutBindings.ListLemmas.{all-parts}
 use Rattle.clausal_form.proofs.AboutForms.ShapeLemmas.{product_by}
-use Rattle.clausal_form.proofs.AboutForms.SymbolPlaces.{slice-front, slice-last, IsAt, Knows, function-at, predicate-at, Right, RightAll, right-then, right-application, applied-right, RightLiteral, RightClauses, right-atom, right-truth, right-equation, name-right, clauses-joined, pairs-right, headed-right}
+use Rattle.clausal_form.proofs.AboutForms.SymbolPlaces.{IsAt, Knows, function-at, predicate-at, Right, RightAll, right-then, right-application, applied-right, RightLiteral, RightClauses, right-atom, right-truth, right-equation, name-right, clauses-joined, pairs-right, headed-right}
+use Rattle.list_lemmas.proofs.Places.{get-front, get-last}
+use Rattle.list_lemmas.proofs.Tests.{all-parts}
 
 -- ---- what was made has its places
 
@@ -103,7 +104,7 @@ skolem-back :
 skolem-back symbols n free [] env m h = h
 skolem-back symbols n free (x ∷ xs) env m h =
     let g = skolem-back symbols n free xs _ _ h in
-    record { skolem = λ k a e. g.skolem k a (slice-front m.skolem_arities _ k a e); naming = g.naming }
+    record { skolem = λ k a e. g.skolem k a (get-front m.skolem_arities _ k a e); naming = g.naming }
 
 scope-back :
     (symbols : List Symbol) (n : SymbolNumbers) (new : Bool) (xs : List (List ℕ)) (body : FormulaTree) (env : Environment) (m : Made)
@@ -132,7 +133,7 @@ skolem-scope symbols n free (x ∷ xs) env m f h d =
     let g = skolem-back symbols n free xs _ _ f in
     skolem-scope symbols n free xs _ _ f
     (force-more symbols x (applied (n.first_skolem + length m.skolem_arities) arguments) env
-    (applied-right symbols _ arguments (g.skolem (length m.skolem_arities) (length arguments) (slice-last m.skolem_arities (length arguments)))) h)
+    (applied-right symbols _ arguments (g.skolem (length m.skolem_arities) (length arguments) (get-last m.skolem_arities (length arguments)))) h)
     d
 
 scope-right :
@@ -148,7 +149,7 @@ named-back :
     (symbols : List Symbol) (n : SymbolNumbers) (began : ℕ) (cs : List Literals) (m : Made) → Fits symbols n (named n began cs m).made
     → Fits symbols n m
 named-back symbols n began cs m h =
-    record { skolem = h.skolem; naming = λ k a e. h.naming k a (slice-front m.naming_arities _ k a e) }
+    record { skolem = h.skolem; naming = λ k a e. h.naming k a (get-front m.naming_arities _ k a e) }
 
 abbrev AreRight : List Symbol → Worked → Type 0
 AreRight symbols w = RightClauses symbols w.clauses × RightClauses symbols w.made.defining
@@ -162,7 +163,7 @@ named-right symbols n began cs m first h c d = (
 )
   where
     literal : (sign : Bool) → RightLiteral symbols (atom_literal sign (applied (n.first_naming + length m.naming_arities) (made_in_order began (flat_map (λ e. flat_map literal_variables e) cs))))
-    literal sign = name-right symbols sign _ _ first (h.naming (length m.naming_arities) _ (slice-last m.naming_arities _))
+    literal sign = name-right symbols sign _ _ first (h.naming (length m.naming_arities) _ (get-last m.naming_arities _))
 
 product-back :
     (symbols : List Symbol) (n : SymbolNumbers) (began : ℕ) (a b : List Literals) (m : Made) → Fits symbols n (product n began a b m).made

@@ -2,7 +2,7 @@
 use Rattle.std.proofs.Common.{◌≡◌, ℕ, zero, suc, ◌+◌, Bool, true, false, not, ◌&&◌, ◌||◌, ◌==◌, List, [], ◌∷◌, ◌++◌, Some, refl, ap, sym, ◌∙◌, subst, arith}
 use Rattle.std.specs.Prelude.{fold, flat_map, codes, slice_get, unwrap_or, option_map, if◌then◌else◌}
 use Rattle.std.specs.List.{list_all, list_any}
-use Rattle.std.proofs.lemmas.Bool.{and_parts, and_from, not-true, eqb-true, eq-eqb, true≢false, false_from_ne_true}
+use Rattle.std.proofs.lemmas.Bool.{and_from, eqb-true, eq-eqb, true≢false, false_from_ne_true}
 use Rattle.std.proofs.lemmas.Option.{none-some, same_Some}
 use Rattle.std.proofs.lemmas.List.Folds.{list_any-append}
 use Rattle.std.specs.Fmt.{decimal}
@@ -15,6 +15,7 @@ use Rattle.signature.specs.Prefix.{fresh_prefix_of}
 use Rattle.signature.specs.Clausal.{Made}
 use Rattle.signature.specs.Form.{is_constant, spare_constant, with_skolem, with_naming, form_symbols, problem_form, clausal_form}
 use Rattle.clausal_form.specs.FormFunctions.{functions_from, functions_of, is_predicate_in, OwnFunctions}
+use Rattle.list_lemmas.proofs.Tests.{none-pass as none-of}
 
 listed : ℕ → Symbol → FunctionSymbol
 listed n s = record { number = n; arity = s.arity }
@@ -56,12 +57,6 @@ functions_alone symbols truth =
     apart (suc k) s at function = ap not (false_from_ne_true (suc k == 0) λ same. let e : suc k ≡ 0 = eqb-true (suc k) 0 same in let none : ⊥ = omega (arith, e) in none)
 
 -- ---- one number of arguments
-
-none-of : {X : Type 0} (q : X → Bool) (xs : List X) → list_all (λ x. not (q x)) xs ≡ true → list_any q xs ≡ false
-none-of q [] all = refl
-none-of q (x ∷ xs) all =
-    let parts = and_parts (not (q x)) (list_all (λ y. not (q y)) xs) all in
-    ap (λ b. b || list_any q xs) (not-true (q x) parts.0) ∙ none-of q xs parts.1
 
 one_arity : (symbols : List Symbol) → have_one_arity (functions_of symbols) ≡ true
 one_arity symbols =

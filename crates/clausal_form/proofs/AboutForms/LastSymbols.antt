@@ -11,7 +11,6 @@ use Rattle.signature.specs.Occurrences.{problem_symbols}
 use Rattle.signature.specs.Prefix.{fresh_prefix_of}
 use Rattle.signature.specs.Clausal.{Made, Formed, formed}
 use Rattle.signature.specs.Form.{AreUnused, ClausalForm, numbered_symbols, nothing_made, with_skolem, with_naming, form_symbols, problem_form, clausal_form}
-use Rattle.signature.proofs.OccurrenceLemmas.{drop-item}
 use Rattle.skolem.proofs.AboutBindings.ListLemmas.{added, any-last}
 use Rattle.skolem.proofs.AboutFormulas.SymbolLemmas.{unused-then}
 use Rattle.skolem.proofs.AboutFormulas.ProblemLemmas.{later_names_are_unused}
@@ -22,6 +21,7 @@ use Rattle.clausal_form.specs.Symbols.{with_names, with_spare}
 use Rattle.clausal_form.specs.declared.finished.Clausal.{Clausal}
 use Rattle.clausal_form.specs.declared.form.FormSoFar.{FormSoFar}
 use Rattle.clausal_form.proofs.AboutCounts.FaultLemmas.{numbers_without_fault}
+use Rattle.list_lemmas.proofs.Places.{drop-item}
 
 -- ---- names that no symbol has
 

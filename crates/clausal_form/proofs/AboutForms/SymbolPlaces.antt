@@ -1,9 +1,9 @@
 -- Symbols at their places in a signature: terms, literals and clauses that are right over it.
-use Rattle.std.proofs.Common.{◌≡◌, ◌⊎◌, inl, inr, ℕ, zero, suc, ◌+◌, ◌==◌, Bool, true, false, not, List, [], ◌∷◌, ◌++◌, length, map, Some, refl, ap, sym, ◌∙◌, subst, arith}
+use Rattle.std.proofs.Common.{◌≡◌, ◌⊎◌, inl, inr, ℕ, ◌==◌, Bool, true, false, not, List, [], ◌∷◌, ◌++◌, length, map, Some, refl, ap, sym, ◌∙◌, subst, arith}
 use Rattle.std.specs.Prelude.{slice_get, unwrap_or, option_map}
 use Rattle.std.specs.List.{list_all}
 use Rattle.std.proofs.lemmas.Bool.{and_parts, and_from, eqb-true, eq-eqb, true≢false}
-use Rattle.std.proofs.lemmas.Option.{none-some, same_Some}
+use Rattle.std.proofs.lemmas.Option.{same_Some}
 use Rattle.std.proofs.lemmas.List.Folds.{list_all-append}
 use Rattle.fol_base.specs.Tree.{Tree, variable, application, Trees, tree_then, trees_of, trees_count, true_tree}
 use Rattle.fol_base.specs.Kind.{is_function_term, are_function_terms}
@@ -17,21 +17,6 @@ use Rattle.clausal_form.specs.FormFunctions.{is_predicate_in}
 use Rattle.clausal_form.specs.FormLaws.{arity_in, use_of}
 
 -- ---- places in lists
-
-pub slice-front : {X : Type 0} (xs ys : List X) (k : ℕ) (x : X) → slice_get xs k ≡ Some x → slice_get (xs ++ ys) k ≡ Some x
-slice-front [] ys zero x h = absurd (none-some x h)
-slice-front [] ys (suc k) x h = absurd (none-some x h)
-slice-front (y ∷ xs) ys zero x h = h
-slice-front (y ∷ xs) ys (suc k) x h = slice-front xs ys k x h
-
-pub slice-behind : {X : Type 0} (xs ys : List X) (k : ℕ) (x : X) → slice_get ys k ≡ Some x → slice_get (xs ++ ys) (length xs + k) ≡ Some x
-slice-behind [] ys k x h = subst (λ i. slice_get ys i ≡ Some x) (let e : k ≡ 0 + k = omega arith in e) h
-slice-behind (y ∷ xs) ys k x h =
-    subst (λ i. slice_get (y ∷ xs ++ ys) i ≡ Some x) (let e : suc (length xs + k) ≡ suc (length xs) + k = omega arith in e) (slice-behind xs ys k x h)
-
-pub slice-last : {X : Type 0} (xs : List X) (x : X) → slice_get (xs ++ x ∷ []) (length xs) ≡ Some x
-slice-last xs x =
-    subst (λ i. slice_get (xs ++ x ∷ []) i ≡ Some x) (let e : length xs + 0 ≡ length xs = omega arith in e) (slice-behind xs (x ∷ []) 0 x refl)
 
 -- ---- symbols at their places
 

@@ -1,9 +1,9 @@
 -- The clauses of a form are well-formed over its signature.
-use Rattle.std.proofs.Common.{◌≡◌, cond, ℕ, zero, suc, ◌+◌, ◌==◌, ◌<◌, Bool, true, false, not, ◌||◌, List, [], ◌∷◌, ◌++◌, length, map, Some, refl, ap, sym, ◌∙◌, subst, arith}
+use Rattle.std.proofs.Common.{◌≡◌, cond, ℕ, zero, suc, ◌+◌, ◌<◌, Bool, true, false, not, ◌||◌, List, [], ◌∷◌, ◌++◌, length, map, Some, refl, ap, sym, ◌∙◌, subst, arith}
 use Rattle.std.specs.Prelude.{fold, flat_map, slice_get, codes}
 use Rattle.std.specs.List.{AllByRecursion, list_all}
 use Rattle.std.specs.Fmt.{decimal}
-use Rattle.std.proofs.lemmas.Bool.{and_parts, and_from, eqb-true, true≢false}
+use Rattle.std.proofs.lemmas.Bool.{and_parts, and_from, true≢false}
 use Rattle.std.proofs.lemmas.Option.{none-some, same_Some, slice_get_within}
 use Rattle.std.proofs.lemmas.List.Folds.{list_all-append}
 use Rattle.tptp_tree.specs.Entries.{is_conjecture}
@@ -25,10 +25,12 @@ use Rattle.skolem.specs.Skolemized.{AreKnown}
 use Rattle.clausal_form.specs.FormLaws.{use_of, FormsAreWellFormed}
 use Rattle.clausal_form.proofs.AboutForms.FunctionLemmas.{truth-first, first-folded}
 use Rattle.clausal_form.proofs.AboutWriting.LoopLemmas.{all-come, fold-append}
-use Rattle.clausal_form.proofs.AboutCounts.MeasureLemmas.{length-append}
 use Rattle.clausal_form.proofs.AboutNaming.NameLemmas.{closed-known}
-use Rattle.clausal_form.proofs.AboutForms.SymbolPlaces.{slice-front, slice-behind, IsAt, at-place, Knows, RightClauses, clauses-joined}
+use Rattle.clausal_form.proofs.AboutForms.SymbolPlaces.{IsAt, at-place, Knows, RightClauses, clauses-joined}
 use Rattle.clausal_form.proofs.AboutForms.FormulaSymbols.{Fits, force-none, formula-back, Known, formula-right}
+use Rattle.list_lemmas.proofs.Places.{get-front, get-back}
+use Rattle.list_lemmas.proofs.Numbers.{not-zero}
+use Rattle.list_lemmas.proofs.Lists.{length-joined}
 
 -- ---- problems
 
@@ -118,14 +120,6 @@ numbered-length :
 numbered-length make prefix number [] = refl
 numbered-length make prefix number (a ∷ arities) = ap (λ n. suc n) (numbered-length make prefix (number + 1) arities)
 
-not-first : (place : ℕ) → 0 < place → (place == 0) ≡ false
-not-first zero h = absurd (let none : ⊥ = omega (arith, h) in none)
-not-first (suc place) h = by (suc place == 0) refl
-  where
-    by : (b : Bool) → (suc place == 0) ≡ b → b ≡ false
-    by false e = refl
-    by true e = absurd (let same = eqb-true (suc place) 0 e in let none : ⊥ = omega (arith, same) in none)
-
 problem-long : (fs : List Annotated) → 0 < length (problem_symbols fs)
 problem-long fs = slice_get_within (problem_symbols fs) 0 true_symbol (first-folded (true_symbol ∷ []) (flat_map annotated_symbols fs) true_symbol refl)
 
@@ -134,7 +128,7 @@ knows-problem fs =
     let known : List Symbol = problem_symbols fs in
     let m : Made = (problem_form fs).made in
     record {
-      there = λ s h. slice-front (with_naming known m) _ _ s (slice-front (with_skolem known m) _ _ s (slice-front known _ _ s (place-there s known h)));
+      there = λ s h. get-front (with_naming known m) _ _ s (get-front (with_skolem known m) _ _ s (get-front known _ _ s (place-there s known h)));
       first = truth-first fs m;
     }
 
@@ -146,8 +140,8 @@ skolem-at fs k a h =
     let m : Made = (problem_form fs).made in
     let at = numbered-at function_symbol (fresh_prefix_of known (codes "sk")) 0 m.skolem_arities k a h in
     at-place (clausal_form fs).symbols (length known + k) (function_symbol at.0 a)
-    (slice-front (with_naming known m) _ _ _ (slice-front (with_skolem known m) _ _ _ (slice-behind known _ k _ at.1)))
-    (not-first (length known + k) (omega (arith, problem-long fs)))
+    (get-front (with_naming known m) _ _ _ (get-front (with_skolem known m) _ _ _ (get-back known _ k _ at.1)))
+    (not-zero (length known + k) (omega (arith, problem-long fs)))
 
 naming-at :
     (fs : List Annotated) (k a : ℕ) → slice_get (problem_form fs).made.naming_arities k ≡ Some a
@@ -160,14 +154,14 @@ naming-at fs k a h =
     let far : length (with_skolem known m) + k ≡ length known + problem_skolem_count fs + k =
     omega (
       arith,
-      length-append known skolem,
+      length-joined known skolem,
       numbered-length function_symbol (fresh_prefix_of known (codes "sk")) 0 m.skolem_arities,
       skolem_symbols_of_problem_are_counted fs,
     ) in
     at-place (clausal_form fs).symbols (length known + problem_skolem_count fs + k) (predicate_symbol at.0 a)
-    (slice-front (with_naming known m) _ _ _
-    (subst (λ i. slice_get (with_naming known m) i ≡ Some (predicate_symbol at.0 a)) far (slice-behind (with_skolem known m) _ k _ at.1)))
-    (not-first (length known + problem_skolem_count fs + k) (omega (arith, problem-long fs)))
+    (get-front (with_naming known m) _ _ _
+    (subst (λ i. slice_get (with_naming known m) i ≡ Some (predicate_symbol at.0 a)) far (get-back (with_skolem known m) _ k _ at.1)))
+    (not-zero (length known + problem_skolem_count fs + k) (omega (arith, problem-long fs)))
 
 pub forms-are-well-formed : FormsAreWellFormed
 forms-are-well-formed fs = (

@@ -1,5 +1,5 @@
 -- What a line's source gives is a kernel step from the form and the lines before it.
-use Rattle.std.proofs.Common.{◌≡◌, ℕ, ◌+◌, ◌<◌, ◌≤◌, Bool, true, false, not, ◌&&◌, ◌||◌, ◌==◌, List, [], ◌∷◌, ◌++◌, map, length, Option, Some, None, refl, ap, ap₂, sym, ◌∙◌, subst, arith}
+use Rattle.std.proofs.Common.{◌≡◌, ℕ, ◌+◌, ◌<◌, ◌≤◌, Bool, true, false, not, ◌&&◌, ◌==◌, List, [], ◌∷◌, ◌++◌, map, length, Option, Some, None, refl, ap, ap₂, sym, ◌∙◌, subst, arith}
 use Rattle.std.specs.Prelude.{option_map, option_and_then, unwrap_or, slice_get, bytes_eq, codes, if◌then◌else◌}
 use Rattle.std.specs.List.{list_all, list_any, position_or_len}
 use Rattle.std.proofs.lemmas.Bool.{and_parts, not-true, eq-eqb, true≢false}
@@ -18,18 +18,21 @@ use Rattle.kernel_steps.specs.Conclusion.{Verdict, binding_fault, rule_fault, co
 use Rattle.kernel_steps.specs.Derivation.{complement, component_clause, line_parents, IsComponent, IsOpposite, ComesBy}
 use Rattle.kernel_steps.specs.Soundness.{binds_each}
 use Rattle.kernel_steps.specs.declared.step.Step.{Step}
-use Rattle.kernel_steps.specs.declared.step.Step.TheVariants as step
 use Rattle.kernel_steps.specs.declared.step.Line.{Line}
 use Rattle.kernel_steps.proofs.AboutSplits.SplitTests.{literals_eq-says}
 use Rattle.tptp_source.specs.Sources.{SourceTree, file_source, inference_source, component_source, opposite_source}
 use Rattle.clausal_form.specs.DerivationClause.{name_number}
 use Rattle.clausal_form.specs.DerivationItems.{only_one, plain_word, row_arguments}
 use Rattle.clausal_form.specs.DerivationSteps.{LineKind}
-use Rattle.clausal_form.specs.DerivationSteps as kind
 use Rattle.clausal_form.specs.DerivationLine.{LineTree, Taken, kernel_lines, names_with}
 use Rattle.clausal_form.specs.DerivationParts.{Setting, entry_at, line_kind, items_of, parents_of, parent_lines, only_parent_step, line_clause, line_bindings}
 use Rattle.clausal_form.specs.DerivationCauses.{Cause, leaf, clausification, binding, rule, Given, fault, gives_formula, gives_clause, cited, place_of_entry, given_by_file, negation_from, given_by_negate, is_line_of, is_clausified, index_in, given_by_clausify, given_by_component, opposite_from, given_by_opposite, are_bound, line_step, concluded, given_by_rule, given_by, is_old_name}
 use Rattle.clausal_form.proofs.AboutWriting.StepBinds.{step-binds}
+use Rattle.list_lemmas.proofs.Bools.{neither-true}
+use Rattle.list_lemmas.proofs.Tests.{position-past}
+use Rattle.list_lemmas.proofs.Lists.{length-pushed}
+use Rattle.kernel_steps.specs.declared.step.Step.TheVariants as step
+use Rattle.clausal_form.specs.DerivationSteps as kind
 
 -- ---- equal names and clauses
 
@@ -54,18 +57,6 @@ only_one-says : {X : Type 0} (xs : List X) (x : X) → only_one xs ≡ Some x �
 only_one-says [] x h = absurd (none-some x h)
 only_one-says (y ∷ []) x h = ap (λ z. z ∷ []) (same_Some y x h)
 only_one-says (y ∷ z ∷ zs) x h = absurd (none-some x h)
-
-neither : (a b : Bool) → (a || b) ≡ false → (a ≡ false) × (b ≡ false)
-neither true b h = absurd (true≢false h)
-neither false b h = (refl, h)
-
--- no item passes, so the first that does is past the end
-pub position-past : {X : Type 0} (p : X → Bool) (xs : List X) → list_any p xs ≡ false → position_or_len p xs ≡ length xs
-position-past p [] h = refl
-position-past p (x ∷ xs) h =
-    let parts = neither (p x) (list_any p xs) h in
-    let first : position_or_len p (x ∷ xs) ≡ 1 + position_or_len p xs = ap (λ b. if not b then 1 + position_or_len p xs else 0) parts.0 in
-    omega (arith, first, position-past p xs parts.1)
 
 -- ---- what is right
 
@@ -160,10 +151,6 @@ right-clausify test s e t k =
     subst (IsRight test s e t k) (same_Some (gives_clause (step.Clausify i) (line_clause s e t)) g parts.1)
     (λ _. record { comes = there; below = tt; binds = λ _. refl })
 
-pub length-end : {X : Type 0} (xs : List X) (x : X) → length (xs ++ x ∷ []) ≡ length xs + 1
-length-end [] x = refl
-length-end (y ∷ xs) x = omega (arith, length-end xs x)
-
 one-longer :
     (names : List (List ℕ)) (name : List ℕ) → list_any (bytes_eq name) names ≡ false
     → length (names_with names (kind.component_kind name)) ≡ length names + 1
@@ -171,7 +158,7 @@ one-longer names name h = by (list_any (bytes_eq name) names) h
   where
     by : (b : Bool) → b ≡ false → length (if b then names else names ++ name ∷ []) ≡ length names + 1
     by true h = absurd (true≢false h)
-    by false h = length-end names name
+    by false h = length-pushed names name
 
 not-empty : (n : ℕ) → not (n == 0) ≡ true → n ≡ 0 → ⊥
 not-empty n h e = true≢false (sym (eq-eqb n 0 e) ∙ not-true (n == 0) h)
@@ -182,7 +169,7 @@ component-right :
     → (not (length c.literals == 0) && names_eq c.names (negative_of n ∷ [])) ≡ true
     → is_old_name s e (kind.component_kind name) ≡ false → ComesRight test s e t (kind.component_kind name) (step.Component n) c
 component-right test s e t name n c none n_is h old =
-    let fresh : list_any (bytes_eq name) e.introduced ≡ false = (neither (has_symbol (predicate_symbol name 0) (s.form).symbols) (list_any (bytes_eq name) e.introduced) old).1 in
+    let fresh : list_any (bytes_eq name) e.introduced ≡ false = (neither-true (has_symbol (predicate_symbol name 0) (s.form).symbols) (list_any (bytes_eq name) e.introduced) old).1 in
     let at_end : n ≡ length e.introduced = n_is ∙ position-past (bytes_eq name) e.introduced fresh in
     let parts = and_parts (not (length c.literals == 0)) (names_eq c.names (negative_of n ∷ [])) h in
     let made : IsComponent n (kernel_lines e) c = record {

@@ -8,10 +8,10 @@ use Rattle.tptp_tree.specs.declared.problem.Annotated.{Annotated}
 use Rattle.signature.specs.declared.symbol.Symbol.{Symbol}
 use Rattle.signature.specs.Occurrences.{formula_symbols}
 use Rattle.signature.specs.Environment.{different_names, without_names, under_for_all, free_names, closed}
-use Rattle.signature.proofs.OccurrenceLemmas.{drop-item}
 use Rattle.skolem.specs.Skolemized.{AreKnown}
 use Rattle.skolem.specs.Name.{same_name, name_of}
 use Rattle.skolem.specs.declared.name.VariableRef.{VariableRef}
+use Rattle.list_lemmas.proofs.Places.{drop-item}
 
 abbrev Names : Type 0
 Names = List (List ℕ)

@@ -1,7 +1,7 @@
 -- Works on matrices, as the program's naming does them step by step.
 use Rattle.std.proofs.Common.{◌≡◌, ℕ, ◌+◌, ◌<◌, ◌≤◌, Bool, true, false, not, List, [], ◌∷◌, ◌++◌, length, map, refl, ap, sym, ◌∙◌, append-nil, append_assoc, arith}
 use Rattle.std.specs.Prelude.{nat_lt, if◌then◌else◌}
-use Rattle.std.proofs.lemmas.Bool.{lt-ltb, ltb-true}
+use Rattle.std.proofs.lemmas.Bool.{lt-ltb}
 use Rattle.fol_base.specs.Tree.{Tree, true_tree}
 use Rattle.fol_base.specs.Clause.{TreeLiteral}
 use Rattle.signature.specs.Clausal.{SymbolNumbers, Made, Worked, Literals, all_pairs, atom_literal, applied, made_in_order, named, is_large_count, product}
@@ -14,6 +14,7 @@ use Rattle.clausal_form.specs.Occurring.{clauses_variables}
 use Rattle.clausal_form.specs.Naming.{IsMeasured, IsWork, defining_clauses, naming_made, naming_numbers}
 use Rattle.clausal_form.specs.declared.measure.Measure.{Measure}
 use Rattle.clausal_form.specs.declared.naming.Naming.{Naming}
+use Rattle.list_lemmas.proofs.Numbers.{not-less}
 
 -- ---- one after another
 
@@ -154,13 +155,6 @@ large-so a b first second t h k e =
     ap (λ x. is_large_count x (length second)) (sym (ap (λ (m : ClauseMeasure). m.clauses) h))
     ∙ ap (λ x. is_large_count a.clauses x) (sym (ap (λ (m : ClauseMeasure). m.clauses) k)) ∙ e
 
-lt-false : (a b : ℕ) → b ≤ a → nat_lt a b ≡ false
-lt-false a b h = by (nat_lt a b) refl
-  where
-    by : (t : Bool) → nat_lt a b ≡ t → t ≡ false
-    by false e = refl
-    by true e = absurd (omega (arith, h, ltb-true a b e))
-
 pub shorter-so :
     (a b : Measure) (first second : List Literals) → IsMeasured a first → IsMeasured b second → a.clauses < b.clauses
     → nat_lt (length first) (length second) ≡ true
@@ -172,7 +166,7 @@ pub longer-so :
     (a b : Measure) (first second : List Literals) → IsMeasured a first → IsMeasured b second → b.clauses ≤ a.clauses
     → nat_lt (length first) (length second) ≡ false
 longer-so a b first second h k e =
-    lt-false (length first) (length second)
+    not-less (length first) (length second)
     (omega (arith, e, ap (λ (m : ClauseMeasure). m.clauses) h, ap (λ (m : ClauseMeasure). m.clauses) k))
 
 abbrev chosen : SymbolNumbers → ℕ → List Literals → List Literals → Made → Bool → Bool → Worked

@@ -12,20 +12,11 @@ use Rattle.skolem.proofs.AboutFormulas.OutlineLemmas.{same-order as order-of-sam
 use Rattle.clausal_form.specs.Written.{written, all_written, product_written}
 use Rattle.clausal_form.specs.Occurring.{clauses_variables, matrix_variables, matrices_variables}
 use Rattle.clausal_form.proofs.AboutNaming.PairLemmas.{product-written-first}
+use Rattle.list_lemmas.proofs.Tests.{any-joined}
 
 abbrev pub is_some : List Literals → Bool
 is_some [] = false
 is_some (c ∷ cs) = true
-
-pub any-append : {X : Type 0} (p : X → Bool) (xs ys : List X) → list_any p (xs ++ ys) ≡ (list_any p xs || list_any p ys)
-any-append p [] ys = refl
-any-append p (x ∷ xs) ys = by (p x) (any-append p xs ys)
-  where
-    by :
-        (t : Bool) → list_any p (xs ++ ys) ≡ (list_any p xs || list_any p ys)
-        → (t || list_any p (xs ++ ys)) ≡ ((t || list_any p xs) || list_any p ys)
-    by true h = refl
-    by false h = h
 
 pub some-append : (a b : List Literals) → is_some (a ++ b) ≡ (is_some a || is_some b)
 some-append [] b = refl
@@ -52,10 +43,10 @@ any_in p cs = list_any p (clauses_variables cs)
 pub any-lists : (p : ℕ → Bool) (a b : List Literals) → any_in p (a ++ b) ≡ (any_in p a || any_in p b)
 any-lists p [] b = refl
 any-lists p (c ∷ a) b =
-    any-append p (flat_map literal_variables c) (clauses_variables (a ++ b))
+    any-joined p (flat_map literal_variables c) (clauses_variables (a ++ b))
     ∙ ap (λ t. list_any p (flat_map literal_variables c) || t) (any-lists p a b)
     ∙ or-turn (list_any p (flat_map literal_variables c)) (any_in p a) (any_in p b)
-    ∙ ap (λ t. t || any_in p b) (sym (any-append p (flat_map literal_variables c) (clauses_variables a)))
+    ∙ ap (λ t. t || any_in p b) (sym (any-joined p (flat_map literal_variables c) (clauses_variables a)))
   where
     or-turn : (t u v : Bool) → (t || (u || v)) ≡ ((t || u) || v)
     or-turn true u v = refl
@@ -72,12 +63,12 @@ any-before :
     → any_in p (map (λ d. c ++ d) b) ≡ (is_some b && (list_any p (flat_map literal_variables c) || any_in p b))
 any-before p c [] = refl
 any-before p c (d ∷ b) =
-    any-append p (flat_map literal_variables (c ++ d)) (clauses_variables (map (λ e. c ++ e) b))
+    any-joined p (flat_map literal_variables (c ++ d)) (clauses_variables (map (λ e. c ++ e) b))
     ∙ ap (λ xs. list_any p xs || any_in p (map (λ e. c ++ e) b)) (variables-append c d)
-    ∙ ap (λ t. t || any_in p (map (λ e. c ++ e) b)) (any-append p (flat_map literal_variables c) (flat_map literal_variables d))
+    ∙ ap (λ t. t || any_in p (map (λ e. c ++ e) b)) (any-joined p (flat_map literal_variables c) (flat_map literal_variables d))
     ∙ ap (λ t. (list_any p (flat_map literal_variables c) || list_any p (flat_map literal_variables d)) || t) (any-before p c b)
     ∙ by (list_any p (flat_map literal_variables c)) (list_any p (flat_map literal_variables d)) b
-    ∙ ap (λ t. list_any p (flat_map literal_variables c) || t) (sym (any-append p (flat_map literal_variables d) (clauses_variables b)))
+    ∙ ap (λ t. list_any p (flat_map literal_variables c) || t) (sym (any-joined p (flat_map literal_variables d) (clauses_variables b)))
   where
     by : (t u : Bool) (b : List Literals) → ((t || u) || (is_some b && (t || any_in p b))) ≡ (t || (u || any_in p b))
     by true u b = refl
@@ -94,7 +85,7 @@ any-pairs p (c ∷ a) b =
     ∙ ap (λ t. t || any_in p (all_pairs a b)) (any-before p c b)
     ∙ ap (λ t. (is_some b && (list_any p (flat_map literal_variables c) || any_in p b)) || t) (any-pairs p a b)
     ∙ by (is_some b) (list_any p (flat_map literal_variables c)) (any_in p b) a
-    ∙ ap (λ t. is_some b && (t || any_in p b)) (sym (any-append p (flat_map literal_variables c) (clauses_variables a)))
+    ∙ ap (λ t. is_some b && (t || any_in p b)) (sym (any-joined p (flat_map literal_variables c) (clauses_variables a)))
   where
     by :
         (t u v : Bool) (a : List Literals)
@@ -150,7 +141,7 @@ mutual
   same-listed no_matrices p = refl
   same-listed (matrix_then m ms) p =
       any-lists p (written m) (all_written ms) ∙ ap (λ t. t || any_in p (all_written ms)) (same-variables m p)
-      ∙ ap (λ t. list_any p (matrix_variables m) || t) (same-listed ms p) ∙ sym (any-append p (matrix_variables m) (matrices_variables ms))
+      ∙ ap (λ t. list_any p (matrix_variables m) || t) (same-listed ms p) ∙ sym (any-joined p (matrix_variables m) (matrices_variables ms))
 
   same-product : (ms : MatrixTrees) (p : ℕ → Bool) → any_in p (product_written ([] ∷ []) ms) ≡ (all_have_clauses ms && list_any p (matrices_variables ms))
   same-product no_matrices p = refl
@@ -161,7 +152,7 @@ mutual
       ∙ ap (λ t. (has_clauses m && all_have_clauses ms) && (t || any_in p (product_written ([] ∷ []) ms))) (same-variables m p)
       ∙ ap (λ t. (has_clauses m && all_have_clauses ms) && (list_any p (matrix_variables m) || t)) (same-product ms p)
       ∙ by (has_clauses m) (all_have_clauses ms) (list_any p (matrix_variables m)) (list_any p (matrices_variables ms))
-      ∙ ap (λ t. (has_clauses m && all_have_clauses ms) && t) (sym (any-append p (matrix_variables m) (matrices_variables ms)))
+      ∙ ap (λ t. (has_clauses m && all_have_clauses ms) && t) (sym (any-joined p (matrix_variables m) (matrices_variables ms)))
     where
       by : (t u v w : Bool) → ((t && u) && (v || (u && w))) ≡ ((t && u) && (v || w))
       by true true v w = refl

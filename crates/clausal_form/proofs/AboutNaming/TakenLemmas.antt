@@ -2,7 +2,7 @@
 use Rattle.std.proofs.Common.{◌≡◌, ℕ, ◌≤◌, Bool, true, false, not, ◌||◌, ◌==◌, List, [], ◌∷◌, ◌++◌, map, length, Some, None, refl, ap, ap₂, sym, ◌∙◌, subst, arith}
 use Rattle.std.specs.Prelude.{is_some, bytes_eq, if◌then◌else◌}
 use Rattle.std.specs.List.{list_all, list_any}
-use Rattle.std.proofs.lemmas.Bool.{and_from, eqb-true, true≢false, false_from_ne_true}
+use Rattle.std.proofs.lemmas.Bool.{and_from, eqb-true, false_from_ne_true}
 use Rattle.std.proofs.lemmas.List.{append_assoc, append-nil}
 use Rattle.fol_base.specs.Tree.{Tree, variable, application}
 use Rattle.fol_base.specs.Term.{tree_of}
@@ -14,17 +14,19 @@ use Rattle.kernel_steps.specs.Conclusion.{empty_clause}
 use Rattle.kernel_steps.specs.Derivation.{is_component_of, component_clause, ComesBy, IsDerivation}
 use Rattle.kernel_steps.specs.Soundness.{binds_each}
 use Rattle.kernel_steps.specs.declared.step.Step.{Step}
-use Rattle.kernel_steps.specs.declared.step.Step.TheVariants as step
 use Rattle.kernel_steps.specs.declared.step.Line.{Line}
 use Rattle.kernel_steps.proofs.WorkedExamples.DerivationExamples.{AllCome, derivation-from}
 use Rattle.clausal_form.specs.DerivationSteps.{LineKind, kind_of}
-use Rattle.clausal_form.specs.DerivationSteps as kind
 use Rattle.clausal_form.specs.DerivationLine.{LineTree, same_formula, NamedLine, Taken, nothing_taken, kernel_lines, names_with, with_line}
 use Rattle.kernel_steps.specs.FromTrees.{term_from, literal_from, line_of}
 use Rattle.clausal_form.specs.DerivationParts.{Setting, line_kind, parent_places, line_clause}
 use Rattle.clausal_form.specs.DerivationCauses.{Cause, text, order, unknown_parent, conclusion, new_symbol, Given, fault, gives_formula, gives_clause, given_by, is_written, has_new_symbol, is_old_name, LineVerdict, refused, taken, compared, line_verdict}
 use Rattle.clausal_form.specs.DerivationLines.{LinesVerdict, all_taken, refused_at, after_line, then_line, lines_verdict_from, lines_verdict}
-use Rattle.clausal_form.proofs.AboutNaming.GivenLemmas.{NameBelow, Binds, NoneFrom, ComesRight, IsRight, right-given, length-end}
+use Rattle.clausal_form.proofs.AboutNaming.GivenLemmas.{NameBelow, Binds, NoneFrom, ComesRight, IsRight, right-given}
+use Rattle.list_lemmas.proofs.Bools.{neither-true}
+use Rattle.list_lemmas.proofs.Lists.{length-pushed}
+use Rattle.kernel_steps.specs.declared.step.Step.TheVariants as step
+use Rattle.clausal_form.specs.DerivationSteps as kind
 
 -- ---- the kernel's line has the clause
 
@@ -59,10 +61,6 @@ pub record IsTakenAs (test : Tree → Bool) (s : Setting) (e : Taken) (t : LineT
 abbrev pub KnownPass : (Tree → Bool) → Setting → Taken → LineTree → Type 0
 KnownPass test s e t = has_new_symbol s e t ≡ false → Binds test s e t
 
-or-parts : (a b : Bool) → (a || b) ≡ false → (a ≡ false) × (b ≡ false)
-or-parts true b h = absurd (true≢false h)
-or-parts false b h = (refl, h)
-
 taken-as :
     (test : Tree → Bool) (s : Setting) (e : Taken) (t : LineTree) (k : LineKind) (st : Step) (c : TreeClause)
     → k ≡ line_kind t → ComesRight test s e t k st c → binds_each test st ≡ true → IsTakenAs test s e t (line_of st c)
@@ -91,7 +89,7 @@ compared-taken test s e t (gives_clause st c) line known right h =
     if has_new_symbol s e t || is_old_name s e (line_kind t) then refused new_symbol else taken (line_of st c) in
     let first = not-refused (not (clause_eq c (line_clause s e t))) conclusion rest line h in
     let second = not-refused (has_new_symbol s e t || is_old_name s e (line_kind t)) new_symbol (taken (line_of st c)) line first.1 in
-    let tests = or-parts (has_new_symbol s e t) (is_old_name s e (line_kind t)) second.0 in
+    let tests = neither-true (has_new_symbol s e t) (is_old_name s e (line_kind t)) second.0 in
     let comes = right tests.1 in
     subst (IsTakenAs test s e t) (same-line (line_of st c) line second.1)
     (taken-as test s e t (line_kind t) st c refl comes (comes.binds (known tests.0)))
@@ -168,7 +166,7 @@ names-grow names (kind.component_kind name) = by (list_any (bytes_eq name) names
   where
     by : (b : Bool) → length names ≤ length (if b then names else names ++ name ∷ [])
     by true = omega arith
-    by false = omega (arith, length-end names name)
+    by false = omega (arith, length-pushed names name)
 names-grow names (kind.opposite_kind name) = omega arith
 names-grow names kind.split_kind = omega arith
 names-grow names kind.chain_kind = omega arith

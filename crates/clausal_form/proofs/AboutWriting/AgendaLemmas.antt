@@ -4,13 +4,13 @@ use Rattle.std.proofs.lemmas.List.{map-append}
 use denote.Ref.{Bor}
 use Rattle.fol_base.specs.Clause.{TreeLiteral, TreeClause}
 use Rattle.signature.specs.Clausal.{Literals, all_pairs, canonical_literals}
-use Rattle.signature.proofs.OccurrenceLemmas.{drop-item, drop-end}
 use Rattle.skolem.specs.Matrix.{MatrixTree, falsity, literal, matrix_size, MatrixTrees, matrices_size, matrices_of}
 use Rattle.skolem.specs.Shape.{matrix_tree}
 use Rattle.skolem.specs.declared.matrix.Matrix.{Matrix}
 use Rattle.clausal_form.specs.Written.{written, all_written, product_written}
 use Rattle.clausal_form.specs.Agenda.{lent_literal, products_before, agenda_clauses, agenda_size, canonical_after, placed}
 use Rattle.clausal_form.proofs.AboutNaming.PairLemmas.{pairs-append, pairs-assoc, unit-pairs, product-written-first}
+use Rattle.list_lemmas.proofs.Places.{drop-item, drop-all}
 
 -- ---- the agenda's last matrix
 
@@ -121,7 +121,7 @@ pub each-done :
     → made ++ map f (all_pairs (all_written (matrices_of (map matrix_tree (drop i ms)))) cs) ≡ all → made ≡ all
 each-done f ms i made all cs h a =
     sym (append-nil made)
-    ∙ ap (λ ns. made ++ map f (all_pairs (all_written (matrices_of (map matrix_tree ns))) cs)) (sym (drop-end ms i h))
+    ∙ ap (λ ns. made ++ map f (all_pairs (all_written (matrices_of (map matrix_tree ns))) cs)) (sym (drop-all ms i h))
     ∙ a
 
 -- ---- members put before the agenda
@@ -159,7 +159,7 @@ pub pushed-none :
     → agenda_clauses old ≡ all_pairs (product_written ([] ∷ []) (matrices_of (map matrix_tree (drop i ms)))) (agenda_clauses old)
 pushed-none ms i old h =
     sym (unit-pairs (agenda_clauses old))
-    ∙ ap (λ ns. all_pairs (product_written ([] ∷ []) (matrices_of (map matrix_tree ns))) (agenda_clauses old)) (sym (drop-end ms i h))
+    ∙ ap (λ ns. all_pairs (product_written ([] ∷ []) (matrices_of (map matrix_tree ns))) (agenda_clauses old)) (sym (drop-all ms i h))
 
 pub size-none : (ms : List Matrix) (i size : ℕ) → length ms ≤ i → size ≡ size + matrices_size (matrices_of (map matrix_tree (drop i ms)))
-size-none ms i size h = omega (arith, ap (λ ns. matrices_size (matrices_of (map matrix_tree ns))) (drop-end ms i h))
+size-none ms i size h = omega (arith, ap (λ ns. matrices_size (matrices_of (map matrix_tree ns))) (drop-all ms i h))

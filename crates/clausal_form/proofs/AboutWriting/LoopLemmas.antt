@@ -13,7 +13,6 @@ use Rattle.signature.specs.Occurrences.{formula_symbols, annotated_symbols, prob
 use Rattle.signature.specs.Prefix.{fresh_prefix_of}
 use Rattle.signature.specs.Clausal.{SymbolNumbers, Made, Formed, Literals, annotated_clauses, canonical_literals, formed}
 use Rattle.signature.specs.Form.{AreUnused, symbol_numbers, numbered_symbols, nothing_made}
-use Rattle.signature.proofs.OccurrenceLemmas.{drop-item, drop-end}
 use Rattle.skolem.specs.Skolemized.{AreKnown}
 use Rattle.skolem.proofs.AboutFormulas.ProblemLemmas.{later_names_are_unused}
 use Rattle.clausal_form.specs.Agenda.{placed}
@@ -24,16 +23,10 @@ use Rattle.clausal_form.specs.declared.fault.FormFault.{FormFault}
 use Rattle.clausal_form.specs.declared.fault.FormFault.TheVariants.{NoMemory, Refused}
 use Rattle.clausal_form.specs.declared.form.FormSoFar.{FormSoFar}
 use Rattle.clausal_form.proofs.AboutForms.ShapeLemmas.{sizes-without-numbers}
+use Rattle.list_lemmas.proofs.Tests.{any-kept}
+use Rattle.list_lemmas.proofs.Places.{drop-item, drop-all}
 
 -- ---- known symbols
-
-any-append : {X : Type 0} (p : X → Bool) (xs ys : List X) → list_any p xs ≡ true → list_any p (xs ++ ys) ≡ true
-any-append p [] ys h = cc
-any-append p (x ∷ xs) ys h = by (p x) refl (any-append p xs ys)
-  where
-    by : (t : Bool) → p x ≡ t → (list_any p xs ≡ true → list_any p (xs ++ ys) ≡ true) → (t || list_any p (xs ++ ys)) ≡ true
-    by true e f = refl
-    by false e f = f (ap (λ t. t || list_any p xs) (sym e) ∙ h)
 
 any-last : {X : Type 0} (p : X → Bool) (xs : List X) (y : X) → p y ≡ true → list_any p (xs ++ y ∷ []) ≡ true
 any-last p [] y h = ap (λ t. t || false) h
@@ -49,7 +42,7 @@ stays s t known h = by (has_symbol t known)
   where
     by : (b : Bool) → has_symbol s (if b then known else known ++ t ∷ []) ≡ true
     by true = h
-    by false = any-append (same_symbol s) known (t ∷ []) h
+    by false = any-kept (same_symbol s) known (t ∷ []) h
 
 comes : (s : Symbol) (known : List Symbol) → has_symbol s (with_symbol known s) ≡ true
 comes s known = by (has_symbol s known) refl
@@ -89,7 +82,7 @@ known-more : (known more ss : List Symbol) → AreKnown known ss → AreKnown (k
 known-more known more [] h = refl
 known-more known more (s ∷ ss) h =
     let parts : (has_symbol s known ≡ true) × (list_all (λ t. has_symbol t known) ss ≡ true) = and_parts _ _ h in
-    ap (λ t. t && list_all (λ u. has_symbol u (known ++ more)) ss) (any-append (same_symbol s) known more parts.0) ∙ known-more known more ss parts.1
+    ap (λ t. t && list_all (λ u. has_symbol u (known ++ more)) ss) (any-kept (same_symbol s) known more parts.0) ∙ known-more known more ss parts.1
 
 -- ---- the loop
 
@@ -193,11 +186,11 @@ under-end fs prefix i f h u = (
     clauses = sym (append-nil (map clause_of f.output.clauses.items)) ∙ ap (λ (r : Formed). map clause_of f.output.clauses.items ++ r.clauses) done ∙ u.1.clauses;
     origins = sym (append-nil f.output.origins.items) ∙ ap (λ (r : Formed). f.output.origins.items ++ r.origins) done ∙ u.1.origins;
   },
-  sym u.1.fault ∙ ap (λ gs. first_fault (counted_numbers fs) gs f.counted u.0) (drop-end fs i h),
+  sym u.1.fault ∙ ap (λ gs. first_fault (counted_numbers fs) gs f.counted u.0) (drop-all fs i h),
 )
   where
     done : record { clauses = []; origins = []; made = u.0 } ≡ left fs i u.0
-    done = ap (λ gs. formed (counted_numbers fs) i gs u.0) (sym (drop-end fs i h))
+    done = ap (λ gs. formed (counted_numbers fs) i gs u.0) (sym (drop-all fs i h))
 
 pub under-refused :
     (fs : List Annotated) (prefix : List ℕ) (i : ℕ) (a : Annotated) (old : FormSoFar) (fault : FormFault)

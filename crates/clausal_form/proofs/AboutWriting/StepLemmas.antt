@@ -31,9 +31,10 @@ use Rattle.clausal_form.specs.declared.form.FormSoFar.{FormSoFar}
 use Rattle.clausal_form.specs.declared.measure.Measure.{Measure}
 use Rattle.clausal_form.specs.declared.naming.Naming.{Naming}
 use Rattle.clausal_form.proofs.AboutWriting.FrameLemmas.{formula_made, IsAdded, added-by-matrix}
-use Rattle.clausal_form.proofs.AboutCounts.MeasureLemmas.{length-append, measured-sum}
+use Rattle.clausal_form.proofs.AboutCounts.MeasureLemmas.{measured-sum}
 use Rattle.clausal_form.proofs.AboutNaming.NameLemmas.{closed-known}
 use Rattle.clausal_form.specs.declared.fault.TheConstants.{MOST_EXPANDED}
+use Rattle.list_lemmas.proofs.Lists.{length-joined}
 
 numbered-length : (prefix : List ℕ) (k : ℕ) (arities : List ℕ) → length (numbered_symbols function_symbol prefix k arities) ≡ length arities
 numbered-length prefix k [] = refl
@@ -66,7 +67,7 @@ named-formula n a prefix m old matrix before after cs b h k e ba bf bd w =
     others = numbered_symbols function_symbol prefix 0 m.skolem_arities
 
     all : AreAllSymbols n others m
-    all = omega (arith, length-append n.symbols others, numbered-length prefix 0 m.skolem_arities, h.skolem)
+    all = omega (arith, length-joined n.symbols others, numbered-length prefix 0 m.skolem_arities, h.skolem)
 
     added :
         IsAdded n a m (matrix_clauses (naming_numbers n.first_naming) (form_by_itself (n.symbols ++ others) a).matrix (formula_made m))
@@ -108,7 +109,7 @@ cause-so n a prefix m old counted cause h k o e =
     others = numbered_symbols function_symbol prefix 0 m.skolem_arities
 
     all : AreAllSymbols n others m
-    all = omega (arith, length-append n.symbols others, numbered-length prefix 0 m.skolem_arities, h.skolem)
+    all = omega (arith, length-joined n.symbols others, numbered-length prefix 0 m.skolem_arities, h.skolem)
 
 -- ---- limits
 
@@ -167,7 +168,7 @@ fault-so n a m cs skolem naming part defining measure ps ds counted next before 
     measured = measured-sum part defining measure ps ds p d s ∙ ap capped_measured (sym g)
 
     count : length work.made.skolem_arities ≡ next
-    count = omega (arith, ap length w.skolem_made, length-append m.skolem_arities skolem, b, x)
+    count = omega (arith, ap length w.skolem_made, length-joined m.skolem_arities skolem, b, x)
 
 pub counted-so :
     (n : SymbolNumbers) (a : Annotated) (m : Made) (cs : List Literals) (skolem naming : List ℕ) (part defining measure : Measure)
@@ -216,7 +217,7 @@ made-then n a prefix m old new h w y x s f =
             x,
             h.next,
             ap length w,
-            length-append m.skolem_arities (form_by_itself old.signature a).made.skolem_arities,
+            length-joined m.skolem_arities (form_by_itself old.signature a).made.skolem_arities,
           );
       first = f ∙ h.first;
       naming = sym y;

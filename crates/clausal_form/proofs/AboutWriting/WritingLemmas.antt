@@ -4,13 +4,13 @@ use Rattle.std.proofs.lemmas.List.{map-append}
 use denote.Ref.{Bor}
 use Rattle.fol_base.specs.Clause.{TreeLiteral, TreeClause}
 use Rattle.signature.specs.Clausal.{Literals, all_pairs, canonical_literals}
-use Rattle.signature.proofs.OccurrenceLemmas.{drop-item, drop-end}
 use Rattle.skolem.specs.declared.matrix.Matrix.{Matrix}
 use Rattle.clausal_form.specs.Agenda.{lent_literal, agenda_clauses, canonical_after, placed}
 use Rattle.clausal_form.specs.Naming.{definition_clauses}
 use Rattle.clausal_form.specs.Formula.{definitions_clauses}
 use Rattle.clausal_form.specs.declared.naming.Definition.{Definition}
 use Rattle.clausal_form.proofs.AboutNaming.PairLemmas.{pairs-unit}
+use Rattle.list_lemmas.proofs.Places.{drop-item, drop-all}
 
 -- nothing is left but the matrix
 alone :
@@ -74,4 +74,4 @@ pub definitions-end :
     {Y : Type 0} (f : Literals → Y) (ds : List Definition) (i : ℕ) (made all : List Y)
     → length ds ≤ i → made ++ map f (definitions_clauses (drop i ds)) ≡ all → made ≡ all
 definitions-end f ds i made all h m =
-    sym (append-nil made) ∙ ap (λ es. made ++ map f (definitions_clauses es)) (sym (drop-end ds i h)) ∙ m
+    sym (append-nil made) ∙ ap (λ es. made ++ map f (definitions_clauses es)) (sym (drop-all ds i h)) ∙ m

@@ -30,6 +30,7 @@ use Rattle.demodulate.specs.Rank.{grounded, ground_trees, tree_rank, literal_ran
 use Rattle.demodulate.proofs.AboutSteps.StepParts.{Rewrites, of_step}
 use Rattle.demodulate.proofs.AboutSteps.SymbolLemmas.{made-passes}
 use Rattle.demodulate.proofs.AboutRanks.RankLists.{tree-listed}
+use Rattle.unit_cutting.proofs.AboutCuts.CutAnswers.{set_there}
 
 -- ---- counting
 
@@ -150,11 +151,6 @@ with-side-of : (z : Side) (new : Tree) (l : TreeLiteral) → side_of z (with_sid
 with-side-of Left new l = refl
 with-side-of Right new l = refl
 
-slice_get-set : (ls : List TreeLiteral) (j : ℕ) (l m : TreeLiteral) → slice_get ls j ≡ Some l → slice_get (slice_set ls j m) j ≡ Some m
-slice_get-set [] j l m there = absurd (none-some l there)
-slice_get-set (k ∷ ks) zero l m there = refl
-slice_get-set (k ∷ ks) (suc j) l m there = slice_get-set ks j l m there
-
 -- ---- steps
 
 -- one side becomes a smaller term
@@ -224,7 +220,7 @@ rank_falls bound n unit c d some small unit_below below r =
     let kept : clause_symbols_pass (Below bound) d ≡ true = made-passes (Below bound) unit c d r unit_below below in
     let made_passes : literal_symbols_pass (Below bound) m ≡ true =
     list_all-item (literal_symbols_pass (Below bound)) d.literals x.j m
-    (ap (λ (ls : List TreeLiteral). slice_get ls x.j) (sym x.literals) ∙ slice_get-set c.literals x.j x.into m x.there) kept in
+    (ap (λ (ls : List TreeLiteral). slice_get ls x.j) (sym x.literals) ∙ set_there c.literals x.j x.into m x.there) kept in
     let new_passes : symbols_pass (Below bound) x.new ≡ true =
     ap (symbols_pass (Below bound)) (sym (with-side-of z x.new x.into)) ∙ side-passes (Below bound) z m made_passes in
     let size = exchanged-size c d x in

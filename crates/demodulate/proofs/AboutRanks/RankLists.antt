@@ -2,13 +2,13 @@
 use Rattle.std.proofs.Common.{◌≡◌, ℕ, zero, suc, ◌<◌, ◌≤◌, Bool, true, List, [], ◌∷◌, map, refl, ap, sym, subst, inl, inr, ◌⊎◌, ⊎_elim, arith}
 use Rattle.std.specs.Prelude.{flat_map, nat_lt}
 use Rattle.std.proofs.lemmas.Bool.{and_parts, true≢false}
-use Rattle.std.proofs.lemmas.Bool.Decides.{nat_tests}
 use Rattle.fol_base.specs.Tree.{Tree, variable, application, Trees, no_trees, tree_then, tree_size, trees_size, trees_count}
 use Rattle.fol_base.specs.Ground.{is_ground, are_ground}
 use Rattle.kernel_steps.specs.Symbols.{symbols_pass, all_symbols_pass}
 use Rattle.fol_base.proofs.AboutTerms.TreeLemmas.{tree_size-positive}
 use Rattle.kbo_order.proofs.AboutMultisets.MemberLemmas.{In, In-left, In-right, In-map}
 use Rattle.demodulate.specs.Rank.{lists_of, applied, ground_trees}
+use Rattle.list_lemmas.proofs.Numbers.{less-says}
 
 in-flat : {X Y : Type 0} (f : X → List Y) (x : X) (y : Y) (xs : List X) → In x xs → In y (f x) → In y (flat_map f xs)
 in-flat f x y [] h k = h
@@ -37,9 +37,6 @@ in-applied (suc bound) f ts tss less there =
 abbrev Below : ℕ → ℕ → ℕ → Bool
 Below bound f arity = nat_lt f bound
 
-below-less : (f bound : ℕ) → nat_lt f bound ≡ true → f < bound
-below-less f bound h = grind (arith, nat_tests)
-
 -- ground trees of at most n symbols, and lists of them of at most n symbols together
 mutual
   pub tree-listed :
@@ -48,7 +45,7 @@ mutual
   tree-listed bound zero (application f ts) ground passes small = absurd (omega arith)
   tree-listed bound (suc n) (application f ts) ground passes small =
       let both = and_parts (nat_lt f bound) (all_symbols_pass (Below bound) ts) passes in
-      in-applied bound f ts (lists_of n (ground_trees bound n)) (below-less f bound both.0)
+      in-applied bound f ts (lists_of n (ground_trees bound n)) (less-says f bound both.0)
       (trees-listed bound n n ts ground both.1 (omega arith) (omega (arith, count-small ts)))
 
   trees-listed :

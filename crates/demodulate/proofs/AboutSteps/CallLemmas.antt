@@ -32,8 +32,8 @@ use Rattle.rewriting.specs.declared.searching.Found.{Found}
 use Rattle.rewriting.proofs.AboutRedexes.LawLemmas.{redexes_give}
 use Rattle.demodulate.specs.Steps.{always, matched_terms, IsLineOf}
 use Rattle.kernel_steps.specs.Lines.{own_terms}
-use Rattle.demodulate.proofs.AboutSteps.LineLemmas.{appended-variables}
 use Rattle.demodulate.proofs.AboutRanks.TermLemmas.{literals-stay, own-there}
+use Rattle.eq_rules.proofs.AboutConclusions.ConclusionLemmas.{appended_variables}
 
 -- ---- what the unit makes of the clause
 
@@ -128,7 +128,7 @@ line-is u c f parent made line count own terms first_bind second_bind none walke
       met =
           met_onward walked now order (trees_variables (trees_of terms)) (trees_variables (trees_of own)) now_met order_met
           ∙ ap₂ with_variables walked_is
-          (sym (appended-variables terms own) ∙ ap₂ (λ ts us. trees_variables (trees_of (ts ++ us))) terms_is own_is);
+          (sym (appended_variables terms own) ∙ ap₂ (λ ts us. trees_variables (trees_of (ts ++ us))) terms_is own_is);
       first_numbered =
           first_form ∙ terms-kept walked now order terms (trees_variables (trees_of own)) now_met order_met
           ∙ ap (map (instance (renaming order))) terms_is;

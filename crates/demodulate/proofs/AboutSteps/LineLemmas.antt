@@ -46,7 +46,7 @@ use Rattle.kernel_steps.proofs.AboutCalls.SymbolLemmas.{side-passes, subterm-pas
 use Rattle.unifier.specs.Matching.{by_pairs}
 use Rattle.eq_rules.specs.Renumbered.{AreNumberedInOrder}
 use Rattle.eq_rules.proofs.AboutConclusions.BindingLemmas.{bound_functions, bound_small, bound_symbols}
-use Rattle.eq_rules.proofs.AboutConclusions.ConclusionLemmas.{bindings_numbered, binds_renamed}
+use Rattle.eq_rules.proofs.AboutConclusions.ConclusionLemmas.{bindings_numbered, binds_renamed, numbered_first, appended_variables}
 use Rattle.eq_rules.proofs.AboutConclusions.PremiseLemmas.{clause-below}
 use Rattle.eq_rules.proofs.AboutConclusions.SideLemmas.{sides-size}
 use Rattle.eq_rules.proofs.AboutConclusions.StepLemmas.{renaming-no_truth}
@@ -57,11 +57,13 @@ use Rattle.rewriting.specs.declared.searching.Found.{Found}
 use Rattle.rewriting.proofs.AboutRedexes.LawLemmas.{RewritesFound, found_rewrites}
 use Rattle.rewriting.proofs.AboutSearches.TryLemmas.{numbers-asserted}
 use Rattle.demodulate.specs.Steps.{matched_terms, IsLineOf}
-use Rattle.demodulate.proofs.AboutSteps.StepParts.{Rewrites, of_found, tests-all}
+use Rattle.demodulate.proofs.AboutSteps.StepParts.{Rewrites, of_found}
 use Rattle.demodulate.proofs.AboutSteps.SymbolLemmas.{variable-passes}
 use Rattle.demodulate.proofs.AboutRanks.RankLemmas.{side-smaller, step_size}
 use Rattle.demodulate.proofs.AboutSteps.NameLemmas.{names-stay}
 use Rattle.demodulate.proofs.AboutRanks.TermLemmas.{literals-stay, term-there, term-past, own-there, puts-functions, side-has, variable-small, subterm-size, small-sides}
+use Rattle.list_lemmas.proofs.Bools.{two-true}
+use Rattle.list_lemmas.proofs.Tests.{tests-all}
 
 -- ---- the verdict of a step on two parents
 
@@ -83,23 +85,6 @@ verdict_by_two first second c d e introduces first_bind second_bind rule there s
 
 -- ---- variables
 
-pub appended-variables : (xs ys : List Tree) → trees_variables (trees_of (xs ++ ys)) ≡ trees_variables (trees_of xs) ++ trees_variables (trees_of ys)
-appended-variables [] ys = refl
-appended-variables (x ∷ xs) ys =
-    ap (λ vs. tree_variables x ++ vs) (appended-variables xs ys)
-    ∙ sym (append_assoc (tree_variables x) (trees_variables (trees_of xs)) (trees_variables (trees_of ys)))
-
--- variables that come later change nothing
-numbered-first :
-    (plain : List TreeLiteral) (ws order : List ℕ)
-    → order ≡ with_variables (with_variables [] (flat_map literal_variables plain)) ws
-    → literals_instance (renaming order) plain ≡ literals_instance (renaming (distinct (flat_map literal_variables plain))) plain
-numbered-first plain ws order met =
-    let vs : List ℕ = flat_map literal_variables plain in
-    ap (λ o. literals_instance (renaming o) plain) met
-    ∙ sym (literals-agree (renaming (with_variables [] vs)) (renaming (with_variables (with_variables [] vs) ws)) plain (renaming-kept [] vs ws))
-    ∙ ap (λ o. literals_instance (renaming o) plain) (all_met vs)
-
 -- numbers of arguments are a test of symbols
 mutual
   arities-pass : (arity : ℕ → ℕ) (t : Tree) → symbols_pass (λ f k. arity f == k) t ≡ has_arities arity t
@@ -109,9 +94,6 @@ mutual
   all-arities-pass : (arity : ℕ → ℕ) (ts : Trees) → all_symbols_pass (λ f k. arity f == k) ts ≡ have_arities arity ts
   all-arities-pass arity no_trees = refl
   all-arities-pass arity (tree_then t ts) = ap₂ ◌&&◌ (arities-pass arity t) (all-arities-pass arity ts)
-
-two-hold : (a b : Bool) → a ≡ true → b ≡ true → (a && (b && true)) ≡ true
-two-hold a b h k = and_from a (b && true) h (and_from b true k refl)
 
 -- ---- the line
 
@@ -160,7 +142,7 @@ module _
   made-is : (clause_of line.clause).literals ≡ literals_instance (renaming h.order) h.made.literals
   made-is =
       ap (λ (d : TreeClause). d.literals) h.clause
-      ∙ sym (numbered-first h.made.literals (trees_variables (trees_of (left ++ right))) h.order h.met)
+      ∙ sym (numbered_first h.made.literals (trees_variables (trees_of (left ++ right))) h.order h.met)
 
   pub line_canonical : IsCanonical (clause_of line.clause)
   line_canonical = subst (λ (d : TreeClause). IsCanonical d) (sym h.clause) (canonical_forms_are_canonical h.made)
@@ -176,7 +158,7 @@ module _
       ap (λ (st : Step). clause_variables (clause_of line.clause) ++ flat_map (λ b. trees_variables (trees_of b)) (bindings_of st)) h.step
       ∙ ap (λ vs. clause_variables (clause_of line.clause) ++ vs)
       (ap (λ vs. trees_variables (trees_of h.first_bind) ++ vs) (append-nil (trees_variables (trees_of h.second_bind)))
-      ∙ sym (appended-variables h.first_bind h.second_bind))
+      ∙ sym (appended_variables h.first_bind h.second_bind))
 
   pub line_numbered : IsNumbered line
   line_numbered = record {
@@ -284,7 +266,7 @@ module _
     pub line_terms : binds_each (is_function_term p) line.step ≡ true
     line_terms =
         ap (binds_each (is_function_term p)) h.step
-        ∙ two-hold (list_all (is_function_term p) h.first_bind) (list_all (is_function_term p) h.second_bind)
+        ∙ two-true (list_all (is_function_term p) h.first_bind) (list_all (is_function_term p) h.second_bind)
         (bound_functions p h.order left h.first_bind h.first_numbered puts)
         (bound_functions p h.order right h.second_bind h.second_numbered own-puts)
 
@@ -318,7 +300,7 @@ module _
         and_from (list_all has_small_sides (clause_of line.clause).literals) (binds_each is_small_term line.step)
         (small-sides (clause_of line.clause).literals (omega (arith, line_size, small)))
         (ap (binds_each is_small_term) h.step
-        ∙ two-hold (list_all is_small_term h.first_bind) (list_all is_small_term h.second_bind) terms-small own-small)
+        ∙ two-true (list_all is_small_term h.first_bind) (list_all is_small_term h.second_bind) terms-small own-small)
 
     pub line_symbols :
         (test : ℕ → ℕ → Bool) → clause_symbols_pass test unit ≡ true → clause_symbols_pass test c ≡ true
@@ -331,7 +313,7 @@ module _
         ap (symbols_pass test) found.rewrite.matched.redex.matches
         ∙ subterm-passes test f.place (side_of f.side found.literal) found.old found.old_there (side-passes test f.side found.literal literal_passes) in
         ap (binds_each (symbols_pass test)) h.step
-        ∙ two-hold (list_all (symbols_pass test) h.first_bind) (list_all (symbols_pass test) h.second_bind)
+        ∙ two-true (list_all (symbols_pass test) h.first_bind) (list_all (symbols_pass test) h.second_bind)
         (bound_symbols test h.order left h.first_bind h.first_numbered
         (λ v less.
         ap (symbols_pass test) (term-there n σ v (omega (arith, less, left-many))) ∙ variable-passes test σ side v whole (stands v less)))

@@ -11,23 +11,7 @@ use Rattle.plain_types.proofs.NameLemmas.{same_name-true}
 use Rattle.fol_base.specs.Subsumption.{assertions, is_among}
 use Rattle.kernel_steps.specs.Names.{sorted_names, are_sorted}
 use Rattle.kernel_steps.proofs.AboutNames.NameRanks.{are-sorted_names}
-
--- an asserted name stands among the names
-asserted-there : (n : ℕ) (ms : List NameLit) → list_any (λ m. n == m) (assertions ms) ≡ true → has_name (negative_of n) ms ≡ true
-asserted-there n [] h = h
-asserted-there n (m ∷ ms) h = by m.positive refl (asserted-there n ms) h
-  where
-    by :
-        (b : Bool) → m.positive ≡ b → (list_any (λ k. n == k) (assertions ms) ≡ true → has_name (negative_of n) ms ≡ true)
-        → list_any (λ k. n == k) (if b then assertions ms else (m.name ∷ assertions ms)) ≡ true → has_name (negative_of n) (m ∷ ms) ≡ true
-    by true is rest there = or_right (same_name (negative_of n) m) (has_name (negative_of n) ms) (rest there)
-    by false is rest there =
-        ⊎_elim
-        (λ here.
-        or_left (same_name (negative_of n) m) (has_name (negative_of n) ms)
-        (and_from (beq false m.positive) (n == m.name) (ap (beq false) is) here))
-        (λ later. or_right (same_name (negative_of n) m) (has_name (negative_of n) ms) (rest later))
-        (or_cases (n == m.name) (list_any (λ k. n == k) (assertions ms)) there)
+use Rattle.unit_cutting.proofs.AboutCuts.CutLineLemmas.{negative-there}
 
 -- so does each name of a clause whose assertions are among them
 among-there : (k : NameLit) (ns : List ℕ) (ms : List NameLit) → is_among ns (assertions ms) ≡ true → has_name k (map negative_of ns) ≡ true → has_name k ms ≡ true
@@ -35,7 +19,7 @@ among-there k [] ms among there = absurd (cc)
 among-there k (n ∷ ns) ms among there =
     let both = and_parts (list_any (λ m. n == m) (assertions ms)) (is_among ns (assertions ms)) among in
     ⊎_elim
-    (λ here. ap (λ j. has_name j ms) (same_name-true k (negative_of n) here) ∙ asserted-there n ms both.0)
+    (λ here. ap (λ j. has_name j ms) (same_name-true k (negative_of n) here) ∙ negative-there n ms both.0)
     (λ later. among-there k ns ms both.1 later)
     (or_cases (same_name k (negative_of n)) (has_name k (map negative_of ns)) there)
 

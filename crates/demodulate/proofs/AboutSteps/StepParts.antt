@@ -1,9 +1,7 @@
 -- What a rewriting step is but for the kinds of its terms, whether it comes from the rule or from a search.
-use Rattle.std.proofs.Common.{◌≡◌, ℕ, Bool, true, ◌==◌, List, [], ◌∷◌}
+use Rattle.std.proofs.Common.{◌≡◌, ℕ, Bool, ◌==◌, List, [], ◌∷◌}
 use Rattle.std.specs.Prelude.{All, Option, Some, IsTrue, slice_get}
-use Rattle.std.specs.List.{list_any, list_all}
-use Rattle.std.proofs.lemmas.Bool.{and_parts}
-use Rattle.std.proofs.lemmas.List.Elements.{All-nil, All-cons}
+use Rattle.std.specs.List.{list_any}
 use Rattle.fol_base.specs.Tree.{Tree, tree_variables}
 use Rattle.fol_base.specs.Instance.{Substitution, instance}
 use Rattle.fol_base.specs.Place.{subterm}
@@ -19,6 +17,7 @@ use Rattle.unifier.specs.Matching.{by_pairs}
 use Rattle.rewriting.specs.Searching.{IsFoundOf}
 use Rattle.rewriting.specs.Laws.{Becomes}
 use Rattle.rewriting.specs.declared.searching.Found.{Found}
+use Rattle.list_lemmas.proofs.Tests.{tests-all}
 
 pub record Rewrites (unit c d : TreeClause) : Type 0 where
   pub equation : TreeLiteral
@@ -56,12 +55,6 @@ of_step is_predicate unit c d r = record {
   no_new_variables = r.no_new_variables;
   gives = r.gives;
 }
-
-pub tests-all : (p : ℕ → Bool) (vs : List ℕ) → list_all p vs ≡ true → All (λ v. IsTrue (p v)) vs
-tests-all p [] h = All-nil (λ w. IsTrue (p w))
-tests-all p (v ∷ vs) h =
-    let both = and_parts (p v) (list_all p vs) h in
-    All-cons (λ w. IsTrue (p w)) v vs both.0 (tests-all p vs both.1)
 
 pub of_found :
     (clauses : ℕ → Option TreeClause) (c : TreeClause) (f : Found) (found : IsFoundOf clauses c.literals f) (d : TreeClause)

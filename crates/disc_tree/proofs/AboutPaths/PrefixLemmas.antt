@@ -1,5 +1,5 @@
 -- How many nodes a search along a query without variables can visit.
-use Rattle.std.proofs.Common.{◌≡◌, ℕ, ◌+◌, ◌*◌, ◌≤◌, Bool, true, false, ◌&&◌, ◌||◌, List, [], ◌∷◌, ◌++◌, length, refl, ap, ap₂, sym, subst, ◌∙◌, arith, ⊎_elim, inl, inr, if◌then◌else◌}
+use Rattle.std.proofs.Common.{◌≡◌, ℕ, ◌+◌, ◌*◌, ◌≤◌, Bool, true, false, ◌||◌, List, [], ◌∷◌, ◌++◌, length, refl, ap, ap₂, sym, subst, ◌∙◌, arith, ⊎_elim, inl, inr, if◌then◌else◌}
 use Rattle.std.proofs.lemmas.Bool.{cases_Bool, cond-true, cond-false}
 use Rattle.fol_base.specs.Tree.{Tree, application, Trees, trees_of, list_of}
 use Rattle.fol_base.proofs.AboutTerms.TreeLemmas.{list_of-trees_of}
@@ -11,14 +11,15 @@ use Rattle.disc_tree.specs.Entries.{IsIn}
 use Rattle.disc_tree.specs.Rows.{Row, Child, here, below, all_below, rows, rows_at, entries_of, HavePaths}
 use Rattle.disc_tree.specs.Prefixes.{can_read, behind, prefixes, all_prefixes, readable, same_path, has_path, different, compatible_prefixes, AreGround, IsCompatible, HasCompatible, StaysWithin, FollowsWithin}
 use Rattle.disc_tree.proofs.AboutPaths.LabelLemmas.{same-label-is, same-label-refl}
+use Rattle.list_lemmas.proofs.Bools.{both-true, and-first, and-second}
 
 -- ---- members
 
-in-left : {X : Type 0} (x : X) (xs ys : List X) → IsIn x xs → IsIn x (xs ++ ys)
+pub in-left : {X : Type 0} (x : X) (xs ys : List X) → IsIn x xs → IsIn x (xs ++ ys)
 in-left x [] ys h = absurd h
 in-left x (z ∷ xs) ys h = ⊎_elim (λ e. inl e) (λ k. inr (in-left x xs ys k)) h
 
-in-right : {X : Type 0} (x : X) (xs ys : List X) → IsIn x ys → IsIn x (xs ++ ys)
+pub in-right : {X : Type 0} (x : X) (xs ys : List X) → IsIn x ys → IsIn x (xs ++ ys)
 in-right x [] ys h = h
 in-right x (z ∷ xs) ys h = inr (in-right x xs ys h)
 
@@ -47,7 +48,7 @@ in-tails l p (q ∷ ps) h =
     (λ k. tails-more l q ps p (in-tails l p ps k))
     h
 
--- no prefix begins with both a star and a symbol
+-- no prefix begins with both-true a star and a symbol
 tails-one :
     (f n : ℕ) (k : Label) (p : List Label) (ps : List (List Label))
     → length (tails Star ((k ∷ p) ∷ ps)) + length (tails (Symbol f n) ((k ∷ p) ∷ ps))
@@ -126,15 +127,11 @@ follows-child ts rs (r ∷ child) before read after some same step within ps has
     empty : IsCompatible ts (r ∷ child) []
     empty = record { row = r; more = r.0; is_in = inl refl; begins = refl; is_read = refl }
 
-both : (a b : Bool) → a ≡ true → b ≡ true → (a && b) ≡ true
-both true b h k = k
-both false b h k = cc
-
 node-read :
     (g : ℕ) (us : Trees) (ms : List Tree) (p : List Label)
     → can_read (list_of us ++ ms) p ≡ true → can_read (application g us ∷ ms) (Symbol g (length (list_of us)) ∷ p) ≡ true
 node-read g us ms p h =
-    both (same_label (Symbol g (length (list_of us))) (Symbol g (length (list_of us)))) (can_read (list_of us ++ ms) p)
+    both-true (same_label (Symbol g (length (list_of us))) (Symbol g (length (list_of us)))) (can_read (list_of us ++ ms) p)
     (same-label-refl (Symbol g (length (list_of us)))) h
 
 -- two look-ups at a node: the star's child, and the symbol's
@@ -165,18 +162,10 @@ star-steps g us ms xs cs before after star ps empty has =
 
 -- ---- terms without variables
 
-pub and-left : (a b : Bool) → (a && b) ≡ true → a ≡ true
-and-left true b h = refl
-and-left false b h = cc
-
-pub and-right : (a b : Bool) → (a && b) ≡ true → b ≡ true
-and-right true b h = h
-and-right false b h = cc
-
 pub all-ground : (us : List Tree) → are_ground (trees_of us) ≡ true → AreGround us
 all-ground [] h = tt
 all-ground (u ∷ us) h =
-    (and-left (is_ground u) (are_ground (trees_of us)) h, all-ground us (and-right (is_ground u) (are_ground (trees_of us)) h))
+    (and-first (is_ground u) (are_ground (trees_of us)) h, all-ground us (and-second (is_ground u) (are_ground (trees_of us)) h))
 
 pub ground-append : (us ts : List Tree) → AreGround us → AreGround ts → AreGround (us ++ ts)
 ground-append [] ts g h = h
@@ -256,8 +245,8 @@ same-path-is [] [] h = refl
 same-path-is [] (l ∷ q) h = cc
 same-path-is (k ∷ p) [] h = cc
 same-path-is (k ∷ p) (l ∷ q) h =
-    ap₂ ◌∷◌ (same-label-is k l (and-left (same_label k l) (same_path p q) h))
-    (same-path-is p q (and-right (same_label k l) (same_path p q) h))
+    ap₂ ◌∷◌ (same-label-is k l (and-first (same_label k l) (same_path p q) h))
+    (same-path-is p q (and-second (same_label k l) (same_path p q) h))
 
 has-path-in : (p : List Label) (qs : List (List Label)) → has_path p qs ≡ true → IsIn p qs
 has-path-in p [] h = cc

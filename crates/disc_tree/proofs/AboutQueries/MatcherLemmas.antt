@@ -5,8 +5,8 @@ use Rattle.fol_base.specs.Tree.{Tree, variable, application, Trees, no_trees, tr
 use Rattle.fol_base.specs.Instance.{Substitution, instance, instances}
 use Rattle.fol_base.specs.Compatible.{compatible_by, all_compatible_by}
 use Rattle.disc_tree.specs.Generalisations.{MatchersAreReadOff, stood_for, all_stood_for}
-use Rattle.disc_tree.proofs.AboutPaths.PrefixLemmas.{and-left, and-right}
 use Rattle.disc_tree.proofs.AboutQueries.UnifierLemmas.{trees_below, first_of, rest_of}
+use Rattle.list_lemmas.proofs.Bools.{and-first as and-left, and-second as and-right}
 
 mutual
   handed :

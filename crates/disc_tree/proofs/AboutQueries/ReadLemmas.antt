@@ -12,8 +12,8 @@ use Rattle.disc_tree.specs.Generalisations.{Match, generalisations, stood_for, a
 use Rattle.disc_tree.specs.Reading.{read_along, with_match, matches_in, matches_of}
 use Rattle.disc_tree.proofs.AboutPaths.LabelLemmas.{same-label-is, after-not-same}
 use Rattle.disc_tree.proofs.AboutPaths.PathLemmas.{fits-path, compatible-lengths}
-use Rattle.disc_tree.proofs.AboutPaths.PrefixLemmas.{and-left, and-right}
 use Rattle.disc_tree.proofs.AboutQueries.FoundLemmas.{no-star, below-symbols}
+use Rattle.list_lemmas.proofs.Bools.{and-first, and-second}
 
 -- ---- parts of a list of rows
 
@@ -252,10 +252,10 @@ mutual
   path-read (variable v) u before us p h = refl
   path-read (application f ts) (variable w) before us p h = absurd cc
   path-read (application f ts) (application g vs) before us p h =
-      let all : all_compatible_by true false ts vs ≡ true = and-right (f == g) (all_compatible_by true false ts vs) h in
+      let all : all_compatible_by true false ts vs ≡ true = and-second (f == g) (all_compatible_by true false ts vs) h in
       let lengths : (length (list_of ts) == length (list_of vs)) ≡ true = same-lengths ts vs all in
       same-read before us (application g vs) f (length (list_of ts)) (paths ts ++ p)
-      (and_from (f == g) (length (list_of ts) == length (list_of vs)) (and-left (f == g) (all_compatible_by true false ts vs) h) lengths)
+      (and_from (f == g) (length (list_of ts) == length (list_of vs)) (and-first (f == g) (all_compatible_by true false ts vs) h) lengths)
       ∙ paths-read ts vs before us p all
 
   paths-read :
@@ -268,9 +268,9 @@ mutual
   paths-read (tree_then t ts) (tree_then v vs) before us p h =
       ap (λ q. read_along before (v ∷ (list_of vs ++ us)) q) (append_assoc (path t) (paths ts) p)
       ∙ path-read t v before (list_of vs ++ us) (paths ts ++ p)
-      (and-left (compatible_by true false t v) (all_compatible_by true false ts vs) h)
+      (and-first (compatible_by true false t v) (all_compatible_by true false ts vs) h)
       ∙ paths-read ts vs (before ++ stood_for t v) us p
-      (and-right (compatible_by true false t v) (all_compatible_by true false ts vs) h)
+      (and-second (compatible_by true false t v) (all_compatible_by true false ts vs) h)
       ∙ ap (λ zs. read_along zs us p) (append_assoc before (stood_for t v) (all_stood_for ts vs))
 
 -- what can be read along terms fits them

@@ -14,8 +14,9 @@ use Rattle.disc_tree.specs.Entries.{IsIn}
 use Rattle.disc_tree.specs.Rows.{Row, all_at, found_in, numbers_of}
 use Rattle.disc_tree.specs.Prefixes.{can_read, reads, AreGround, IsCompatible, HasCompatible, AreDifferent, StaysWithin, VisitsEach}
 use Rattle.disc_tree.proofs.AboutPaths.LabelLemmas.{same-label-refl}
-use Rattle.disc_tree.proofs.AboutPaths.PrefixLemmas.{tails, in-tails, tails-fit-more, and-left, and-right, all-ground, ground-append}
+use Rattle.disc_tree.proofs.AboutPaths.PrefixLemmas.{tails, in-tails, tails-fit-more, all-ground, ground-append}
 use Rattle.disc_tree.proofs.AboutQueries.VisitLemmas.{tails-in, tails-different, tails-longer, read-nothing}
+use Rattle.list_lemmas.proofs.Bools.{both-true, and-first, and-second}
 
 -- ---- a symbol of the query against the same label
 
@@ -121,10 +122,6 @@ has-behind :
 has-behind ts us l p xs ps read has q c =
     in-tails l q ps (has (l ∷ q) (compatible-behind ts us l p q xs (read q) c))
 
-both : (a b : Bool) → a ≡ true → b ≡ true → (a && b) ≡ true
-both true b h k = k
-both false b h k = cc
-
 pub reads-most :
     (ts : List Tree) (p : List Label) (xs : List (Tree × ℕ)) (ps : List (List Label))
     → 1 ≤ length xs → IsIn [] ps → HasCompatible ts (all_at p xs) ps → reads ts p ≤ length ps
@@ -150,7 +147,7 @@ reads-most (t ∷ ts) (Symbol f n ∷ p) xs ps some empty has =
     (λ same.
     let us : List Tree = arguments t ++ ts in
     let later : HasCompatible us (all_at p xs) (tails (Symbol f n) ps) =
-    has-behind (t ∷ ts) us (Symbol f n) p xs ps (λ q h. both (same_label (Symbol f n) (head t)) (can_read us q) same h) has in
+    has-behind (t ∷ ts) us (Symbol f n) p xs ps (λ q h. both-true (same_label (Symbol f n) (head t)) (can_read us q) same h) has in
     omega (
       arith,
       cond-true (same_label (Symbol f n) (head t)) (suc (reads us p)) 1 same,
@@ -249,7 +246,7 @@ empty-beside t ts f n p (k ∷ q) xs other c =
     let read : can_read (t ∷ ts) (Symbol f n ∷ q) ≡ true =
     subst (λ j. can_read (t ∷ ts) (j ∷ q) ≡ true) (sym (begins-with (t ∷ ts) (Symbol f n) k p q xs c)) c.is_read in
     let wrong : true ≡ false =
-    sym (and-left (same_label (Symbol f n) (head t)) (can_read (arguments t ++ ts) q) read) ∙ other in absurd cc
+    sym (and-first (same_label (Symbol f n) (head t)) (can_read (arguments t ++ ts) q) read) ∙ other in absurd cc
 
 pub reads-least :
     (ts : List Tree) (p : List Label) (xs : List (Tree × ℕ)) (ps : List (List Label))
@@ -275,7 +272,7 @@ reads-least (t ∷ ts) (Symbol f n ∷ p) xs ps d all =
       tails-cover-one-more (Symbol f n) ps d (begin-with (t ∷ ts) (Symbol f n) p xs ps all),
       reads-least us p xs (tails (Symbol f n) ps) (tails-different (Symbol f n) ps d)
           (visited-behind (t ∷ ts) us (Symbol f n) p xs ps
-          (λ q h. and-right (same_label (Symbol f n) (head t)) (can_read us q) h) all),
+          (λ q h. and-second (same_label (Symbol f n) (head t)) (can_read us q) h) all),
     ))
     (λ other.
     omega (

@@ -11,7 +11,8 @@ use Rattle.disc_tree.specs.Rows.{Row, Child, here, below, all_below, rows, rows_
 use Rattle.disc_tree.specs.Prefixes.{can_read, behind, prefixes, all_prefixes, readable, same_path, has_path, different, compatible_prefixes, AreGround, IsCompatible, AreDifferent, AreCompatible, VisitsEach, FollowsEach}
 use Rattle.disc_tree.proofs.AboutPaths.LabelLemmas.{same-label-is, same-label-refl}
 use Rattle.disc_tree.proofs.AboutChanges.EditLemmas.{is_in-append, not-here, in-below-label, in-below-row, not-behind}
-use Rattle.disc_tree.proofs.AboutPaths.PrefixLemmas.{tails, and-left, and-right, all-ground, ground-append}
+use Rattle.disc_tree.proofs.AboutPaths.PrefixLemmas.{tails, all-ground, ground-append}
+use Rattle.list_lemmas.proofs.Bools.{and-first, and-second}
 
 -- ---- the prefixes that begin with a label, without it
 
@@ -162,7 +163,7 @@ read-symbol :
     (g : ℕ) (us : Trees) (ms : List Tree) (p : List Label)
     → can_read (application g us ∷ ms) (Symbol g (length (list_of us)) ∷ p) ≡ true → can_read (list_of us ++ ms) p ≡ true
 read-symbol g us ms p h =
-    and-right (same_label (Symbol g (length (list_of us))) (Symbol g (length (list_of us)))) (can_read (list_of us ++ ms) p) h
+    and-second (same_label (Symbol g (length (list_of us))) (Symbol g (length (list_of us)))) (can_read (list_of us ++ ms) p) h
 
 read-first :
     (g : ℕ) (us : Trees) (ms : List Tree) (k : Label) (p : List Label)
@@ -170,7 +171,7 @@ read-first :
     → (same_label k Star ≡ true) ⊎ (same_label k (Symbol g (length (list_of us))) ≡ true)
 read-first g us ms Star p h = inl refl
 read-first g us ms (Symbol f n) p h =
-    inr (and-left (same_label (Symbol f n) (Symbol g (length (list_of us)))) (can_read (list_of us ++ ms) p) h)
+    inr (and-first (same_label (Symbol f n) (Symbol g (length (list_of us)))) (can_read (list_of us ++ ms) p) h)
 
 node-visits :
     (g : ℕ) (us : Trees) (ms : List Tree) (xs : List (Tree × ℕ)) (cs : List Child) (before between after : ℕ)

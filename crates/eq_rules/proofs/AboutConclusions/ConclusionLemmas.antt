@@ -1,5 +1,5 @@
 -- The conclusion of a rule with one premise, with its variables numbered: it is numbered by first occurrence, and the kernel's verdict.
-use Rattle.std.proofs.Common.{◌≡◌, ℕ, suc, ◌+◌, ◌<◌, ◌≤◌, true, false, ◌&&◌, ◌==◌, not, nat_le, Option, Some, List, [], ◌∷◌, ◌++◌, length, map, get_or, append-nil, refl, ap, ap₂, sym, ◌∙◌, subst, arith}
+use Rattle.std.proofs.Common.{◌≡◌, ℕ, suc, ◌+◌, ◌<◌, ◌≤◌, true, false, ◌&&◌, ◌==◌, not, nat_le, Option, Some, List, [], ◌∷◌, ◌++◌, length, map, get_or, append-nil, append_assoc, refl, ap, ap₂, sym, ◌∙◌, subst, arith}
 use Rattle.std.specs.Prelude.{sum_by, flat_map}
 use Rattle.std.specs.List.{AllByRecursion, list_all}
 use Rattle.std.specs.Option.{option_map}
@@ -9,7 +9,7 @@ use Rattle.std.proofs.lemmas.List.{map-append}
 use Rattle.std.proofs.lemmas.List.Sums.{fold-append}
 use Rattle.std.proofs.lemmas.Option.{same_Some}
 use Rattle.plain_types.specs.declared.sequence.NameLit.{NameLit}
-use Rattle.fol_base.specs.Tree.{Tree, variable, application, true_tree, trees_of, trees_variables, is_truth}
+use Rattle.fol_base.specs.Tree.{Tree, variable, application, true_tree, trees_of, tree_variables, trees_variables, is_truth}
 use Rattle.fol_base.specs.Instance.{instance, instances, substitution}
 use Rattle.fol_base.specs.Clause.{TreeLiteral, TreeClause, LiteralVariablesBelow, literal_size, literal_instance, literal_variables, clause_size, clause_instance, clause_variables}
 use Rattle.fol_base.specs.Ground.{literals_instance}
@@ -30,10 +30,18 @@ use Rattle.eq_rules.specs.Renumbered.{AreNumberedInOrder}
 use Rattle.eq_rules.specs.Concluding.{GivesNumbered}
 use Rattle.eq_rules.proofs.AboutConclusions.WideLemmas.{Has, renamed-literals, renamed-literals_size}
 
+-- ---- the variables of two lists
+
+pub appended_variables : (ts us : List Tree) → trees_variables (trees_of (ts ++ us)) ≡ trees_variables (trees_of ts) ++ trees_variables (trees_of us)
+appended_variables [] us = refl
+appended_variables (t ∷ ts) us =
+    ap (λ vs. tree_variables t ++ vs) (appended_variables ts us)
+    ∙ sym (append_assoc (tree_variables t) (trees_variables (trees_of ts)) (trees_variables (trees_of us)))
+
 -- ---- numbered by first occurrence
 
 -- variables that come later change nothing
-numbered_first :
+pub numbered_first :
     (plain : List TreeLiteral) (ws order : List ℕ)
     → order ≡ with_variables (with_variables [] (flat_map literal_variables plain)) ws
     → literals_instance (renaming order) plain ≡ literals_instance (renaming (distinct (flat_map literal_variables plain))) plain

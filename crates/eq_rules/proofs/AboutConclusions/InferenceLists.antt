@@ -1,24 +1,16 @@
 -- Lists of exactly the inferences of some names, as they grow.
-use Rattle.std.proofs.Common.{◌≡◌, ◌⊎◌, ℕ, zero, suc, Bool, true, false, Option, Some, List, [], ◌∷◌, ◌++◌, length, get_or, refl, ap, sym, ◌∙◌, subst, inl, inr, ⊎_elim, arith}
+use Rattle.std.proofs.Common.{◌≡◌, ◌⊎◌, ℕ, Bool, true, false, Option, Some, List, [], ◌∷◌, ◌++◌, get_or, ap, sym, ◌∙◌, subst, ⊎_elim, arith}
 use Rattle.std.specs.Prelude.{slice_get, All}
 use Rattle.std.proofs.lemmas.Bool.{true≢false}
 use Rattle.std.proofs.lemmas.List.Elements.{All-push, Contains-append_left, Contains-append_right, Contains-get_or}
-use Rattle.std.proofs.lemmas.Option.{get_or_from_slice_get, slice_get_within, same_Some}
+use Rattle.std.proofs.lemmas.Option.{get_or_from_slice_get, slice_get_within}
 use Rattle.fol_base.specs.Clause.{TreeClause}
 use Rattle.fol_base.specs.Selection.{SelectionMode}
 use Rattle.kernel_steps.specs.Named.{IsInference}
 use Rattle.kernel_steps.specs.declared.key.Key.{Key}
 use Rattle.eq_rules.specs.Inferences.{IsMade, AreInferences}
 use Rattle.eq_rules.specs.declared.inference.Inference.{Inference}
-
-push_cases :
-    {X : Type 0} (xs : List X) (x : X) (m : ℕ) (d : X)
-    → slice_get (xs ++ x ∷ []) m ≡ Some d → (slice_get xs m ≡ Some d) ⊎ ((m ≡ length xs) × (x ≡ d))
-push_cases [] x zero d h = inr (refl, same_Some x d h)
-push_cases [] x (suc m) d h = absurd (cc)
-push_cases (y ∷ ys) x zero d h = inl h
-push_cases (y ∷ ys) x (suc m) d h =
-    ⊎_elim (λ e. inl e) (λ e. inr (ap suc e.0, e.1)) (push_cases ys x m d h)
+use Rattle.list_lemmas.proofs.Places.{get-pushed}
 
 module _ (p : ℕ → Bool) (mode : SelectionMode) (clauses : ℕ → Option TreeClause) (P Q : Key → Bool) where
   abbrev Fact : Inference → Type 0
@@ -70,12 +62,12 @@ module _ (p : ℕ → Bool) (mode : SelectionMode) (clauses : ℕ → Option Tre
         (λ n_before. are.once m n d f m_before n_before same)
         (λ n_last.
         absurd (true≢false (sym (fact_at xs are.made m d m_before) ∙ ap P same ∙ sym (ap (λ (g : Inference). P g.key) n_last.1) ∙ new)))
-        (push_cases xs e n f at_n))
+        (get-pushed xs e n f at_n))
         (λ m_last.
         ⊎_elim
         (λ n_before.
         absurd (true≢false (sym (fact_at xs are.made n f n_before) ∙ sym (ap P same) ∙ sym (ap (λ (g : Inference). P g.key) m_last.1) ∙ new)))
         (λ n_last. m_last.0 ∙ sym n_last.0)
-        (push_cases xs e n f at_n))
-        (push_cases xs e m d at_m);
+        (get-pushed xs e n f at_n))
+        (get-pushed xs e m d at_m);
   }

@@ -1,8 +1,8 @@
 -- One premise under a most general unifier of two of its terms, and under the terms that the unifier gives for its variables.
-use Rattle.std.proofs.Common.{◌≡◌, ℕ, ◌≤◌, Bool, true, false, ◌&&◌, ◌||◌, nat_lt, List, [], ◌∷◌, ◌++◌, length, Some, ap, sym, ◌∙◌, subst, ⊎_elim, arith}
+use Rattle.std.proofs.Common.{◌≡◌, ℕ, Bool, true, false, ◌&&◌, ◌||◌, List, [], ◌∷◌, ◌++◌, length, Some, ap, sym, ◌∙◌, subst, ⊎_elim, arith}
 use Rattle.std.specs.Prelude.{sum_by, flat_map, slice_get}
 use Rattle.std.specs.List.{AllByRecursion}
-use Rattle.std.proofs.lemmas.Bool.{and_from, or_left, or_right, false_from_ne_true, ltb-true}
+use Rattle.std.proofs.lemmas.Bool.{and_from, or_left, or_right}
 use Rattle.std.proofs.lemmas.List.Elements.{recursion_from_All}
 use Rattle.std.proofs.lemmas.Option.{get_or_from_slice_get, slice_get_within}
 use Rattle.fol_base.specs.Tree.{Tree, variable, application, Trees, no_trees, tree_then, trees_of, tree_variables, trees_variables, VariablesBelow, AllVariablesBelow, is_truth}
@@ -139,7 +139,7 @@ unifier-after_terms s t terms ls ρ general below unifies =
 
 -- ---- the variables under the terms have numbers
 
-has-append : (order vs ws : List ℕ) → Has order vs → Has order ws → Has order (vs ++ ws)
+pub has-append : (order vs ws : List ℕ) → Has order vs → Has order ws → Has order (vs ++ ws)
 has-append order [] ws h k = k
 has-append order (v ∷ vs) ws h k = (h.0, has-append order vs ws h.1 k)
 
@@ -173,6 +173,3 @@ has-literals order terms (l ∷ ls) all below =
     (has-literals order terms ls all below.1)
 
 -- ---- large or not
-
-pub not_large : (most size : ℕ) → size ≤ most → nat_lt most size ≡ false
-not_large most size h = false_from_ne_true (nat_lt most size) (λ e. absurd (omega (arith, ltb-true most size e, h)))

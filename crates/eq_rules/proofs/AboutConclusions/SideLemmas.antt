@@ -18,10 +18,11 @@ use Rattle.fol_base.proofs.AboutTerms.WellFormedLemmas.{sides_of_one_kind}
 use Rattle.kbo_order.proofs.AboutLaws.StableLemmas.{trees_stable}
 use Rattle.kernel_steps.proofs.AboutCalls.BoundLemmas.{is_truth-application}
 use Rattle.kernel_steps.specs.Inference.{has_predicate_head, other_side_not_above}
-use Rattle.kernel_steps.specs.Inference as kernel
-use Rattle.unifier.specs.Laws as unifying
 use Rattle.eq_rules.specs.Concluding.{IsGeneralBelow}
 use Rattle.eq_rules.specs.Factoring.{are_alike}
+use Rattle.list_lemmas.proofs.Bools.{beq-turned}
+use Rattle.kernel_steps.specs.Inference as kernel
+use Rattle.unifier.specs.Laws as unifying
 
 -- ---- kinds
 
@@ -73,12 +74,6 @@ beq-differ true true e f h = true≢false f
 beq-differ true false e f h = true≢false (sym h)
 beq-differ false b e f h = true≢false (sym e)
 
-beq-sym : (a b : Bool) → beq a b ≡ true → beq b a ≡ true
-beq-sym true true h = refl
-beq-sym true false h = h
-beq-sym false true h = h
-beq-sym false false h = refl
-
 pub alike-kinds :
     (p : ℕ → Bool) (l : TreeLiteral) (s : Side) (m : TreeLiteral) (z : Side)
     → is_literal p l ≡ true → is_literal p m ≡ true → are_alike l s m z ≡ true → Kinds p (side_of s l) (side_of z m)
@@ -112,7 +107,7 @@ alike-kinds p l s m z l_kind m_kind h =
     (λ m_predicate.
     absurd (beq-differ (is_truth (other_side_of z m)) (is_truth (other_side_of s l)) m_predicate.1
     (function_term-no_truth p (other_side_of s l) l_function.1)
-    (beq-sym (is_truth (other_side_of s l)) (is_truth (other_side_of z m)) parts.others)))
+    (beq-turned (is_truth (other_side_of s l)) (is_truth (other_side_of z m)) parts.others)))
     (sides_of_one_kind p z m m_kind parts.second_no_truth))
     (λ l_predicate.
     ⊎_elim

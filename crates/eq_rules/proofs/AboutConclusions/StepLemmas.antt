@@ -21,10 +21,7 @@ use Rattle.eq_rules.specs.Concluding.{GivesNumbered}
 use Rattle.eq_rules.proofs.AboutConclusions.RenumberedLemmas.{variables_between, met_onward}
 use Rattle.eq_rules.proofs.AboutConclusions.WideLemmas.{renamed-literals}
 use Rattle.eq_rules.proofs.AboutConclusions.PremiseLemmas.{clause-below}
-
-pub some_there : {X : Type 0} (o : Option X) → is_some o ≡ true → (x : X) × (o ≡ Some x)
-some_there None h = absurd (true≢false (sym h))
-some_there (Some x) h = (x, refl)
+use Rattle.list_lemmas.proofs.Results.{some-there}
 
 -- a renaming puts in variables alone
 pub renaming-no_truth : (order : List ℕ) → PutsNoTruth (renaming order)
@@ -86,7 +83,7 @@ module _
 
   given : resolved (literals_instance (substitution terms) c.literals) i ≡ Some plain
   given =
-      let found = some_there (resolved (literals_instance (substitution terms) c.literals) i) applies in
+      let found = some-there (resolved (literals_instance (substitution terms) c.literals) i) applies in
       found.1 ∙ ap (λ ls. let o : Option (List TreeLiteral) = Some ls in o)
       (sym (resolved-parts (literals_instance (substitution terms) c.literals) i found.0 found.1).gives)
 

@@ -1,10 +1,10 @@
 -- Terms for the first variables that are most general among all that unify, with their variables numbered anew, make a most general
 -- unifier: beyond them each variable becomes one that is new.
-use Rattle.std.proofs.Common.{◌≡◌, ℕ, zero, suc, ◌+◌, ◌-◌, ◌<◌, ◌≤◌, true, false, ◌==◌, nat_lt, get_or, if◌then◌else◌, Option, None, Some, List, [], ◌∷◌, ◌++◌, length, map, refl, ap, ap₂, sym, ◌∙◌, ⊎_elim, inl, inr, arith}
+use Rattle.std.proofs.Common.{◌≡◌, ℕ, zero, suc, ◌+◌, ◌-◌, ◌<◌, ◌≤◌, true, ◌==◌, nat_lt, get_or, if◌then◌else◌, Option, Some, List, [], ◌∷◌, ◌++◌, length, map, refl, ap, ap₂, sym, ◌∙◌, ⊎_elim, inl, inr, arith}
 use Rattle.std.specs.Prelude.{unwrap_or, sum_by, flat_map}
 use Rattle.std.specs.List.{AllByRecursion}
 use Rattle.std.specs.Option.{is_some, option_map}
-use Rattle.std.proofs.lemmas.Bool.{cases_Bool, cond-true, cond-false, eqb-true, true≢false, false_from_ne_true, lt-ltb, ltb-true, cases_lt}
+use Rattle.std.proofs.lemmas.Bool.{cases_Bool, cond-true, cond-false, eqb-true, true≢false, lt-ltb, cases_lt}
 use Rattle.std.proofs.lemmas.List.{get_or-map}
 use Rattle.std.proofs.lemmas.List.Sums.{sum_by-cons}
 use Rattle.fol_base.specs.Tree.{Tree, variable, application, Trees, no_trees, tree_then, trees_of, tree_size, trees_size, tree_variables, trees_variables, VariablesBelow}
@@ -16,12 +16,11 @@ use Rattle.fol_base.specs.Canonical.{place_of, renaming}
 use Rattle.fol_base.specs.Unifier.{IsMostGeneralUnifier}
 use Rattle.fol_base.proofs.AboutInstances.InstanceLemmas.{Agree, instance-agree, instances_of_instances, instances_agree_below, literals_instance-again, literals-agree}
 use Rattle.eq_rules.specs.Concluding.{IsGeneralBelow}
+use Rattle.list_lemmas.proofs.Numbers.{not-less}
+use Rattle.list_lemmas.proofs.Results.{some-mapped}
+use Rattle.kbo_order.proofs.AboutMultisets.LiteralLemmas.{literals-themselves}
 
 -- ---- numbers and back
-
-some_mapped : (o : Option ℕ) → is_some (option_map suc o) ≡ true → is_some o ≡ true
-some_mapped None h = h
-some_mapped (Some k) h = refl
 
 place_found :
     (v : ℕ) (ws : List ℕ) → is_some (place_of v ws) ≡ true
@@ -32,7 +31,7 @@ place_found v (w ∷ ws) h =
     (λ e. (0, cond-true (v == w) (Some 0) (option_map suc (place_of v ws)) e, omega arith, λ d. sym (eqb-true v w e)))
     (λ e.
     let later : place_of v (w ∷ ws) ≡ option_map suc (place_of v ws) = cond-false (v == w) (Some 0) (option_map suc (place_of v ws)) e in
-    let found = place_found v ws (some_mapped (place_of v ws) (sym (ap is_some later) ∙ h)) in
+    let found = place_found v ws (some-mapped (place_of v ws) (sym (ap is_some later) ∙ h)) in
     (suc found.0, later ∙ ap (option_map suc) found.1, omega (arith, found.2), found.3))
     (cases_Bool (v == w))
 
@@ -76,13 +75,6 @@ mutual
   all_itself no_trees = refl
   all_itself (tree_then t ts) = ap₂ tree_then (itself t) (all_itself ts)
 
-literals_itself : (ls : List TreeLiteral) → literals_instance variable ls ≡ ls
-literals_itself [] = refl
-literals_itself (l ∷ ls) =
-    ap₂ ◌∷◌
-    (ap₂ (λ (t u : Tree). let k : TreeLiteral = record { positive = l.positive; left = t; right = u } in k) (itself l.left) (itself l.right))
-    (literals_itself ls)
-
 -- literals whose variables have numbers come back
 pub literals_back :
     (order : List ℕ) (ls : List TreeLiteral)
@@ -90,7 +82,7 @@ pub literals_back :
 literals_back order ls all =
     literals_instance-again (numbered order) (renaming order) ls
     ∙ literals-agree (after (numbered order) (renaming order)) variable ls (numbered_back order (flat_map literal_variables ls) all)
-    ∙ literals_itself ls
+    ∙ literals-themselves ls
 
 pub term_back :
     (order : List ℕ) (t : Tree) → Has order (tree_variables t) → instance (numbered order) (instance (renaming order) t) ≡ t
@@ -131,13 +123,10 @@ wide-within order terms v less =
     cond-true (nat_lt v (length terms)) (instance (renaming order) (substitution terms v)) (variable (length order + v))
     (lt-ltb v (length terms) less)
 
-not_less : (a b : ℕ) → b ≤ a → nat_lt a b ≡ false
-not_less a b h = false_from_ne_true (nat_lt a b) (λ e. absurd (omega (arith, ltb-true a b e, h)))
-
 wide-past : (order : List ℕ) (terms : List Tree) (v : ℕ) → length terms ≤ v → wide order terms v ≡ variable (length order + v)
 wide-past order terms v past =
     cond-false (nat_lt v (length terms)) (instance (renaming order) (substitution terms v)) (variable (length order + v))
-    (not_less v (length terms) past)
+    (not-less v (length terms) past)
 
 pub wide-instance :
     (order : List ℕ) (terms : List Tree) (t : Tree)
@@ -150,7 +139,7 @@ wide-instance order terms t below =
 -- ---- it is most general
 
 -- what goes on from it: from the numbers as from the variables, and from the new variables as they become
-abbrev onward : List ℕ → Substitution → Substitution → Substitution
+abbrev pub onward : List ℕ → Substitution → Substitution → Substitution
 onward order another ρ w = if nat_lt w (length order) then another (get_or order w w) else ρ (w - length order)
 
 onward-within :
@@ -163,17 +152,17 @@ onward-within order another ρ v has =
     (lt-ltb found.0 (length order) found.2)
     ∙ ap another (found.3 found.0)
 
-onward-agrees :
+pub onward-agrees :
     (order : List ℕ) (another ρ : Substitution) (vs : List ℕ) → Has order vs → Agree (after (onward order another ρ) (renaming order)) another vs
 onward-agrees order another ρ [] all = tt
 onward-agrees order another ρ (v ∷ vs) all = (onward-within order another ρ v all.0, onward-agrees order another ρ vs all.1)
 
-onward-past :
+pub onward-past :
     (order : List ℕ) (another ρ : Substitution) (v : ℕ) → onward order another ρ (length order + v) ≡ ρ v
 onward-past order another ρ v =
     let n : ℕ = length order in
     let less : (n + v) - n ≡ v = omega arith in
-    cond-false (nat_lt (n + v) n) (another (get_or order (n + v) (n + v))) (ρ ((n + v) - n)) (not_less (n + v) n (omega arith)) ∙ ap ρ less
+    cond-false (nat_lt (n + v) n) (another (get_or order (n + v) (n + v))) (ρ ((n + v) - n)) (not-less (n + v) n (omega arith)) ∙ ap ρ less
 
 pub wide-general :
     (order : List ℕ) (terms : List Tree) (s t : Tree)

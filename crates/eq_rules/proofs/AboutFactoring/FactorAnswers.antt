@@ -16,24 +16,13 @@ use Rattle.fol_base.specs.declared.limits.TheConstants.{MOST_SYMBOLS, SIZE_LIMIT
 use Rattle.fol_base.proofs.AboutClauses.InferenceLemmas.{literal_in_instance, side_of-instance, other_side_of-instance}
 use Rattle.eq_rules.proofs.AboutConclusions.SideLemmas.{sides-size}
 use Rattle.eq_rules.proofs.AboutConclusions.WideLemmas.{itself}
+use Rattle.kbo_order.proofs.AboutMultisets.ClauseLoops.{item-size}
 
 -- the literal that is lent is the one that is there
 pub lent_there :
     (lent ls : List TreeLiteral) (i : ℕ) (l k : TreeLiteral)
     → lent ≡ ls → slice_get lent i ≡ Some l → slice_get ls i ≡ Some k → l ≡ k
 lent_there lent ls i l k same at there = same_Some l k (sym at ∙ ap (λ ms. slice_get ms i) same ∙ there)
-
--- a literal is no larger than the list
-pub item_size : (ls : List TreeLiteral) (i : ℕ) (l : TreeLiteral) → slice_get ls i ≡ Some l → literal_size l ≤ sum_by literal_size ls
-item_size ls i l at =
-    let whole = sum_by-remove literal_size ls i l (slice_get_within ls i l at) in
-    let read = ap literal_size (get_or_from_slice_get ls i l l at) in
-    omega (arith, whole, read)
-
-pub part_size :
-    (σ : Substitution) (ls : List TreeLiteral) (i : ℕ) (l : TreeLiteral)
-    → slice_get ls i ≡ Some l → literal_size (literal_instance σ l) ≤ sum_by literal_size (literals_instance σ ls)
-part_size σ ls i l at = item_size (literals_instance σ ls) i (literal_instance σ l) (literal_in_instance σ ls i l at)
 
 pub unbound_size : (l : TreeLiteral) → literal_size (literal_instance variable l) ≡ literal_size l
 unbound_size l = ap₂ (λ t u. tree_size t + tree_size u) (itself l.left) (itself l.right)

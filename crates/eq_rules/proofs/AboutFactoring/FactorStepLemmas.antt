@@ -23,7 +23,8 @@ use Rattle.eq_rules.specs.declared.concluding.FactorPlace.{FactorPlace}
 use Rattle.eq_rules.proofs.AboutConclusions.RenumberedLemmas.{variables_between, met_onward}
 use Rattle.eq_rules.proofs.AboutConclusions.WideLemmas.{renamed-literals}
 use Rattle.eq_rules.proofs.AboutConclusions.PremiseLemmas.{clause-below}
-use Rattle.eq_rules.proofs.AboutConclusions.StepLemmas.{some_there, renaming-no_truth, exchanged-variables}
+use Rattle.eq_rules.proofs.AboutConclusions.StepLemmas.{renaming-no_truth, exchanged-variables}
+use Rattle.list_lemmas.proofs.Results.{some-there}
 
 -- the plain literals, where both literals are there
 plain_is :
@@ -98,7 +99,7 @@ module _
       ≡ Some (factored_plain c.literals (substitution terms) place)
   given =
       let found =
-      some_there (factored (literals_instance (substitution terms) c.literals) place.becomes.literal place.becomes.side place.other.literal place.other.side)
+      some-there (factored (literals_instance (substitution terms) c.literals) place.becomes.literal place.becomes.side place.other.literal place.other.side)
       applies in
       found.1 ∙ ap (λ ls. let o : Option (List TreeLiteral) = Some ls in o) (sym (gives_plain c.literals (substitution terms) place found.0 found.1))
 

@@ -33,7 +33,6 @@ use Rattle.kernel_steps.specs.Names.{sorted_names}
 use Rattle.kernel_steps.specs.Named.{IsInference}
 use Rattle.kernel_steps.specs.Parents.{Parent}
 use Rattle.kernel_steps.specs.Symbols.{symbols_pass, literal_symbols_pass}
-use Rattle.kernel_steps.specs.declared.step.Step.TheVariants as step
 use Rattle.kernel_steps.proofs.AboutCalls.SymbolLemmas.{side-passes}
 use Rattle.unifier.specs.Renaming.{AreNamedTerms}
 use Rattle.unifier.proofs.AboutClasses.SharedLemmas.{shared_put_function_terms}
@@ -47,12 +46,15 @@ use Rattle.eq_rules.specs.declared.inference.Made.TheVariants.{Heavy}
 use Rattle.eq_rules.proofs.AboutConclusions.WideLemmas.{Has, wide, numbered, wide-general, wide-instance, wide-literals, renamed-literals, term_back, renamed-literals_size}
 use Rattle.eq_rules.proofs.AboutConclusions.ConclusionLemmas.{conclusion_numbered, bindings_numbered, binds_renamed, verdict_by_one, numbered_literals, numbered-has}
 use Rattle.eq_rules.proofs.AboutConclusions.BindingLemmas.{bound_functions, bound_small, bound_symbols, unified_small, unified_symbols}
-use Rattle.eq_rules.proofs.AboutFactoring.FactorAnswers.{part_size, sides_size}
+use Rattle.eq_rules.proofs.AboutFactoring.FactorAnswers.{sides_size}
 use Rattle.eq_rules.proofs.AboutConclusions.StepLemmas.{renaming-no_truth}
-use Rattle.eq_rules.proofs.AboutConclusions.PremiseLemmas.{Terms, terms_of, clause-below, literal-below, unifier-after_terms, has-instance, not_large}
+use Rattle.eq_rules.proofs.AboutConclusions.PremiseLemmas.{Terms, terms_of, clause-below, literal-below, unifier-after_terms, has-instance}
 use Rattle.eq_rules.proofs.AboutResolution.ResolutionLemmas.{eligible_wide}
 use Rattle.eq_rules.proofs.AboutConclusions.SideLemmas.{Alike, Kinds, alike-parts, not_above_by, sides-size, side-below, other_side-below, side_no_truth}
 use Rattle.unifier.specs.SolvedForm.{SolvedForm, substitution_of}
+use Rattle.list_lemmas.proofs.Numbers.{not-less}
+use Rattle.kernel_steps.specs.declared.step.Step.TheVariants as step
+use Rattle.kbo_order.proofs.AboutMultisets.ClauseLoops.{mapped-size}
 
 -- ---- two sides, by a unifier
 
@@ -322,7 +324,7 @@ module _
         let put : PutsFunctionTerms p (substitution terms) =
         (shared_put_function_terms p false (side_of place.becomes.side r.literal_i) (side_of place.other.side r.literal_j) b
         (bound_of (clause_variables c)) 0 terms right kinds.unifier r.unified h).0 in
-        let part = part_size (substitution terms) c.literals place.becomes.literal r.literal_i r.i_there in
+        let part = mapped-size (substitution terms) c.literals place.becomes.literal r.literal_i r.i_there in
         let sides = sides_size (substitution terms) place.becomes.side r.literal_i in
         let side_small : tree_size (instance (substitution terms) (side_of place.becomes.side r.literal_i)) ≤ MOST_SYMBOLS =
         omega (arith, part, sides, factor_terms.size, small) in
@@ -332,8 +334,8 @@ module _
             there = there;
             infers =
                 factoring_sized g.order has d false (ap rule under ∙ g.gives) g.names
-                (ap₂ ◌||◌ (not_large MOST_SYMBOLS (clause_size (clause_instance (wide g.order terms) c)) premise_small)
-                (not_large MOST_SYMBOLS (clause_size d) d_small));
+                (ap₂ ◌||◌ (not-less MOST_SYMBOLS (clause_size (clause_instance (wide g.order terms) c)) premise_small)
+                (not-less MOST_SYMBOLS (clause_size d) d_small));
           };
           of_key = refl;
           right_step =

@@ -1,5 +1,5 @@
 -- Equality resolution of a literal, by a most general unifier of its sides.
-use Rattle.std.proofs.Common.{◌≡◌, ℕ, ◌+◌, ◌<◌, ◌≤◌, Bool, true, false, ◌||◌, ◌==◌, not, Option, None, Some, List, length, refl, ap, ap₂, sym, ◌∙◌, subst, arith}
+use Rattle.std.proofs.Common.{◌≡◌, ℕ, ◌+◌, ◌<◌, ◌≤◌, Bool, true, false, ◌||◌, ◌==◌, Option, None, Some, List, length, refl, ap, ap₂, sym, ◌∙◌, subst, arith}
 use Rattle.std.specs.Prelude.{sum_by, slice_get, remove}
 use Rattle.std.specs.List.{AllByRecursion, list_all}
 use Rattle.std.specs.Option.{is_some, option_map}
@@ -28,7 +28,6 @@ use Rattle.kernel_steps.specs.Named.{IsInference}
 use Rattle.kernel_steps.specs.Parents.{Parent}
 use Rattle.kernel_steps.specs.Symbols.{symbols_pass, literal_symbols_pass}
 use Rattle.kernel_steps.specs.declared.key.Key.TheVariants.{Refl}
-use Rattle.kernel_steps.specs.declared.step.Step.TheVariants as step
 use Rattle.kernel_steps.proofs.AboutCalls.SymbolLemmas.{side-passes}
 use Rattle.unifier.specs.Renaming.{AreNamedTerms}
 use Rattle.kernel_steps.specs.Sized.{is_large}
@@ -40,9 +39,13 @@ use Rattle.eq_rules.specs.declared.inference.Made.TheVariants.{Heavy}
 use Rattle.eq_rules.proofs.AboutConclusions.WideLemmas.{Has, wide, numbered, wide-general, wide-literals, renamed-literals, literals_back, renamed-literals_size}
 use Rattle.eq_rules.proofs.AboutConclusions.ConclusionLemmas.{conclusion_numbered, bindings_numbered, binds_renamed, verdict_by_one, numbered_literals, numbered-has}
 use Rattle.eq_rules.proofs.AboutConclusions.BindingLemmas.{bound_functions, bound_small, bound_symbols, unified_small, unified_symbols}
-use Rattle.eq_rules.proofs.AboutFactoring.FactorAnswers.{part_size, sides_size}
-use Rattle.eq_rules.proofs.AboutConclusions.PremiseLemmas.{Terms, terms_of, clause-below, literal-below, sides_put, sides_no_truth, literals-onward, unifier-after_terms, has-literals, not_large}
+use Rattle.eq_rules.proofs.AboutFactoring.FactorAnswers.{sides_size}
+use Rattle.eq_rules.proofs.AboutConclusions.PremiseLemmas.{Terms, terms_of, clause-below, literal-below, sides_put, sides_no_truth, literals-onward, unifier-after_terms, has-literals}
 use Rattle.unifier.specs.SolvedForm.{SolvedForm, substitution_of}
+use Rattle.list_lemmas.proofs.Numbers.{not-less}
+use Rattle.list_lemmas.proofs.Bools.{not-false}
+use Rattle.kernel_steps.specs.declared.step.Step.TheVariants as step
+use Rattle.kbo_order.proofs.AboutMultisets.ClauseLoops.{mapped-size}
 
 -- ---- eligible literals
 
@@ -65,15 +68,11 @@ pub other_not_eligible :
 other_not_eligible None ls i strict h = absurd (true≢false (sym h))
 other_not_eligible (Some k) ls i strict h = not-true (i == k) h
 
-chosen_is : (b : Bool) → not b ≡ false → b ≡ true
-chosen_is true h = refl
-chosen_is false h = absurd (true≢false h)
-
 pub chosen_eligible :
     (choice : Option ℕ) (ls : List TreeLiteral) (i : ℕ) (strict : Bool)
     → is_some choice ≡ true → other_chosen choice i ≡ false → eligible ls i choice strict ≡ true
 chosen_eligible None ls i strict some h = absurd (true≢false (sym some))
-chosen_eligible (Some k) ls i strict some h = chosen_is (i == k) h
+chosen_eligible (Some k) ls i strict some h = not-false (i == k) h
 
 -- ---- a literal, by a unifier
 
@@ -197,7 +196,7 @@ module _
         let d_small : clause_size d ≤ MOST_SYMBOLS = omega (arith, made, less, size_bound, small) in
         let premise_small : clause_size (clause_instance σ c) ≤ MOST_SYMBOLS = omega (arith, size_under, small) in
         let terms_small : clause_size (clause_instance (substitution terms) c) ≤ MOST_BOUND_SYMBOLS = omega (arith, terms_here.size, small) in
-        let part = part_size (substitution terms) c.literals i r.literal r.there in
+        let part = mapped-size (substitution terms) c.literals i r.literal r.there in
         let sides : literal_size (literal_instance (substitution terms) r.literal)
         ≡ tree_size (instance (substitution terms) r.literal.left) + tree_size (instance (substitution terms) r.literal.right) =
         sides_size (substitution terms) Left r.literal in
@@ -222,8 +221,8 @@ module _
                 names = g.names;
               };
               size =
-                  ap₂ ◌||◌ (not_large MOST_SYMBOLS (clause_size (clause_instance σ c)) premise_small)
-                  (not_large MOST_SYMBOLS (clause_size d) d_small);
+                  ap₂ ◌||◌ (not-less MOST_SYMBOLS (clause_size (clause_instance σ c)) premise_small)
+                  (not-less MOST_SYMBOLS (clause_size d) d_small);
             };
           };
           of_key = refl;

@@ -30,6 +30,7 @@ use Rattle.literal_selection.proofs.EligibleLemmas.{eligible_lifts}
 use Rattle.kernel_steps.specs.Inference.{has_predicate_head, have_heads_of_one_kind, other_side_not_above}
 use Rattle.kernel_steps.proofs.AboutCalls.BoundLemmas.{is_truth-application}
 use Rattle.laws_calculus.proofs.AboutLifting.UnifierLemmas.{instance-again}
+use Rattle.list_lemmas.proofs.Bools.{and-false}
 
 -- κ after σ is τ
 abbrev pub Goes : Substitution → Substitution → Substitution → Type 0
@@ -112,10 +113,6 @@ not_above κ σ τ goes side l above = not_above_before κ σ τ goes side l (gr
 
 -- ---- kinds
 
-and_false : (b : Bool) → (b && false) ≡ false
-and_false true = refl
-and_false false = refl
-
 neither_kind :
     (p : ℕ → Bool) (s u : Tree)
     → has_predicate_head p s ≡ false → is_truth s ≡ false → has_predicate_head p u ≡ false → is_truth u ≡ false
@@ -138,7 +135,7 @@ function_head :
     → (has_predicate_head p (application f ts) ≡ false) × (is_truth (application f ts) ≡ false)
 function_head p ρ f ts h =
     let parts = is_function_term-parts p f (instances ρ ts) h in (
-      ap (λ b. not (f == true_symbol) && b) parts.no_predicate ∙ and_false (not (f == true_symbol)),
+      ap (λ b. not (f == true_symbol) && b) parts.no_predicate ∙ and-false (not (f == true_symbol)),
       sym (is_truth-application ρ f ts) ∙ function_term-no_truth p (instance ρ (application f ts)) h,
     )
 

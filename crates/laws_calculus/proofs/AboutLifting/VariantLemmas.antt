@@ -1,6 +1,6 @@
 -- A substitution that can be undone on a clause is one, there, that can be undone everywhere: the other variables become variables
 -- past all that it puts in. Under it a most general unifier stays one.
-use Rattle.std.proofs.Common.{◌≡◌, ℕ, suc, max, ◌+◌, ◌-◌, ◌≤◌, ◌==◌, Bool, true, false, nat_lt, if◌then◌else◌, Option, None, Some, List, [], ◌∷◌, get_or, refl, ap, ap₂, sym, ◌∙◌, subst, inl, inr, ⊎_elim, arith}
+use Rattle.std.proofs.Common.{◌≡◌, ℕ, suc, max, ◌+◌, ◌-◌, ◌≤◌, ◌==◌, Bool, true, false, nat_lt, if◌then◌else◌, Option, Some, List, [], ◌∷◌, get_or, refl, ap, ap₂, sym, ◌∙◌, subst, inl, inr, ⊎_elim, arith}
 use Rattle.std.specs.Prelude.{flat_map, option_map, remove, unwrap_or}
 use Rattle.std.specs.List.{AllByRecursion, list_any}
 use Rattle.std.specs.Option.{is_some}
@@ -28,6 +28,7 @@ use Rattle.laws_calculus.specs.Variants.{AreVariants, CanonicalFormsAreVariants,
 use Rattle.laws_calculus.proofs.AboutCovering.ClauseLemmas.{In-either, some-In}
 use Rattle.laws_calculus.proofs.AboutLifting.UnifierLemmas.{arguments_of, first_of, rest_of, instance-again}
 use Rattle.laws_calculus.proofs.AboutLifting.LiftLemmas.{Goes, eligible_between, unchosen_between, not_above_before, no_truth_before}
+use Rattle.list_lemmas.proofs.Results.{some-mapped}
 
 -- ---- what is left as it is
 
@@ -294,10 +295,6 @@ inferences_have_variants is_predicate mode clauses (Replaced k) d e variants it 
 
 -- ---- the canonical form
 
-some_mapped : (o : Option ℕ) → is_some (option_map suc o) ≡ true → is_some o ≡ true
-some_mapped None h = h
-some_mapped (Some k) h = refl
-
 place_of-at : (v : ℕ) (ws : List ℕ) → is_some (place_of v ws) ≡ true → (k : ℕ) × (place_of v ws ≡ Some k) × ((d : ℕ) → get_or ws k d ≡ v)
 place_of-at v [] h = absurd (true≢false (sym h))
 place_of-at v (w ∷ ws) h =
@@ -305,7 +302,7 @@ place_of-at v (w ∷ ws) h =
     (λ e. (0, cond-true (v == w) (Some 0) (option_map suc (place_of v ws)) e, λ d. sym (eqb-true v w e)))
     (λ e.
     let later : place_of v (w ∷ ws) ≡ option_map suc (place_of v ws) = cond-false (v == w) (Some 0) (option_map suc (place_of v ws)) e in
-    let found = place_of-at v ws (some_mapped (place_of v ws) (sym (ap is_some later) ∙ h)) in
+    let found = place_of-at v ws (some-mapped (place_of v ws) (sym (ap is_some later) ∙ h)) in
     (suc found.0, later ∙ ap (option_map suc) found.1, found.2))
     (cases_Bool (v == w))
 

@@ -27,6 +27,7 @@ use Rattle.kernel_steps.proofs.WorkedExamples.SuperpositionExamples.{superpositi
 use Rattle.laws_calculus.specs.Coverage.{ReducesThrough, CoversInstancesOf}
 use Rattle.laws_calculus.specs.Lifting.{among, IsMember, HasConclusionsOf}
 use Rattle.laws_calculus.proofs.AboutCovering.CoverLemmas.{subsumed_covered}
+use Rattle.list_lemmas.proofs.Places.{get-only}
 
 -- ---- a left side, a negative literal
 
@@ -113,10 +114,6 @@ two_steps = (
 
 -- ---- nothing is named among r alone
 
-only : {X : Type 0} (x y : X) (k : ℕ) → slice_get (x ∷ []) k ≡ Some y → x ≡ y
-only x y zero there = same_Some x y there
-only x y (suc k) there = absurd (none-some y there)
-
 no_superposition :
     (s z : Side) (place : List ℕ) (old : Tree) (σ τ : Substitution)
     → subterm place (side_of z r) ≡ Some old → have_heads_of_one_kind is_predicate (side_of s r) old ≡ true
@@ -139,8 +136,8 @@ superposition_of_r :
     (i : ℕ) (s : Side) (j : ℕ) (z : Side) (place : List ℕ) (d : TreeClause)
     → NamedSuperposition is_predicate select_nothing alone i s alone j z place d → ⊥
 superposition_of_r i s j z place d n =
-    let from_is : r ≡ n.from = only r n.from i n.from_there in
-    let into_is : r ≡ n.into = only r n.into j n.into_there in
+    let from_is : r ≡ n.from = get-only r n.from i n.from_there in
+    let into_is : r ≡ n.into = get-only r n.into j n.into_there in
     no_superposition s z place n.old n.first_unifier n.second_unifier
     (ap (λ (l : TreeLiteral). subterm place (side_of z l)) into_is ∙ n.old_there)
     (ap (λ (l : TreeLiteral). have_heads_of_one_kind is_predicate (side_of s l) n.old) from_is ∙ n.one_kind)
@@ -152,7 +149,7 @@ superposition_of_r i s j z place d n =
 resolution_of_r : (i : ℕ) (d : TreeClause) → NamedResolution select_nothing alone i d → ⊥
 resolution_of_r i d n =
     let parts = resolved-parts (literals_instance n.unifier (r ∷ [])) i d.literals n.concludes in
-    true≢false (ap (λ (l : TreeLiteral). l.positive) (only r parts.literal i parts.literal_there) ∙ parts.negative)
+    true≢false (ap (λ (l : TreeLiteral). l.positive) (get-only r parts.literal i parts.literal_there) ∙ parts.negative)
 
 two_places : (i j : ℕ) (l m : TreeLiteral) → slice_get (r ∷ []) i ≡ Some l → slice_get (r ∷ []) j ≡ Some m → (i == j) ≡ false → ⊥
 two_places zero zero l m at_i at_j differ = true≢false differ
@@ -169,15 +166,15 @@ none_among_r : (key : Key) (d : TreeClause) → IsInference is_predicate select_
 none_among_r (Para first from s second into z place) d it =
     superposition_of_r from s into z place d
     (subst (λ (c : TreeClause). NamedSuperposition is_predicate select_nothing alone from s c into z place d)
-    (sym (only alone it.second_clause second it.second_there))
+    (sym (get-only alone it.second_clause second it.second_there))
     (subst (λ (c : TreeClause). NamedSuperposition is_predicate select_nothing c from s it.second_clause into z place d)
-    (sym (only alone it.first_clause first it.first_there)) it.infers))
+    (sym (get-only alone it.first_clause first it.first_there)) it.infers))
 none_among_r (Refl k i) d it =
     resolution_of_r i d
-    (subst (λ (c : TreeClause). NamedResolution select_nothing c i d) (sym (only alone it.clause k it.there)) it.infers)
+    (subst (λ (c : TreeClause). NamedResolution select_nothing c i d) (sym (get-only alone it.clause k it.there)) it.infers)
 none_among_r (Factor k i s j z) d it =
     factoring_of_r i s j z d
-    (subst (λ (c : TreeClause). NamedFactoring is_predicate select_nothing c i s j z d) (sym (only alone it.clause k it.there)) it.infers)
+    (subst (λ (c : TreeClause). NamedFactoring is_predicate select_nothing c i s j z d) (sym (get-only alone it.clause k it.there)) it.infers)
 none_among_r (Replaced k) d it = it
 
 pub nothing_named : HasConclusionsOf is_predicate select_nothing (λ n. true) (slice_get (clause (r ∷ []) ∷ [])) (Contains [])
@@ -274,9 +271,9 @@ only_resolution (suc i) d n = absurd (omega (arith, eqb-true (suc i) 0 n.is_elig
 -- what holds of p(X1) holds of one conclusion of each
 has_resolved : (Holds : TreeClause → Type 0) → Holds resolved_to → HasConclusionsOf is_predicate select_negative every (slice_get (resolves ∷ [])) Holds
 has_resolved Holds holds (Para first i s second j z place) d it =
-    absurd (is_chosen resolves it.first_clause refl (only resolves it.first_clause first it.first_there) it.infers.from_eligible.nothing_chosen)
+    absurd (is_chosen resolves it.first_clause refl (get-only resolves it.first_clause first it.first_there) it.infers.from_eligible.nothing_chosen)
 has_resolved Holds holds (Refl k i) d it =
-    let is : resolves ≡ it.clause = only resolves it.clause k it.there in (
+    let is : resolves ≡ it.clause = get-only resolves it.clause k it.there in (
       resolved_to,
       holds,
       record {
@@ -288,7 +285,7 @@ has_resolved Holds holds (Refl k i) d it =
       },
     )
 has_resolved Holds holds (Factor k i s j z) d it =
-    absurd (is_chosen resolves it.clause refl (only resolves it.clause k it.there) it.infers.i_eligible.nothing_chosen)
+    absurd (is_chosen resolves it.clause refl (get-only resolves it.clause k it.there) it.infers.i_eligible.nothing_chosen)
 has_resolved Holds holds (Replaced k) d it = absurd it
 
 pub one_listed :

@@ -130,5 +130,5 @@ are_inputs = record {
 
 pub nothing_saturated : SaturatedIsSaturated → IsSaturated functions select_negative one_tautology.inputs []
 nothing_saturated law =
-    law usage functions one_tautology tautology_history are_inputs refl refl
+    law usage functions one_tautology tautology_history are_inputs refl
     (All-cons (HasSymbolsOf functions) tautology [] refl (All-nil (HasSymbolsOf functions))) tautology_goes refl

@@ -1,6 +1,6 @@
--- What is carried through a history, over the parts of a record: inputs, registered clauses and the conclusions of counted inferences are
--- covered by what is held. Held are the living clauses, and in the middle of an event those that are due. One lemma for each kind of
--- step: a clause is registered, or lives already, dies, or inferences are counted.
+-- What is carried through a history, over the parts of a record and under a choice of true names: inputs, registered clauses and the conclusions
+-- of counted inferences are covered by what is held, where they are awake. Held are the living clauses that are awake, and in the middle of an
+-- event those that are due. One lemma for each kind of step: a clause is registered, or is covered already, dies, or inferences are counted.
 use Rattle.std.proofs.Common.{◌≡◌, ℕ, ◌<◌, Bool, true, false, not, ◌&&◌, ◌||◌, ◌==◌, ◌⊎◌, List, [], ◌∷◌, ◌++◌, length, refl, ap, sym, ◌∙◌, subst, inl, inr, ⊎_elim, arith}
 use Rattle.std.specs.Prelude.{Option, Some, option_map, slice_get, nat_lt}
 use Rattle.std.proofs.lemmas.Bool.{and_parts, and_from, or_from, cases_Bool, not-true, not_from_false, eqb-true, ltb-true, lt-ltb, false_from_ne_true}
@@ -19,10 +19,11 @@ use Rattle.pool_history.specs.Record.{PoolRecord, Registered, Death, has_died, l
 use Rattle.pool_history.specs.Registering.{has_none}
 use Rattle.pool_history.proofs.AboutCounting.CountedRecords.{Lookup, lookup-more}
 use Rattle.pool_history.proofs.AboutRecords.EditLemmas.{get-end, get-middle}
-use Rattle.pool_history.proofs.AboutRecords.ItemLemmas.{clause_eq-says, clause-numbered, item-at}
+use Rattle.pool_history.proofs.AboutRecords.ItemLemmas.{clauses-equal, clause-numbered, item-at}
 use Rattle.laws_calculus.specs.Coverage.{CoversEach}
 use Rattle.laws_calculus.proofs.AboutCovering.ClauseLemmas.{In-either}
 use Rattle.laws_calculus.proofs.AboutCovering.EachLemmas.{each-held, each-across}
+use Rattle.laws_saturation.proofs.AboutCarried.AwakeLemmas.{NameChoice, awake}
 use Rattle.laws_saturation.proofs.AboutCarried.VictimLemmas.{VictimsRegistered}
 
 -- ---- what is held
@@ -35,9 +36,16 @@ pub record Living (registered : List Registered) (deaths : List Death) (c : Tree
   pub lives : alive registered deaths number ≡ true
   pub there : Lookup registered number ≡ Some c
 
--- it lives, or is due
-abbrev pub HeldBy : List Registered → List Death → List TreeClause → TreeClause → Type 0
-HeldBy registered deaths due c = Living registered deaths c ⊎ In c due
+-- it lives, or is due; and it is awake
+abbrev pub HeldBy : NameChoice → List Registered → List Death → List TreeClause → TreeClause → Type 0
+HeldBy choice registered deaths due c = (Living registered deaths c ⊎ In c due) × (awake choice c ≡ true)
+
+-- more is due
+pub held-due :
+    (choice : NameChoice) (registered : List Registered) (deaths : List Death) (few many : List TreeClause) (c : TreeClause)
+    → (In c few → In c many) → HeldBy choice registered deaths few c → HeldBy choice registered deaths many c
+held-due choice registered deaths few many c more held =
+    (⊎_elim (λ (living : Living registered deaths c). inl living) (λ (waiting : In c few). inr (more waiting)) held.0, held.1)
 
 -- ---- lists of clauses
 
@@ -77,6 +85,20 @@ alive-last registered deaths x victims =
     (not_from_false (has_died deaths last)
     (false_from_ne_true (has_died deaths last) (λ died. let less : last < last = ltb-true last last (victims last died) in absurd (omega (arith, less)))))
 
+pub living-more :
+    (registered more : List Registered) (deaths : List Death) (c : TreeClause) → Living registered deaths c → Living (registered ++ more) deaths c
+living-more registered more deaths c living = record {
+  number = living.number;
+  lives = alive-more registered more deaths living.number living.lives;
+  there = lookup-more registered more living.number c living.there;
+}
+
+pub living-last :
+    (registered : List Registered) (deaths : List Death) (x : Registered)
+    → VictimsRegistered registered deaths → Living (registered ++ x ∷ []) deaths x.clause
+living-last registered deaths x victims =
+    record { number = length registered; lives = alive-last registered deaths x victims; there = lookup-last registered x }
+
 -- a number that lives and isn't the victim's lives on
 pub alive-on :
     (registered : List Registered) (deaths : List Death) (d : Death) (n : ℕ)
@@ -89,8 +111,8 @@ alive-on registered deaths d n is other =
     ∙ or_from (has_died deaths n) ((n == d.victim) || false) (not-true (has_died deaths n) parts.1) (or_from (n == d.victim) false other refl)))
 
 -- a clause of which has_living tells
-pub lived : (r : PoolRecord) (c : TreeClause) → c.names ≡ [] → has_living r c ≡ true → Living r.registered r.deaths c
-lived r c no_names has =
+pub lived : (r : PoolRecord) (c : TreeClause) → has_living r c ≡ true → Living r.registered r.deaths c
+lived r c has =
     let found = any-In (λ n. lives r n && clause_eq c (clause_numbered r n)) (numbers_of r) has in
     let n : ℕ = found.0 in
     let parts = and_parts (lives r n) (clause_eq c (clause_numbered r n)) found.2 in
@@ -99,7 +121,7 @@ lived r c no_names has =
     let at = item-at r.registered n within in
     let x : Registered = at.0 in
     let there : Lookup r.registered n ≡ Some x.clause = ap (λ (o : Option Registered). option_map (λ (z : Registered). z.clause) o) at.1 in
-    let same : c ≡ x.clause = clause_eq-says c (clause_numbered r n) no_names parts.1 ∙ clause-numbered r n x.clause there in
+    let same : c ≡ x.clause = clauses-equal c (clause_numbered r n) parts.1 ∙ clause-numbered r n x.clause there in
     record { number = n; lives = parts.0; there = there ∙ ap Some (sym same) }
 
 module _ (is_predicate : ℕ → Bool) (mode : SelectionMode) (few many : ℕ → Option TreeClause) (more : (n : ℕ) (c : TreeClause) → few n ≡ Some c → many n ≡ Some c) where
@@ -117,22 +139,26 @@ module _ (is_predicate : ℕ → Bool) (mode : SelectionMode) (few many : ℕ �
 
 -- ---- what is carried
 
-module _ {is_predicate : ℕ → Bool} (functions : FunctionSymbols is_predicate) (mode : SelectionMode) (inputs : List TreeClause) where
+module _ {is_predicate : ℕ → Bool} (choice : NameChoice) (functions : FunctionSymbols is_predicate) (mode : SelectionMode) (inputs : List TreeClause) where
+  -- where it is awake
+  abbrev pub CoversAwake : (TreeClause → Type 0) → TreeClause → Type 0
+  CoversAwake Holds c = awake choice c ≡ true → CoversEach functions Holds c
+
   -- the key was set aside, or a clause was replaced, or a conclusion of the inference is covered
   abbrev pub IsSettled : List Registered → List Key → (TreeClause → Type 0) → Key → Type 0
   IsSettled registered set_aside Holds key =
       In key set_aside
       ⊎ (((n : ℕ) × (key ≡ Replaced n))
-      ⊎ ((e : TreeClause) × IsInference is_predicate mode (Lookup registered) key e × CoversEach functions Holds e))
+      ⊎ ((e : TreeClause) × IsInference is_predicate mode (Lookup registered) key e × CoversAwake Holds e))
 
   pub record IsCarried (registered : List Registered) (counted set_aside : List Key) (Holds : TreeClause → Type 0) : Type 0 where
     pub inputs_covered : (c : TreeClause) → In c inputs → CoversEach functions Holds c
-    pub clauses_covered : (n : ℕ) (c : TreeClause) → Lookup registered n ≡ Some c → CoversEach functions Holds c
+    pub clauses_covered : (n : ℕ) (c : TreeClause) → Lookup registered n ≡ Some c → CoversAwake Holds c
     pub keys_settled : (key : Key) → In key counted → IsSettled registered set_aside Holds key
     pub some_literals : (n : ℕ) (c : TreeClause) → Lookup registered n ≡ Some c → has_none c.literals ≡ false
 
   abbrev pub Open : PoolRecord → List TreeClause → Type 0
-  Open r due = IsCarried r.registered r.counted r.set_aside (HeldBy r.registered r.deaths due)
+  Open r due = IsCarried r.registered r.counted r.set_aside (HeldBy choice r.registered r.deaths due)
 
   -- ---- across
 
@@ -142,10 +168,10 @@ module _ {is_predicate : ℕ → Bool} (functions : FunctionSymbols is_predicate
       → (key : Key) → IsSettled registered set_aside Middle key → IsSettled registered set_aside Holds key
   settled-across registered set_aside Middle Holds each key is =
       ⊎_elim (λ (aside : In key set_aside). inl aside)
-      (λ (rest : ((n : ℕ) × (key ≡ Replaced n)) ⊎ ((e : TreeClause) × IsInference is_predicate mode (Lookup registered) key e × CoversEach functions Middle e)).
+      (λ (rest : ((n : ℕ) × (key ≡ Replaced n)) ⊎ ((e : TreeClause) × IsInference is_predicate mode (Lookup registered) key e × CoversAwake Middle e)).
       ⊎_elim (λ (replaced : (n : ℕ) × (key ≡ Replaced n)). inr (inl replaced))
-      (λ (concluded : (e : TreeClause) × IsInference is_predicate mode (Lookup registered) key e × CoversEach functions Middle e).
-      inr (inr (concluded.0, concluded.1, each-across functions Middle Holds concluded.0 each concluded.2)))
+      (λ (concluded : (e : TreeClause) × IsInference is_predicate mode (Lookup registered) key e × CoversAwake Middle e).
+      inr (inr (concluded.0, concluded.1, λ is_awake. each-across functions Middle Holds concluded.0 each (concluded.2 is_awake))))
       rest)
       is
 
@@ -155,7 +181,7 @@ module _ {is_predicate : ℕ → Bool} (functions : FunctionSymbols is_predicate
       → IsCarried registered counted set_aside Middle → IsCarried registered counted set_aside Holds
   carried-across registered counted set_aside Middle Holds each carried = record {
     inputs_covered = λ c there. each-across functions Middle Holds c each (carried.inputs_covered c there);
-    clauses_covered = λ n c there. each-across functions Middle Holds c each (carried.clauses_covered n c there);
+    clauses_covered = λ n c there is_awake. each-across functions Middle Holds c each (carried.clauses_covered n c there is_awake);
     keys_settled = λ key there. settled-across registered set_aside Middle Holds each key (carried.keys_settled key there);
     some_literals = carried.some_literals;
   }
@@ -174,9 +200,9 @@ module _ {is_predicate : ℕ → Bool} (functions : FunctionSymbols is_predicate
       → (key : Key) → IsSettled registered set_aside Holds key → IsSettled (registered ++ x ∷ []) set_aside Holds key
   settled-registered registered x set_aside Holds key is =
       ⊎_elim (λ (aside : In key set_aside). inl aside)
-      (λ (rest : ((n : ℕ) × (key ≡ Replaced n)) ⊎ ((e : TreeClause) × IsInference is_predicate mode (Lookup registered) key e × CoversEach functions Holds e)).
+      (λ (rest : ((n : ℕ) × (key ≡ Replaced n)) ⊎ ((e : TreeClause) × IsInference is_predicate mode (Lookup registered) key e × CoversAwake Holds e)).
       ⊎_elim (λ (replaced : (n : ℕ) × (key ≡ Replaced n)). inr (inl replaced))
-      (λ (concluded : (e : TreeClause) × IsInference is_predicate mode (Lookup registered) key e × CoversEach functions Holds e).
+      (λ (concluded : (e : TreeClause) × IsInference is_predicate mode (Lookup registered) key e × CoversAwake Holds e).
       inr (inr (
         concluded.0,
         inference-more is_predicate mode (Lookup registered) (Lookup (registered ++ x ∷ [])) (lookup-more registered (x ∷ [])) key concluded.0 concluded.1,
@@ -189,31 +215,28 @@ module _ {is_predicate : ℕ → Bool} (functions : FunctionSymbols is_predicate
   pub registered-carried :
       (registered : List Registered) (deaths : List Death) (counted set_aside : List Key) (x : Registered) (due : List TreeClause)
       → VictimsRegistered registered deaths → has_none x.clause.literals ≡ false
-      → IsCarried registered counted set_aside (HeldBy registered deaths (x.clause ∷ due))
-      → IsCarried (registered ++ x ∷ []) counted set_aside (HeldBy (registered ++ x ∷ []) deaths due)
+      → IsCarried registered counted set_aside (HeldBy choice registered deaths (x.clause ∷ due))
+      → IsCarried (registered ++ x ∷ []) counted set_aside (HeldBy choice (registered ++ x ∷ []) deaths due)
   registered-carried registered deaths counted set_aside x due victims some carried =
       let now : List Registered = registered ++ x ∷ [] in
-      let Holds : TreeClause → Type 0 = HeldBy now deaths due in
+      let Holds : TreeClause → Type 0 = HeldBy choice now deaths due in
       let new : Living now deaths x.clause =
-      record { number = length registered; lives = alive-last registered deaths x victims; there = lookup-last registered x } in
-      let held : (d : TreeClause) → HeldBy registered deaths (x.clause ∷ due) d → Holds d = λ d h.
-      ⊎_elim
-      (λ (living : Living registered deaths d).
-      inl (record {
-        number = living.number;
-        lives = alive-more registered (x ∷ []) deaths living.number living.lives;
-        there = lookup-more registered (x ∷ []) living.number d living.there;
-      }))
-      (λ (waiting : (d ≡ x.clause) ⊎ In d due).
-      ⊎_elim (λ (same : d ≡ x.clause). inl (subst (Living now deaths) (sym same) new)) (λ (later : In d due). inr later) waiting)
-      h in
-      let before = carried-more registered counted set_aside (HeldBy registered deaths (x.clause ∷ due)) Holds held carried in
+      living-last registered deaths x victims in
+      let held : (d : TreeClause) → HeldBy choice registered deaths (x.clause ∷ due) d → Holds d = λ d h. (
+        ⊎_elim
+            (λ (living : Living registered deaths d). inl (living-more registered (x ∷ []) deaths d living))
+            (λ (waiting : (d ≡ x.clause) ⊎ In d due).
+            ⊎_elim (λ (same : d ≡ x.clause). inl (subst (Living now deaths) (sym same) new)) (λ (later : In d due). inr later) waiting)
+            h.0,
+        h.1,
+      ) in
+      let before = carried-more registered counted set_aside (HeldBy choice registered deaths (x.clause ∷ due)) Holds held carried in
       record {
         inputs_covered = before.inputs_covered;
-        clauses_covered = λ n c there.
+        clauses_covered = λ n c there is_awake.
             ⊎_elim
-            (λ (old : Lookup registered n ≡ Some c). before.clauses_covered n c old)
-            (λ (last : (n ≡ length registered) × (x.clause ≡ c)). each-held functions Holds c (inl (subst (Living now deaths) last.1 new)))
+            (λ (old : Lookup registered n ≡ Some c). before.clauses_covered n c old is_awake)
+            (λ (last : (n ≡ length registered) × (x.clause ≡ c)). each-held functions Holds c (inl (subst (Living now deaths) last.1 new), is_awake))
             (lookup-end registered x n c there);
         keys_settled = λ key there. settled-registered registered x set_aside Holds key (before.keys_settled key there);
         some_literals = λ n c there.
@@ -223,20 +246,34 @@ module _ {is_predicate : ℕ → Bool} (functions : FunctionSymbols is_predicate
             (lookup-end registered x n c there);
       }
 
-  -- or lives already
-  pub living-carried :
+  -- or is registered without being due
+  pub beside-carried :
+      (registered : List Registered) (deaths : List Death) (counted set_aside : List Key) (x : Registered) (due : List TreeClause)
+      → VictimsRegistered registered deaths → has_none x.clause.literals ≡ false
+      → IsCarried registered counted set_aside (HeldBy choice registered deaths due)
+      → IsCarried (registered ++ x ∷ []) counted set_aside (HeldBy choice (registered ++ x ∷ []) deaths due)
+  beside-carried registered deaths counted set_aside x due victims some carried =
+      registered-carried registered deaths counted set_aside x due victims some
+      (carried-more registered counted set_aside (HeldBy choice registered deaths due) (HeldBy choice registered deaths (x.clause ∷ due))
+      (λ d held. held-due choice registered deaths due (x.clause ∷ due) d (λ waiting. inr waiting) held) carried)
+
+  -- or, where it is awake, is covered without being due
+  pub due-carried :
       (registered : List Registered) (deaths : List Death) (counted set_aside : List Key) (c : TreeClause) (due : List TreeClause)
-      → Living registered deaths c
-      → IsCarried registered counted set_aside (HeldBy registered deaths (c ∷ due))
-      → IsCarried registered counted set_aside (HeldBy registered deaths due)
-  living-carried registered deaths counted set_aside c due living carried =
-      carried-more registered counted set_aside (HeldBy registered deaths (c ∷ due)) (HeldBy registered deaths due)
+      → CoversAwake (HeldBy choice registered deaths due) c
+      → IsCarried registered counted set_aside (HeldBy choice registered deaths (c ∷ due))
+      → IsCarried registered counted set_aside (HeldBy choice registered deaths due)
+  due-carried registered deaths counted set_aside c due covers carried =
+      let Holds : TreeClause → Type 0 = HeldBy choice registered deaths due in
+      carried-across registered counted set_aside (HeldBy choice registered deaths (c ∷ due)) Holds
       (λ d h.
       ⊎_elim
-      (λ (lives : Living registered deaths d). inl lives)
+      (λ (lives : Living registered deaths d). each-held functions Holds d (inl lives, h.1))
       (λ (waiting : (d ≡ c) ⊎ In d due).
-      ⊎_elim (λ (same : d ≡ c). inl (subst (Living registered deaths) (sym same) living)) (λ (later : In d due). inr later) waiting)
-      h)
+      ⊎_elim
+      (λ (same : d ≡ c). subst (CoversEach functions Holds) (sym same) (covers (subst (λ (e : TreeClause). awake choice e ≡ true) same h.1)))
+      (λ (later : In d due). each-held functions Holds d (inr later, h.1)) waiting)
+      h.0)
       carried
 
   -- ---- a clause that dies
@@ -244,12 +281,12 @@ module _ {is_predicate : ℕ → Bool} (functions : FunctionSymbols is_predicate
   -- it is covered by what lives without it, and what is due
   pub dead-carried :
       (registered : List Registered) (deaths : List Death) (counted set_aside : List Key) (d : Death) (c : TreeClause) (due : List TreeClause)
-      → Lookup registered d.victim ≡ Some c → CoversEach functions (HeldBy registered (deaths ++ d ∷ []) due) c
-      → IsCarried registered counted set_aside (HeldBy registered deaths [])
-      → IsCarried registered counted set_aside (HeldBy registered (deaths ++ d ∷ []) due)
+      → Lookup registered d.victim ≡ Some c → CoversAwake (HeldBy choice registered (deaths ++ d ∷ []) due) c
+      → IsCarried registered counted set_aside (HeldBy choice registered deaths [])
+      → IsCarried registered counted set_aside (HeldBy choice registered (deaths ++ d ∷ []) due)
   dead-carried registered deaths counted set_aside d c due there covers carried =
-      let Holds : TreeClause → Type 0 = HeldBy registered (deaths ++ d ∷ []) due in
-      carried-across registered counted set_aside (HeldBy registered deaths []) Holds
+      let Holds : TreeClause → Type 0 = HeldBy choice registered (deaths ++ d ∷ []) due in
+      carried-across registered counted set_aside (HeldBy choice registered deaths []) Holds
       (λ e h.
       ⊎_elim
       (λ (living : Living registered deaths e).
@@ -257,13 +294,13 @@ module _ {is_predicate : ℕ → Bool} (functions : FunctionSymbols is_predicate
       (λ (victim : (living.number == d.victim) ≡ true).
       let same : c ≡ e =
       same_Some c e (sym there ∙ ap (Lookup registered) (sym (eqb-true living.number d.victim victim)) ∙ living.there) in
-      subst (CoversEach functions Holds) same covers)
+      subst (CoversEach functions Holds) same (covers (subst (λ (x : TreeClause). awake choice x ≡ true) (sym same) h.1)))
       (λ (other : (living.number == d.victim) ≡ false).
       each-held functions Holds e
-      (inl (record { number = living.number; lives = alive-on registered deaths d living.number living.lives other; there = living.there })))
+      (inl (record { number = living.number; lives = alive-on registered deaths d living.number living.lives other; there = living.there }), h.1))
       (cases_Bool (living.number == d.victim)))
       (λ (none : In e []). absurd none)
-      h)
+      h.0)
       carried
 
   -- ---- countings
@@ -273,7 +310,7 @@ module _ {is_predicate : ℕ → Bool} (functions : FunctionSymbols is_predicate
       → (key : Key) → IsSettled registered set_aside Holds key → IsSettled registered (set_aside ++ more) Holds key
   settled-aside registered set_aside more Holds key is =
       ⊎_elim (λ (aside : In key set_aside). inl (In-left key set_aside more aside))
-      (λ (rest : ((n : ℕ) × (key ≡ Replaced n)) ⊎ ((e : TreeClause) × IsInference is_predicate mode (Lookup registered) key e × CoversEach functions Holds e)). inr rest)
+      (λ (rest : ((n : ℕ) × (key ≡ Replaced n)) ⊎ ((e : TreeClause) × IsInference is_predicate mode (Lookup registered) key e × CoversAwake Holds e)). inr rest)
       is
 
   -- keys are counted, and some set aside

@@ -1,12 +1,14 @@
 -- Each event of a lawful history keeps the state of an open pool, and what is covered. The inputs that are registered first make both.
-use Rattle.std.proofs.Common.{◌≡◌, ℕ, suc, ◌+◌, Bool, true, false, List, [], ◌∷◌, ◌++◌, map, length, append-nil, append_assoc, refl, sym, subst, inr}
+use Rattle.std.proofs.Common.{◌≡◌, ℕ, suc, ◌+◌, Bool, true, List, [], ◌∷◌, ◌++◌, map, length, append-nil, append_assoc, refl, ap, sym, ◌∙◌, subst, inr, ⊎_elim}
 use Rattle.std.specs.Prelude.{Option, None, Some, is_none, fold}
 use Rattle.std.specs.List.{list_all, AllByRecursion}
 use Rattle.std.proofs.lemmas.Bool.{true≢false}
 use Rattle.std.proofs.lemmas.Option.{none-some}
 use Rattle.fol_base.specs.Clause.{TreeClause}
 use Rattle.fol_base.specs.Symbols.{FunctionSymbols}
+use Rattle.fol_base.specs.Subsumption.{assertions}
 use Rattle.fol_base.specs.WellFormed.{SymbolUse}
+use Rattle.kbo_order.proofs.AboutMultisets.MemberLemmas.{In}
 use Rattle.kernel_steps.specs.Split.{has_number}
 use Rattle.kernel_steps.specs.Symbols.{clause_symbols_pass}
 use Rattle.kernel_steps.specs.declared.step.Step.TheVariants.{Clausify}
@@ -30,20 +32,21 @@ use Rattle.pool_history.proofs.AboutRecords.FrameLemmas.{by-if, comes-registers,
 use Rattle.pool_history.proofs.AboutRecords.GrowthLemmas.{registers-grows}
 use Rattle.pool_history.proofs.AboutLines.JoinedLemmas.{by-test}
 use Rattle.pool_history.proofs.AboutRecords.PlaceLemmas.{Placed, after-placed}
+use Rattle.pool_history.proofs.AboutLines.AssertionLemmas.{is_assertion_below}
 use Rattle.pool_history.proofs.AboutLines.PoolLineLemmas.{Sound}
 use Rattle.pool_history.proofs.AboutLines.SoundLemmas.{open-is, after-sound}
-use Rattle.pool_history.proofs.AboutLines.UnsplitLemmas.{unsplit-after}
 use Rattle.laws_saturation.specs.Found.{Find, event_finds, finds_from}
 use Rattle.laws_calculus.proofs.AboutCovering.EachLemmas.{each-held}
 use Rattle.laws_saturation.proofs.AboutCarried.CarriedLemmas.{HeldBy, Open}
 use Rattle.laws_saturation.proofs.AboutCarried.ArrivalLemmas.{OpenWith, is-closed, comes-open}
+use Rattle.laws_saturation.proofs.AboutCarried.AwakeLemmas.{NameChoice, holds, awake}
 use Rattle.laws_saturation.proofs.AboutCarried.VictimLemmas.{Victims, none-registered, victims-keep}
 use Rattle.laws_saturation.proofs.AboutCarried.MeetingLemmas.{IsToldRight, HaveMet}
 use Rattle.laws_saturation.proofs.AboutCarried.StateLemmas.{WasFound, IsState, HasState, same-state, without-state, retold-told, claimed-state}
 use Rattle.laws_saturation.proofs.AboutCarried.ReturnLemmas.{returned-state}
 use Rattle.laws_saturation.proofs.AboutClosing.CoverageLemmas.{returned-covered}
 
-module _ (usage : SymbolUse) (inputs : List TreeClause) (options : Options) (unsplit : options.split ≡ false) where
+module _ (usage : SymbolUse) (inputs : List TreeClause) (options : Options) where
   -- ---- the state
 
   -- with what the events so far found
@@ -108,7 +111,6 @@ module _ (usage : SymbolUse) (inputs : List TreeClause) (options : Options) (uns
     pub sound : Sound usage inputs r
     pub placed : Placed r
     pub stated : Stated finds r
-    pub no_parts : r.parts ≡ []
 
   after-reaches :
       (finds : List Find) (r : PoolRecord) (e : Event) → IsAllowed usage.is_predicate options r e → Reaches finds r
@@ -117,7 +119,6 @@ module _ (usage : SymbolUse) (inputs : List TreeClause) (options : Options) (uns
     sound = after-sound usage inputs options r e allowed reaches.sound;
     placed = after-placed options r e reaches.placed;
     stated = after-state finds r e allowed reaches.placed reaches.stated;
-    no_parts = unsplit-after options (e ∷ []) r unsplit reaches.no_parts;
   }
 
   pub history-reaches :
@@ -148,10 +149,10 @@ module _ (usage : SymbolUse) (inputs : List TreeClause) (options : Options) (uns
   -- ---- coverage
 
   module _
-      (functions : FunctionSymbols usage.is_predicate)
+      (choice : NameChoice) (functions : FunctionSymbols usage.is_predicate)
       (inputs_pass : list_all (clause_symbols_pass (is_allowed functions)) inputs ≡ true) where
     abbrev Carries : PoolRecord → Type 0
-    Carries r = OpenWith functions (mode_of options.select) inputs [] r
+    Carries r = OpenWith choice functions (mode_of options.select) inputs [] r
 
     after-covered : (r : PoolRecord) (e : Event) → IsAllowed usage.is_predicate options r e → (finds : List Find) → Reaches finds r → Carries r → Carries (after options r e)
     after-covered r (Claim job) allowed finds reaches carries = claimed-covered (next_given r)
@@ -161,8 +162,7 @@ module _ (usage : SymbolUse) (inputs : List TreeClause) (options : Options) (uns
         claimed-covered (Some n) =
             by-if (λ s. Carries (given_out options job n s)) (has_number n r.positions) r (record r { positions = r.positions ++ n ∷ [] }) carries carries
     after-covered r (Return batch) allowed finds reaches carries =
-        returned-covered usage functions inputs inputs_pass options unsplit batch allowed.given r
-        (record { sound = reaches.sound; no_parts = reaches.no_parts }) (λ h. (reaches.stated h).victims)
+        returned-covered usage functions inputs inputs_pass choice options batch allowed.given r reaches.sound (λ h. (reaches.stated h).victims)
         allowed.out allowed.says carries
     after-covered r (Stale job justifier) allowed finds reaches carries = carries
     after-covered r (Void job) allowed finds reaches carries = carries
@@ -193,27 +193,37 @@ module _ (usage : SymbolUse) (inputs : List TreeClause) (options : Options) (uns
     -- the inputs are registered in order
     inputs-open :
         (split : Bool) (i : ℕ) (cs : List TreeClause) (r : PoolRecord)
-        → split ≡ false → AllByRecursion (λ (c : TreeClause). c.names ≡ []) cs → Victims r
-        → OpenWith functions (mode_of options.select) inputs cs r → Carries (with_inputs split i cs r)
-    inputs-open split i [] r no_split no_names victims before = before
-    inputs-open split i (c ∷ cs) r no_split no_names victims before =
+        → AllByRecursion (λ (c : TreeClause). c.names ≡ []) cs → Victims r
+        → OpenWith choice functions (mode_of options.select) inputs cs r → Carries (with_inputs split i cs r)
+    inputs-open split i [] r no_names victims before = before
+    inputs-open split i (c ∷ cs) r no_names victims before =
         let lines : List Line = line_of (Clausify i) c ∷ [] in
         let s : PoolRecord = unless_ended (comes split lines c) r in
-        inputs-open split (suc i) cs s no_split no_names.1
+        inputs-open split (suc i) cs s no_names.1
         (victims-keep r s (registers-keeps r s (unless_ended-registers (comes split lines c) r (comes-registers split lines c r))) victims)
-        (by-test (OpenWith functions (mode_of options.select) inputs cs) (is_none r.ended) (comes split lines c r) r
+        (by-test (OpenWith choice functions (mode_of options.select) inputs cs) (is_none r.ended) (comes split lines c r) r
         (λ is_none.
-        comes-open functions (mode_of options.select) inputs split lines c cs r no_split no_names.0 victims (before (open-is r.ended is_none)))
+        comes-open choice functions (mode_of options.select) inputs split lines c cs r
+        (ap (list_all (is_assertion_below (length r.parts))) no_names.0) victims (before (open-is r.ended is_none)))
         (λ closed h. absurd (is-closed r.ended closed h)))
 
-    nothing-open : Open functions (mode_of options.select) inputs nothing_registered inputs
-    nothing-open = record {
-      inputs_covered = λ c there. each-held functions (HeldBy [] [] inputs) c (inr there);
+    -- an input asserts nothing, so it is awake
+    nothing-open : AllByRecursion (λ (c : TreeClause). c.names ≡ []) inputs → Open choice functions (mode_of options.select) inputs nothing_registered inputs
+    nothing-open no_names = record {
+      inputs_covered = λ c there. each-held functions (HeldBy choice [] [] inputs) c (inr there, input-awake inputs no_names c there);
       clauses_covered = λ n c there. absurd (none-some c there);
       keys_settled = λ key none. absurd none;
       some_literals = λ n c there. absurd (none-some c there);
     }
+      where
+        input-awake : (cs : List TreeClause) → AllByRecursion (λ (c : TreeClause). c.names ≡ []) cs → (c : TreeClause) → In c cs → awake choice c ≡ true
+        input-awake [] none c there = absurd there
+        input-awake (d ∷ ds) none c there =
+            ⊎_elim
+            (λ (here : c ≡ d). ap (awake choice) here ∙ ap (λ ns. list_all (holds choice) (assertions ns)) none.0)
+            (λ (later : In c ds). input-awake ds none.1 c later)
+            there
 
     pub started-covered : AllByRecursion (λ (c : TreeClause). c.names ≡ []) inputs → Carries begun
     started-covered no_names =
-        inputs-open options.split 0 inputs nothing_registered unsplit no_names none-registered (λ is_open. nothing-open)
+        inputs-open options.split 0 inputs nothing_registered no_names none-registered (λ is_open fits. nothing-open no_names)

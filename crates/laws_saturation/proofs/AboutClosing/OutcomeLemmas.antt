@@ -6,12 +6,11 @@ use Rattle.std.specs.List.{list_all, list_any, range_with_len}
 use Rattle.std.proofs.lemmas.Bool.{true≢false, and_parts, and_from, or_left, or_right, not-true, not_from_false, eqb-true, eq-eqb, ltb-true, cond-true, le-leb, or_cases}
 use Rattle.std.proofs.lemmas.List.Quantifiers.{position-Some}
 use Rattle.std.proofs.lemmas.Option.{none-some, cond_some}
-use Rattle.fol_base.specs.Clause.{TreeLiteral, TreeClause}
+use Rattle.fol_base.specs.Clause.{TreeClause}
 use Rattle.fol_base.specs.Symbols.{FunctionSymbols}
 use Rattle.fol_base.specs.Ground.{GroundClause}
 use Rattle.fol_base.specs.Selection.{SelectionMode}
 use Rattle.fol_base.specs.GroundInference.{GroundConclusion, GroundSuperposition, GroundResolution, GroundFactoring}
-use Rattle.fol_base.specs.Subsumption.{assertions}
 use Rattle.fol_base.specs.WellFormed.{SymbolUse}
 use Rattle.kbo_order.proofs.AboutMultisets.MemberLemmas.{In, In-contains, contains-In, In-map, map-In, In-all, none-In}
 use Rattle.kernel_steps.specs.Named.{IsInference}
@@ -20,19 +19,18 @@ use Rattle.kernel_steps.specs.Split.{has_number}
 use Rattle.kernel_steps.specs.declared.key.Key.{Key}
 use Rattle.kernel_steps.specs.declared.key.Key.TheVariants.{Para, Refl, Factor, Replaced}
 use Rattle.literal_selection.specs.Mode.{mode_of}
-use Rattle.sat_core.specs.Clause.{Valuation, literal_true, valuation_of}
+use Rattle.sat_core.specs.Clause.{clauses_true, valuation_of}
 use Rattle.clause_queue.specs.declared.choice.Choice.{Choice}
 use Rattle.clause_queue.specs.declared.choice.Choice.TheVariants.{Light, Old}
 use Rattle.laws_calculus.specs.Coverage.{CoversEach, CoversInstancesOf}
 use Rattle.laws_calculus.specs.Lifting.{among, IsMember, HasConclusionsOf}
-use Rattle.pool_history.specs.Record.{PoolRecord, Registered, GivenJob, clauses_of, clause_numbered, numbers_of, has_died, lives, waits, is_awake_under, is_awake, jobs_out, position_of}
+use Rattle.pool_history.specs.Record.{PoolRecord, Registered, GivenJob, clauses_of, clause_numbered, numbers_of, has_died, lives, waits, is_awake_under, is_awake, propositional_clauses, jobs_out, position_of}
 use Rattle.pool_history.specs.Solving.{must_solve}
 use Rattle.pool_history.specs.Claiming.{ready, next_choice, picked, can_give}
 use Rattle.pool_history.specs.Laws.{IsHeavyAmong}
 use Rattle.pool_history.specs.Replay.{replay}
 use Rattle.pool_history.specs.Outcomes.{premises, is_of_living, heavy_or_saturated, is_at_rest, outcome_by, outcome_of}
 use Rattle.pool_history.specs.Saturated.{IsSaturated, members_of}
-use Rattle.pool_history.specs.Tags.{name_of_tag}
 use Rattle.pool_history.specs.declared.options.Options.{Options}
 use Rattle.pool_history.specs.declared.outcome.Outcome.{Outcome}
 use Rattle.pool_history.specs.declared.outcome.Outcome.TheVariants.{Refuted, Saturated, Spent, Heavy}
@@ -47,7 +45,8 @@ use Rattle.laws_saturation.specs.Laws.{is_member, HeavyIsNamed}
 use Rattle.laws_calculus.proofs.AboutCovering.ClauseLemmas.{All-In}
 use Rattle.laws_calculus.proofs.AboutCovering.ClosureLemmas.{ground_conclusions_covered}
 use Rattle.laws_calculus.proofs.AboutCovering.EachLemmas.{each-more}
-use Rattle.laws_saturation.proofs.AboutCarried.CarriedLemmas.{Living, HeldBy, Open, inference-more}
+use Rattle.laws_saturation.proofs.AboutCarried.CarriedLemmas.{Living, HeldBy, Open, CoversAwake, inference-more}
+use Rattle.laws_saturation.proofs.AboutCarried.AwakeLemmas.{NameChoice, inference-awake}
 use Rattle.laws_saturation.proofs.AboutCarried.RemovalLemmas.{among-parts}
 use Rattle.laws_saturation.proofs.AboutCarried.MeetingLemmas.{front, front-lower, in-order, number-passes, all-numbered}
 use Rattle.laws_saturation.proofs.AboutCarried.StateLemmas.{WasFound, IsState}
@@ -55,7 +54,6 @@ use Rattle.laws_saturation.proofs.AboutCarried.HistoryLemmas.{Reaches}
 use Rattle.laws_saturation.proofs.AboutCarried.FixedLemmas.{OnlyFixed, fixed_are_refuted_or_spent}
 use Rattle.laws_saturation.proofs.AboutCarried.TallyLemmas.{IsFixed}
 use Rattle.laws_saturation.proofs.AboutCarried.ArrivalLemmas.{OpenWith}
-use Rattle.laws_saturation.proofs.AboutCarried.RegisteredLemmas.{registered-formed, formed-nameless}
 use Rattle.laws_saturation.proofs.AboutCarried.VictimLemmas.{living-registered}
 
 -- ---- at rest
@@ -63,6 +61,7 @@ use Rattle.laws_saturation.proofs.AboutCarried.VictimLemmas.{living-registered}
 -- Nothing waits and nothing is out; so the outcome is told by the first inference of living awake clauses that was set aside, if there is one.
 record IsDone (r : PoolRecord) (outcome : Outcome) : Type 0 where
   is_open : r.ended ≡ None
+  rests : is_at_rest r ≡ true
   none_given : r.given ≡ []
   none_ready : ready r ≡ []
   tells : heavy_or_saturated (position (is_of_living r) r.set_aside) ≡ outcome
@@ -89,6 +88,7 @@ outcome-done r outcome fixed other stands = by r.ended refl stands
         let rest = and_parts (not (can_give r)) (jobs_out r == 0) first.1 in
         record {
           is_open = is;
+          rests = rests.0;
           none_given = no-items r.given (if is_some r.solver then 1 else 0) (eqb-true (jobs_out r) 0 rest.1);
           none_ready = nothing-picked r (next_choice r) (ready r) (not-true (can_give r) rest.0);
           tells = rests.1;
@@ -178,11 +178,6 @@ conclusion-more functions mode Few Many g more conclusion =
 
 -- ---- members
 
--- a clause without names is awake
-pub nameless-awake :
-    (truth : Valuation) (parts : List (List TreeLiteral)) (c : TreeClause) → c.names ≡ [] → is_awake_under truth parts c ≡ true
-nameless-awake truth parts c no_names = ap (λ ns. list_all (λ tag. literal_true truth (name_of_tag parts tag)) (assertions ns)) no_names
-
 members-premises :
     (is_predicate : ℕ → Bool) (mode : SelectionMode) (r : PoolRecord) (key : Key) (c : TreeClause)
     → IsInference is_predicate mode (among (is_member r) (clauses_of r)) key c → list_all (is_member r) (premises key) ≡ true
@@ -258,8 +253,8 @@ last-premise is_predicate mode clauses positions (Replaced n) c is placed = absu
 -- ---- clauses that have met
 
 module _
-    (usage : SymbolUse) (inputs : List TreeClause) (options : Options) (unsplit : options.split ≡ false)
-    (finds : List Find) (r : PoolRecord) (reaches : Reaches usage inputs options unsplit finds r) (fixed : OnlyFixed r) (saturated : outcome_of r ≡ Some Saturated) where
+    (usage : SymbolUse) (inputs : List TreeClause) (options : Options)
+    (finds : List Find) (r : PoolRecord) (reaches : Reaches usage inputs options finds r) (fixed : OnlyFixed r) (saturated : outcome_of r ≡ Some Saturated) where
   abbrev the_mode : SelectionMode
   the_mode = mode_of options.select
 
@@ -283,22 +278,12 @@ module _
       let found : clauses_of r n ≡ Some at.0.clause = ap (λ (o : Option Registered). option_map (λ (x : Registered). x.clause) o) at.1 in
       found ∙ ap Some (sym (clause-numbered r n at.0.clause found))
 
-  -- nothing is split, so each is awake
-  awake : (n : ℕ) → n < length r.registered → is_awake r n ≡ true
-  awake n below =
-      nameless-awake (valuation_of r.model) r.parts (clause_numbered r n)
-      (formed-nameless usage (clause_numbered r n)
-      (registered-formed usage inputs r (record { sound = reaches.sound; no_parts = reaches.no_parts }) n (clause_numbered r n) (there n below)))
-
-  member : (n : ℕ) → lives r n ≡ true → is_member r n ≡ true
-  member n alive = and_from (lives r n) (is_awake r n) alive (awake n (within n alive))
-
   numbered : (n : ℕ) → n < length r.registered → In n (numbers_of r)
   numbered n below = in-range n 0 (length r.registered) (omega arith) (omega (arith, below))
 
-  -- the job of each is done
-  active : (n : ℕ) → lives r n ≡ true → has_number n r.active ≡ true
-  active n alive = by (has_number n r.active) refl
+  -- the job of each member is done
+  active : (n : ℕ) → lives r n ≡ true → is_awake r n ≡ true → has_number n r.active ≡ true
+  active n alive awake = by (has_number n r.active) refl
     where
       by : (b : Bool) → has_number n r.active ≡ b → b ≡ true
       by true is = refl
@@ -312,7 +297,7 @@ module _
           absurd
           (subst (In n) done.none_ready
           (in-kept (λ k. waits r k && is_awake r k) n (numbers_of r) (numbered n (within n alive))
-          (and_from (waits r n) (is_awake r n) waiting (awake n (within n alive)))))
+          (and_from (waits r n) (is_awake r n) waiting awake)))
 
   -- ---- what is named among members was counted, and not set aside
 
@@ -328,11 +313,11 @@ module _
   found-key : (key : Key) (c : TreeClause) → AmongMembers key c → FoundBy key
   found-key key c is =
       let all = members-premises usage.is_predicate the_mode r key c is in
-      let alive : (n : ℕ) → has_number n (premises key) ≡ true → lives r n ≡ true =
-      λ n premise. (and_parts (lives r n) (is_awake r n) (number-passes (is_member r) n (premises key) premise all)).0 in
+      let member : (n : ℕ) → has_number n (premises key) ≡ true → (lives r n ≡ true) × (is_awake r n ≡ true) =
+      λ n premise. and_parts (lives r n) (is_awake r n) (number-passes (is_member r) n (premises key) premise all) in
       let placed : list_all (λ n. has_number n r.positions) (premises key) ≡ true =
       all-numbered (λ n. has_number n r.positions) (premises key)
-      (λ n premise. number-passes (λ k. has_number k r.positions) n r.active (active n (alive n premise)) state.met.placed) in
+      (λ n premise. number-passes (λ k. has_number k r.positions) n r.active (active n (member n premise).0 (member n premise).1) state.met.placed) in
       let at = last-premise usage.is_predicate the_mode (among (is_member r) (clauses_of r)) r.positions key c is placed in
       record {
         last = at.last;
@@ -348,10 +333,10 @@ module _
             (or_cases (n == at.last) (has_number n (front at.last r.positions))
             (number-passes (λ k. (k == at.last) || has_number k (front at.last r.positions)) n (premises key) premise at.earlier))));
         was_found =
-            state.met.met at.last (active at.last (alive at.last at.is_premise)) key c
+            state.met.met at.last (active at.last (member at.last at.is_premise).0 (member at.last at.is_premise).1) key c
             (and_from (has_number at.last (premises key)) (list_all (λ n. (n == at.last) || has_number n (front at.last r.positions)) (premises key)) at.is_premise at.earlier)
             (all-numbered (λ n. not (has_died r.deaths n)) (premises key)
-            (λ n premise. (and_parts (nat_lt n (length r.registered)) (not (has_died r.deaths n)) (alive n premise)).1))
+            (λ n premise. (and_parts (nat_lt n (length r.registered)) (not (has_died r.deaths n)) (member n premise).0).1))
             (member-inference usage.is_predicate the_mode r key c is);
       }
 
@@ -375,12 +360,18 @@ module _
 
   -- ---- what members cover
 
-  module _ (functions : FunctionSymbols usage.is_predicate) (covered : OpenWith functions the_mode inputs [] r) where
-    carried : Open functions the_mode inputs r []
-    carried = covered done.is_open
+  -- the model that the pool ends with
+  abbrev pub final : NameChoice
+  final = record { truth = valuation_of r.model; parts = r.parts }
+
+  module _
+      (functions : FunctionSymbols usage.is_predicate) (models : is_at_rest r ≡ true → clauses_true (valuation_of r.model) (propositional_clauses r) ≡ true)
+      (covered : OpenWith final functions the_mode inputs [] r) where
+    carried : Open final functions the_mode inputs r []
+    carried = covered done.is_open (record { agrees = λ tag within. refl; model = models done.rests })
 
     abbrev Held : TreeClause → Type 0
-    Held c = HeldBy r.registered r.deaths [] c
+    Held c = HeldBy final r.registered r.deaths [] c
 
     listed : (c : TreeClause) → Held c → Contains (members_of r) c
     listed c held =
@@ -390,9 +381,11 @@ module _
         subst (Contains (members_of r)) (clause-numbered r n c living.there)
         (In-contains (clause_numbered r n) (members_of r)
         (In-map (clause_numbered r) n (filter (is_member r) (numbers_of r))
-        (in-kept (is_member r) n (numbers_of r) (numbered n (within n living.lives)) (member n living.lives)))))
+        (in-kept (is_member r) n (numbers_of r) (numbered n (within n living.lives))
+        (and_from (lives r n) (is_awake r n) living.lives
+        (ap (λ (d : TreeClause). is_awake_under (valuation_of r.model) r.parts d) (clause-numbered r n c living.there) ∙ held.1))))))
         (λ (none : In c []). absurd none)
-        held
+        held.0
 
     by-members : (c : TreeClause) → CoversEach functions Held c → CoversInstancesOf functions (members_of r) c
     by-members c covers = each-more functions Held (Contains (members_of r)) c listed covers
@@ -407,15 +400,26 @@ module _
           cond-true (is_member r at.0) (clauses_of r at.0) None found.0 ∙ there at.0 below ∙ ap Some (sym at.2),
         )
 
+    -- the premises are awake
+    awake-premises : (key : Key) (d : TreeClause) → AmongMembers key d → list_all (is_awake r) (premises key) ≡ true
+    awake-premises key d is =
+        all-numbered (is_awake r) (premises key)
+        (λ n premise.
+        (and_parts (lives r n) (is_awake r n)
+        (number-passes (is_member r) n (premises key) premise (members-premises usage.is_predicate the_mode r key d is))).1)
+
     conclusions : HasConclusionsOf usage.is_predicate the_mode (is_member r) (clauses_of r) (CoversInstancesOf functions (members_of r))
     conclusions key d is =
         ⊎_elim
         (λ (aside : In key r.set_aside). absurd (not-aside key d is aside))
-        (λ (rest : ((n : ℕ) × (key ≡ Replaced n)) ⊎ ((e : TreeClause) × IsInference usage.is_predicate the_mode (Lookup r.registered) key e × CoversEach functions Held e)).
+        (λ (rest : ((n : ℕ) × (key ≡ Replaced n)) ⊎ ((e : TreeClause) × IsInference usage.is_predicate the_mode (Lookup r.registered) key e × CoversAwake final functions the_mode inputs Held e)).
         ⊎_elim
         (λ (replaced : (n : ℕ) × (key ≡ Replaced n)). absurd (subst (λ k. AmongMembers k d) replaced.1 is))
-        (λ (concluded : (e : TreeClause) × IsInference usage.is_predicate the_mode (Lookup r.registered) key e × CoversEach functions Held e).
-        (concluded.0, by-members concluded.0 concluded.2, concluded.1))
+        (λ (concluded : (e : TreeClause) × IsInference usage.is_predicate the_mode (Lookup r.registered) key e × CoversAwake final functions the_mode inputs Held e). (
+          concluded.0,
+          by-members concluded.0 (concluded.2 (inference-awake final usage.is_predicate the_mode (clauses_of r) key concluded.0 concluded.1 (awake-premises key d is))),
+          concluded.1,
+        ))
         rest)
         (carried.keys_settled key (counted-key key d is))
 

@@ -30,7 +30,6 @@ use Rattle.proving.specs.Causes.{HasCause}
 use Rattle.proving.specs.declared.proved.Proved.{Proved as ProvedPool}
 use Rattle.proving.proofs.EndLemmas.{outcomes-have-causes}
 use Rattle.pool_writer.specs.Refuted.{IsRefutationText}
-use Rattle.pool_writer.specs.Retraced.{steps_of}
 use Rattle.prover_main.specs.Names.{shown}
 use Rattle.prover_main.specs.Answer.{HasHistory, IsRefuted, HasCounted, IsSpent, IsHeavy}
 use Rattle.prover_main.specs.AnswerShape.{IsProvedForm, OutcomeSays}
@@ -92,12 +91,12 @@ module _ (formulas : List Annotated) (options : Options) (proved : ProvedPool) (
   pub is-refuted :
       (file name text : List ℕ) (conjecture : Bool)
       → proved.outcome ≡ outcome.Refuted → OutcomeSays formulas options ended outcome.Refuted → IsTrue (are_closed formulas)
-      → conjecture ≡ has_conjecture formulas → name ≡ shown file → IsRefutationText name formulas (steps_of ended.lines) text
+      → conjecture ≡ has_conjecture formulas → name ≡ shown file → IsRefutationText name formulas ended.lines text
       → (count : ℕ) × IsAcceptedDerivation formulas text count → IsRefuted file formulas options conjecture text
   is-refuted file name text conjecture same says closed told is_shown printed accepted = record {
     r = ended;
     history = has-history outcome.Refuted same;
-    printed = subst (λ word. IsRefutationText word formulas (steps_of ended.lines) text) is_shown printed;
+    printed = subst (λ word. IsRefutationText word formulas ended.lines text) is_shown printed;
     conjecture_is = told;
     count = accepted.0;
     accepted = accepted.1;

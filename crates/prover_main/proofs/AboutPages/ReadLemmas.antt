@@ -5,8 +5,8 @@ use Rattle.tptp_tree.specs.ProblemSize.{HasProblemSize}
 use Rattle.tptp_tree.specs.declared.problem.Annotated.{Annotated}
 use Rattle.tptp_problem.specs.Formulas.{placed}
 use Rattle.tptp_problem.specs.Problem.{IsProblem}
-use Rattle.laws_meaning.proofs.AboutReading.ClosedLemmas.{read_problems_are_closed}
-use Rattle.tstp_writer.proofs.ReadAgain.ProblemLemmas.{formulas-printable}
+use Rattle.prover_main.proofs.AboutReading.ClosedLemmas.{read_problems_are_closed}
+use Rattle.prover_main.proofs.AboutReading.PrintableLemmas.{read_problems_are_printable}
 use Rattle.prover_main.specs.AnswerShape.{IsAdmissible}
 
 pub read-admissible :
@@ -14,6 +14,6 @@ pub read-admissible :
     → IsProblem told file root (map placed formulas) → HasProblemSize formulas → IsAdmissible formulas
 read-admissible told file root formulas read size = record {
   closed = read_problems_are_closed told file root formulas read;
-  printable = formulas-printable told file root formulas read;
+  printable = read_problems_are_printable told file root formulas read;
   size = size;
 }

@@ -1,6 +1,6 @@
 -- What each status of a run says.
 use Rattle.std.proofs.Common.{◌≡◌, ◌⊎◌, inl, inr, ℕ, List, refl, ap, sym, subst, ◌∙◌, arith}
-use Rattle.std.specs.Prelude.{Bool, true, Result, Ok, Err, Some, None, IfSome}
+use Rattle.std.specs.Prelude.{Bool, true, Result, Ok, Err, Some, None}
 use Rattle.outside.specs.Sink.{with_bytes}
 use Rattle.outside.specs.declared.fault.SinkFault.{SinkFault}
 use Rattle.tptp_tree.specs.declared.problem.Annotated.{Annotated}
@@ -261,7 +261,7 @@ module _ (words : List (List ℕ)) (outside : Outside) (taken : Taken) (status :
   unread-load :
       (command : Command) (c : ReadCause) (f : List ℕ) (p : ℕ) → IsUnread outside (source_of command) c f p → read_status c ≡ 4
       → Took taken (unread_report (file_of command) c f p) → PrintedLoadFault outside taken command
-  unread-load command Load f p h s w = record { rose = (h.load refl).0; name = f; failed = (h.load refl).1; report = w }
+  unread-load command Load f p h s w = record { name = f; lost = inl (p, h); report = w }
   unread-load command (Inappropriate form) f p h s w = absurd (omega (arith, s))
   unread-load command c f p h s w = absurd (omega (arith, s))
 
@@ -270,12 +270,7 @@ module _ (words : List (List ℕ)) (outside : Outside) (taken : Taken) (status :
       → PrintedLoadFault outside taken command
   load-fault command (Unread c f p) h s w = unread-load command c f p (unread-is command c f p h) s w
   load-fault (prove file root options) (Unloaded n) h s w = absurd h.says
-  load-fault (check file derivation root) (Unloaded n) h s w = record {
-    rose = h.says.rose;
-    name = n;
-    failed = subst (λ (m : List ℕ). IfSome outside.failed_after (λ failed. failed ≡ m)) (sym h.says.name_is) h.says.failed;
-    report = w;
-  }
+  load-fault (check file derivation root) (Unloaded n) h s w = record { name = n; lost = inr h; report = w }
   load-fault command (Refuted c d) h s w = absurd (omega (arith, s))
   load-fault command (Spent n m) h s w = absurd (omega (arith, s))
   load-fault command (Saturated c m) h s w = absurd (omega (arith, s))
@@ -292,11 +287,20 @@ module _ (words : List (List ℕ)) (outside : Outside) (taken : Taken) (status :
   -- ---- 5, 6 and 7
 
   pub lost-output-row : LostOutputRow words outside taken status
-  lost-output-row five = by r.delivered.outcome r.delivered.delivery r.delivered.status_is
+  lost-output-row = record {
+    only = λ five. by five r.delivered.outcome r.delivered.delivery r.delivered.status_is;
+    otherwise = λ other. stays other r.delivered.outcome r.delivered.delivery r.delivered.status_is;
+  }
     where
-      by : (o : Result (Unit {0}) SinkFault) → IsDelivery taken r.text o → status ≡ status_after r.due o → IsLost words outside taken
-      by (Ok u) d s = absurd (due-not-five outside r.due r.text (command_of words) r.is_due (sym s ∙ five))
-      by (Err f) d s = record { rose = d.0; due = r.due; text = r.text; is_due = r.is_due; prefix = d.1 }
+      by : status ≡ 5 → (o : Result (Unit {0}) SinkFault) → IsDelivery taken r.text o → status ≡ status_after r.due o → IsLost words outside taken
+      by five (Ok u) d s = absurd (due-not-five outside r.due r.text (command_of words) r.is_due (sym s ∙ five))
+      by five (Err f) d s = record { rose = d.0; due = r.due; text = r.text; is_due = r.is_due; prefix = d.1 }
+
+      stays :
+          (status ≡ 5 → ⊥) → (o : Result (Unit {0}) SinkFault) → IsDelivery taken r.text o → status ≡ status_after r.due o
+          → taken.faults_after ≡ taken.faults_before
+      stays other (Ok u) d s = d.1
+      stays other (Err f) d s = absurd (other s)
 
   pub usage-row : UsageRow words taken status
   usage-row = record { only = usage-only words outside taken status r; always = λ e. by e r.delivered.outcome r.delivered.delivery r.delivered.status_is }

@@ -9,14 +9,7 @@ use Rattle.disc_tree.specs.Entries.{IsIn, IsWith, numbers_where}
 use Rattle.disc_tree.proofs.AboutChanges.EditLemmas.{is_in-append}
 use Rattle.bank_clause.specs.Clause.{side_number}
 use Rattle.rewriting.specs.Index.{KeepsOthers}
-
-pub in-left : {X : Type 0} (x : X) (xs ys : List X) → IsIn x xs → IsIn x (xs ++ ys)
-in-left x [] ys h = absurd h
-in-left x (z ∷ xs) ys h = ⊎_elim (λ e. inl e) (λ later. inr (in-left x xs ys later)) h
-
-pub in-right : {X : Type 0} (x : X) (xs ys : List X) → IsIn x ys → IsIn x (xs ++ ys)
-in-right x [] ys h = h
-in-right x (z ∷ xs) ys h = inr (in-right x xs ys h)
+use Rattle.disc_tree.proofs.AboutPaths.PrefixLemmas.{in-left, in-right}
 
 -- what was there is there with one more
 pub in-more : {X : Type 0} (x y : X) (fewer more : List X) → IsWith x fewer more → IsIn y fewer → IsIn y more

@@ -1,6 +1,6 @@
 -- Clauses by their numbers: in a map whose values have a clause each, and in the list of members that contracts see.
 use Rattle.std.proofs.Common.{◌≡◌, ℕ, Bool, true, false, List, [], ◌∷◌, map, refl, ap, ap₂, sym, ◌∙◌, subst, ⊎_elim, Bor}
-use Rattle.std.specs.Prelude.{Option, None, Some, option_map, option_copied, cond, nat_eq, if◌then◌else◌, ◌==◌, Result, Ok, OnOk}
+use Rattle.std.specs.Prelude.{Option, None, Some, option_map, option_copied, cond, nat_eq, if◌then◌else◌, ◌==◌}
 use Rattle.std.specs.Map.{lookup}
 use Rattle.std.proofs.lemmas.Bool.{cases_Bool, cond-true, cond-false, eq-eqb, eqb-true, true≢false}
 use Rattle.std.proofs.lemmas.Option.{none-some, same_Some}
@@ -13,9 +13,6 @@ use Rattle.rewriting.specs.Units.{clause_numbered, AreClausesOf}
 pub from-map : {X Y : Type 0} (f : X → Y) (o : Option X) (y : Y) → option_map f o ≡ Some y → (x : X) × (o ≡ Some x) × (f x ≡ y)
 from-map f None y h = absurd (none-some y h)
 from-map f (Some x) y h = (x, refl, same_Some (f x) y h)
-
-pub on_ok-at : {A E P : Type 0} (r : Result A E) (x : A) → r ≡ Ok x → OnOk r P → P
-on_ok-at {A} {E} {P} r x is h = subst (λ (s : Result A E). OnOk s P) is h
 
 -- ---- the list of a map
 

@@ -4,7 +4,7 @@ use Rattle.std.specs.Prelude.{Option, None, Some, All, IsTrue, slice_get, slice_
 use Rattle.std.specs.List.{list_any, list_all}
 use Rattle.std.proofs.lemmas.Bool.{true≢false, and_from, and_parts, false_from_ne_true, not-true}
 use Rattle.std.proofs.lemmas.Option.{same_Some}
-use Rattle.std.proofs.lemmas.List.Elements.{All-nil, All-cons, All-head, All-tail}
+use Rattle.std.proofs.lemmas.List.Elements.{All-head, All-tail}
 use Rattle.fol_base.specs.Tree.{Tree, variable, application, true_tree, tree_variables, is_variable, is_truth}
 use Rattle.fol_base.specs.Instance.{Substitution, instance}
 use Rattle.fol_base.specs.Place.{subterm, replaced}
@@ -21,7 +21,7 @@ use Rattle.fol_base.specs.Subsumption.{assertions}
 use Rattle.fol_base.specs.declared.clause.Side.{Side}
 use Rattle.fol_base.specs.declared.clause.Side.TheVariants.{Left, Right}
 use Rattle.fol_base.proofs.WorkedExamples.TestLemmas.{list_all-item}
-use Rattle.fol_base.proofs.AboutInstances.ConversePlaces.{replaced_where_there}
+use Rattle.fol_base.proofs.AboutInstances.ConversePlaces.{replaced_where_there, replaced-there}
 use Rattle.fol_base.proofs.AboutClauses.RuleLemmas.{superposed-parts, superposed_literal-parts, superposed-from, superposed_literal-from}
 use Rattle.fol_base.proofs.AboutClauses.InferenceLemmas.{side_of-instance}
 use Rattle.fol_base.proofs.AboutTerms.KindLemmas.{function_term-no_truth, no_predicate_term}
@@ -33,6 +33,7 @@ use Rattle.unifier.proofs.AboutLayouts.KindLemmas.{matchers_put_function_terms}
 use Rattle.rewriting.specs.Redex.{spot_at, root_spot, is_within}
 use Rattle.rewriting.specs.Laws.{MayRewrite, AreWellFormed, Becomes, NormalClausesStay, RedexesRewrite, RedexesGive}
 use Rattle.rewriting.proofs.AboutRedexes.KindLemmas.{kind-at, redex-kinds, predicate-head}
+use Rattle.list_lemmas.proofs.Tests.{tests-all}
 
 -- ---- from a rewriting step to a redex
 
@@ -40,12 +41,6 @@ pub all-tests : (p : ℕ → Bool) (vs : List ℕ) → All (λ v. IsTrue (p v)) 
 all-tests p [] all = refl
 all-tests p (v ∷ vs) all =
     and_from (p v) (list_all p vs) (All-head (λ w. IsTrue (p w)) v vs all) (all-tests p vs (All-tail (λ w. IsTrue (p w)) v vs all))
-
-tests-all : (p : ℕ → Bool) (vs : List ℕ) → list_all p vs ≡ true → All (λ v. IsTrue (p v)) vs
-tests-all p [] h = All-nil (λ w. IsTrue (p w))
-tests-all p (v ∷ vs) h =
-    let both = and_parts (p v) (list_all p vs) h in
-    All-cons (λ w. IsTrue (p w)) v vs both.0 (tests-all p vs both.1)
 
 within-root : (l : TreeLiteral) (z : Side) (place : List ℕ) (new : Tree) → AllowsRoot l z place new → is_within (spot_at (root_spot z l) place).limit new ≡ true
 within-root l z [] new allowed = go l.positive refl
@@ -145,13 +140,6 @@ normal_clauses_stay usage clauses c formed normal n unit d there r =
 
 -- ---- from a redex to a rewriting step
 
-some-replaced : (place : List ℕ) (new t old : Tree) → subterm place t ≡ Some old → (made : Tree) × (replaced place new t ≡ Some made)
-some-replaced place new t old there = from (replaced place new t) refl (replaced_where_there place new t ∙ ap is_some there)
-  where
-    from : (o : Option Tree) → replaced place new t ≡ o → is_some (replaced place new t) ≡ true → (made : Tree) × (replaced place new t ≡ Some made)
-    from None is h = absurd (true≢false (sym h ∙ ap is_some is))
-    from (Some made) is h = (made, is)
-
 -- `$true` is above nothing
 truth-lowest : (t : Tree) → TreeGreater true_tree t → ⊥
 truth-lowest (variable w) greater = ⊎_elim (λ less. absurd (omega (arith, less))) (λ tie. tie.1) greater.1
@@ -178,7 +166,7 @@ redexes_give clauses c f found =
     let l : TreeLiteral = found.literal in
     let σ : Substitution = by_pairs f.rewrite.terms in
     let e_σ : TreeLiteral = literal_instance σ e in
-    let made = some-replaced f.place (other_side_of s e_σ) (side_of z l) found.old found.old_there in
+    let made = replaced-there f.place (other_side_of s e_σ) (side_of z l) found.old found.old_there in
     let m : TreeLiteral = with_side z made.0 l in
     let d : TreeClause = record c { literals = slice_set c.literals f.literal m } in
     let side_is : side_of s e_σ ≡ found.old = side_of-instance σ s e ∙ w.matched.redex.matches in

@@ -1,12 +1,12 @@
 -- From the search of a member to whether a unit rewrites it.
-use Rattle.std.proofs.Common.{◌≡◌, ◌⊎◌, ℕ, Bool, true, false, not, ◌&&◌, ◌==◌, List, [], ◌∷◌, ◌++◌, refl, ap, sym, ◌∙◌, subst, inl, inr, ⊎_elim, ◌<◌, length, get_or, eqb, arith}
+use Rattle.std.proofs.Common.{◌≡◌, ◌⊎◌, ℕ, Bool, true, false, not, ◌&&◌, ◌==◌, List, [], ◌∷◌, ◌++◌, refl, ap, sym, ◌∙◌, subst, inl, inr, ⊎_elim, ◌<◌, length, get_or, eqb}
 use Rattle.std.specs.Prelude.{Option, None, Some, option_and_then, IsTrue, All, if◌then◌else◌, MatchOption, MatchBool, is_some, Contains}
 use Rattle.std.proofs.lemmas.Bool.{true≢false, cases_Bool, cond-true, cond-false, eqb-true, eq-eqb, and_from, and_parts, false_from_ne_true}
 use Rattle.std.proofs.lemmas.Option.{none-some, same_Some}
 use Rattle.std.specs.List.{dedup}
 use Rattle.std.specs.List.Sorted.{IsPermutation, IsSorted, IsStrictlyIncreasing}
 use Rattle.std.specs.Ordering.{nat_cmp}
-use Rattle.std.proofs.lemmas.List.Elements.{All-contains, Contains-append_cases, Contains-append_left, Contains-append_right, Contains-push, Contains-push_cases}
+use Rattle.std.proofs.lemmas.List.Elements.{All-contains}
 use Rattle.std.proofs.lemmas.List.Kept.{Contains-dedup_nat, Contains-from_dedup}
 use Rattle.std.proofs.lemmas.List.Sorted.{IsPermutation-sym, Contains-permutation}
 use Rattle.std.proofs.lemmas.Map.Keys.{IsStrictlyIncreasing-dedup}
@@ -25,6 +25,7 @@ use Rattle.bank_clause.specs.Members.{IsMemberOfUse, SomeMember, AreNumbersOf}
 use Rattle.rewriting.specs.declared.searching.Found.{Found}
 use Rattle.rewriting.proofs.AboutSearches.TryLemmas.{numbers-asserted}
 use Rattle.rewriting.proofs.AboutRedexes.LawLemmas.{normal_clauses_stay, redexes_rewrite, redexes_give}
+use Rattle.list_lemmas.proofs.Members.{contains-first, contains-none, first-or-later, contains-later}
 
 -- the unit stands alone in the list
 abbrev pub IsAlone : List Member → Member → Type 0
@@ -159,32 +160,19 @@ one-more Holds (k ∷ ms) (n ∷ ns) m h held =
 
 -- ---- each once, rising
 
-empty : {X : Type 0} (x : X) → Contains [] x → ⊥
-empty {X} x h = All-contains (λ (y : X). ⊥) [] x (λ i d lt. absurd (omega arith)) h
-
-first-or-later : {X : Type 0} (x : X) (xs : List X) (y : X) → Contains (x ∷ xs) y → (x ≡ y) ⊎ Contains xs y
-first-or-later x xs y h =
-    ⊎_elim (λ e. ⊎_elim (λ a. absurd (empty y a)) (λ a. inl a) (Contains-push_cases [] x y e)) (λ e. inr e) (Contains-append_cases (x ∷ []) xs y h)
-
-first : {X : Type 0} (x : X) (xs : List X) → Contains (x ∷ xs) x
-first x xs = Contains-append_left (x ∷ []) xs x (Contains-push [] x)
-
-later : {X : Type 0} (x : X) (xs : List X) (y : X) → Contains xs y → Contains (x ∷ xs) y
-later x xs y h = Contains-append_right (x ∷ []) xs y h
-
 one-later : (Holds : Member → Type 0) (m : Member) (ms : List Member) (n : ℕ) → SomeMember Holds ms n → SomeMember Holds (m ∷ ms) n
-one-later Holds m ms n s = record { member = s.member; there = later m ms s.member s.there; does = s.does; number = s.number }
+one-later Holds m ms n s = record { member = s.member; there = contains-later m ms s.member s.there; does = s.does; number = s.number }
 
 told : (Holds : Member → Type 0) (ms : List Member) (ns : List ℕ) → AreListed Holds ms ns → (n : ℕ) → Contains ns n → SomeMember Holds ms n
-told Holds [] [] h n there = absurd (empty n there)
+told Holds [] [] h n there = absurd (contains-none n there)
 told Holds [] (k ∷ ns) h n there = absurd h
-told Holds (m ∷ ms) [] h n there = absurd (empty n there)
+told Holds (m ∷ ms) [] h n there = absurd (contains-none n there)
 told Holds (m ∷ ms) (k ∷ ns) h n there =
     ⊎_elim
     (λ a. one-later Holds m ms n (told Holds ms (k ∷ ns) a.1 n there))
     (λ b.
     ⊎_elim
-    (λ e. record { member = m; there = first m ms; does = b.0; number = sym b.1 ∙ e })
+    (λ e. record { member = m; there = contains-first m ms; does = b.0; number = sym b.1 ∙ e })
     (λ e. one-later Holds m ms n (told Holds ms ns b.2 n e))
     (first-or-later k ns n there))
     h
@@ -192,7 +180,7 @@ told Holds (m ∷ ms) (k ∷ ns) h n there =
 listed :
     (Holds : Member → Type 0) (ms : List Member) (ns : List ℕ)
     → AreListed Holds ms ns → (k : Member) → Contains ms k → Holds k → Contains ns k.number
-listed Holds [] [] h k there holds = absurd (empty k there)
+listed Holds [] [] h k there holds = absurd (contains-none k there)
 listed Holds [] (n ∷ ns) h k there holds = absurd h
 listed Holds (m ∷ ms) [] h k there holds =
     ⊎_elim
@@ -208,8 +196,8 @@ listed Holds (m ∷ ms) (n ∷ ns) h k there holds =
     (first-or-later m ms k there))
     (λ b.
     ⊎_elim
-    (λ e. subst (Contains (n ∷ ns)) (b.1 ∙ ap (λ (x : Member). x.number) e) (first n ns))
-    (λ e. later n ns k.number (listed Holds ms ns b.2 k e holds))
+    (λ e. subst (Contains (n ∷ ns)) (b.1 ∙ ap (λ (x : Member). x.number) e) (contains-first n ns))
+    (λ e. contains-later n ns k.number (listed Holds ms ns b.2 k e holds))
     (first-or-later m ms k there))
     h
 

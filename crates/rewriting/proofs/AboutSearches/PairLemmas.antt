@@ -14,6 +14,8 @@ use Rattle.fol_base.specs.declared.clause.Side.{Side}
 use Rattle.fol_base.proofs.AboutInstances.InstanceLemmas.{instances_agree}
 use Rattle.unifier.specs.Matching.{variables_of, term_for, by_pairs, NoVariableTwice, HasPairs, with_further, IsMatched}
 use Rattle.rewriting.specs.Units.{has_other_variables}
+use Rattle.list_lemmas.proofs.Bools.{neither-true}
+use Rattle.list_lemmas.proofs.Numbers.{differs-turned}
 
 -- ---- no variable twice
 
@@ -21,20 +23,13 @@ abbrev Distinct : List ℕ → Type 0
 Distinct [] = Unit {0}
 Distinct (v ∷ vs) = (list_any (λ w. v == w) vs ≡ false) × Distinct vs
 
-or_parts : (a b : Bool) → (a || b) ≡ false → (a ≡ false) × (b ≡ false)
-or_parts true b h = absurd (true≢false h)
-or_parts false b h = (refl, h)
-
-other-way : (v w : ℕ) → (v == w) ≡ false → (w == v) ≡ false
-other-way v w h = ⊎_elim (λ yes. absurd (true≢false (sym (eq-eqb v w (sym (eqb-true w v yes))) ∙ h))) (λ no. no) (cases_Bool (w == v))
-
 distinct-push : (vs : List ℕ) (w : ℕ) → list_any (λ v. w == v) vs ≡ false → Distinct vs → Distinct (vs ++ w ∷ [])
 distinct-push [] w h d = (refl, tt)
 distinct-push (v ∷ vs) w h d =
-    let both : ((w == v) ≡ false) × (list_any (λ u. w == u) vs ≡ false) = or_parts (w == v) (list_any (λ u. w == u) vs) h in (
+    let both : ((w == v) ≡ false) × (list_any (λ u. w == u) vs ≡ false) = neither-true (w == v) (list_any (λ u. w == u) vs) h in (
       list_any-append (λ u. v == u) vs (w ∷ [])
           ∙ ap (λ (b : Bool). b || ((v == w) || false)) d.0
-          ∙ ap (λ (b : Bool). b || false) (other-way w v both.0),
+          ∙ ap (λ (b : Bool). b || false) (differs-turned w v both.0),
       distinct-push vs w both.1 d.1,
     )
 
@@ -51,7 +46,7 @@ distinct-further vs (w ∷ ws) d =
 absent : (v : ℕ) (ps : List (ℕ × Tree)) → list_any (λ w. v == w) (variables_of ps) ≡ false → term_for v ps ≡ None
 absent v [] h = refl
 absent v (p ∷ ps) h =
-    let both = or_parts (v == p.0) (list_any (λ w. v == w) (variables_of ps)) h in
+    let both = neither-true (v == p.0) (list_any (λ w. v == w) (variables_of ps)) h in
     cond-false (v == p.0) (Some p.1) (term_for v ps) both.0 ∙ absent v ps both.1
 
 no_variable_twice : (ps : List (ℕ × Tree)) → Distinct (variables_of ps) → NoVariableTwice ps

@@ -30,6 +30,7 @@ use Rattle.fol_base.specs.declared.clause.Side.{Side}
 use Rattle.fol_base.specs.declared.clause.Side.TheVariants.{Left, Right}
 use Rattle.fol_base.specs.declared.clause.Literal.{Literal}
 use Rattle.fol_base.specs.Literal.{literal_of}
+use Rattle.list_lemmas.proofs.Numbers.{below-or-same}
 
 -- ---- one term
 
@@ -147,12 +148,6 @@ placed-here clauses spot t before path r same rewrite = record {
 
 -- ---- the walk over the arguments
 
-below-or : (i n : ℕ) → i < n + 1 → (i < n) ⊎ (i ≡ n)
-below-or zero zero h = inr refl
-below-or zero (suc n) h = inl (omega arith)
-below-or (suc i) zero h = absurd (omega arith)
-below-or (suc i) (suc n) h = ⊎_elim (λ (k : i < n). inl (omega arith)) (λ e. inr (ap suc e)) (below-or i n (omega arith))
-
 -- an argument more without a redex
 pub one-more-normal :
     (clauses : ℕ → Option TreeClause) (ts : List Tree) (n : ℕ) (t : Tree)
@@ -164,7 +159,7 @@ one-more-normal clauses ts n t at before now i u less there =
     (λ (low : i < n). before i u low there)
     (λ (same : i ≡ n).
     subst (λ v. IsNormal clauses inner v) (same_Some t u (sym at ∙ ap (slice_get ts) (sym same) ∙ there)) now)
-    (below-or i n less)
+    (below-or-same i n less)
 
 -- ---- from the calls
 
@@ -253,7 +248,7 @@ one-more-literal clauses ls n l at before now i k less there =
     (λ (low : i < n). before i k low there)
     (λ (same : i ≡ n).
     subst (λ m. IsNormalLiteral clauses m) (same_Some l k (sym at ∙ ap (slice_get ls) (sym same) ∙ there)) now)
-    (below-or i n less)
+    (below-or-same i n less)
 
 pub literal-found :
     (clauses : ℕ → Option TreeClause) (l : TreeLiteral) (index : ℕ) (o : Option Found)

@@ -1,6 +1,6 @@
 -- The innermost binding of a name, and how the table is kept.
 use Rattle.std.proofs.Common.{◌≡◌, ℕ, zero, suc, ◌+◌, ◌-◌, ◌<◌, ◌≤◌, ◌⊎◌, inl, inr, Bool, true, false, ◌==◌, cond, List, [], ◌∷◌, ◌++◌, length, take, get_or, None, Some, refl, ap, sym, subst, ◌∙◌, arith}
-use Rattle.std.specs.Prelude.{if◌then◌else◌, bytes_eq, Result, Ok, Err, OnOk, OnErr, IsOk}
+use Rattle.std.specs.Prelude.{if◌then◌else◌, bytes_eq}
 use Rattle.std.specs.Option.{unwrap_or}
 use Rattle.std.specs.List.{list_any}
 use Rattle.std.specs.Map.{lookup}
@@ -351,11 +351,3 @@ present es rest heads key e c k a n =
     c.innermost key.text ∙ ap (λ ds. innermost_below key.text ds (length ds)) a ∙ innermost-last key.text rest e
     ∙ ap (λ t. if t then suc (length rest) else innermost_below key.text rest (length rest)) ((bytes_eq-Decides e.binding.name key.text).1 (sym k)) in
     absurd (omega (arith, here, ap (λ o. unwrap_or o 0) n))
-
-pub ok-unless : {A B : Type 0} (r : Result A B) (X : Type 0) → OnErr r X → (X → ⊥) → IsOk r
-ok-unless (Ok x) X h k = refl
-ok-unless (Err y) X h k = absurd (k h)
-
-pub when-ok : {A B : Type 0} (r : Result A B) (x : A) (X : Type 0) → r ≡ Ok x → OnOk r X → X
-when-ok (Ok y) x X e h = h
-when-ok (Err y) x X e h = cc

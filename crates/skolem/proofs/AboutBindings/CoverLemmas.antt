@@ -16,9 +16,9 @@ use Rattle.skolem.specs.Bindings.{no_binding, no_entry, entry_variables, AreAmon
 use Rattle.skolem.specs.Progress.{place_variables, variables_at}
 use Rattle.skolem.proofs.AboutBindings.ListLemmas.{length-take}
 use Rattle.skolem.proofs.AboutBindings.BindingsLemmas.{binding-at}
-use Rattle.skolem.proofs.AboutBindings.OccurringLemmas.{any-filter}
-use Rattle.skolem.proofs.AboutBindings.OrderLemmas.{differs}
 use Rattle.skolem.proofs.AboutBindings.PlaceLemmas.{any-members}
+use Rattle.list_lemmas.proofs.Tests.{any-filter}
+use Rattle.list_lemmas.proofs.Numbers.{not-same}
 
 -- ---- what is noted
 
@@ -166,5 +166,5 @@ pub made-covers :
 made-covers bs place n occurs found a e = more bs place occurs found (λ v h.
     ap (list_any (λ w. v == w)) e
     ∙ any-filter (λ w. v == w) (λ u. list_any (λ w. u == w) occurs) (numbers_from 0 n)
-    ∙ any-members (λ w. v == w) n occurs (λ p l. differs v p (λ q. omega (arith, q, l, below n occurs v a h)))
+    ∙ any-members (λ w. v == w) n occurs (λ p l. not-same v p (λ q. omega (arith, q, l, below n occurs v a h)))
     ∙ h)

@@ -1,8 +1,9 @@
 -- Lists, as a walk over them works them off.
-use Rattle.std.proofs.Common.{◌≡◌, ℕ, zero, suc, ◌+◌, ◌≤◌, Bool, true, false, ◌||◌, List, [], ◌∷◌, ◌++◌, length, take, refl, ap, sym, ◌∙◌, arith, append_assoc}
+use Rattle.std.proofs.Common.{◌≡◌, ℕ, zero, suc, ◌≤◌, Bool, true, false, ◌||◌, List, [], ◌∷◌, ◌++◌, length, take, refl, ap, sym, ◌∙◌, arith, append_assoc}
 use Rattle.std.specs.Prelude.{filter, if◌then◌else◌}
-use Rattle.std.specs.List.{list_any, list_all}
-use Rattle.std.proofs.lemmas.Bool.{and_parts, and_from}
+use Rattle.std.specs.List.{list_any}
+use Rattle.list_lemmas.proofs.Lists.{length-pushed}
+use Rattle.list_lemmas.proofs.Places.{take-less}
 
 pub any-last : {X : Type 0} (p : X → Bool) (xs : List X) (x : X) → list_any p xs ≡ false → p x ≡ false → list_any p (xs ++ x ∷ []) ≡ false
 any-last p [] x h f = ap (λ t. t || false) f
@@ -13,13 +14,6 @@ any-last p (y ∷ ys) x h f = by (p y) h (any-last p ys x)
         → (t || list_any p (ys ++ x ∷ [])) ≡ false
     by true g k = cc
     by false g k = k g f
-
-pub all-parts : {X : Type 0} (p : X → Bool) (xs ys : List X) → list_all p (xs ++ ys) ≡ true → (list_all p xs ≡ true) × (list_all p ys ≡ true)
-all-parts p [] ys h = (refl, h)
-all-parts p (x ∷ xs) ys h =
-    let parts : (p x ≡ true) × (list_all p (xs ++ ys) ≡ true) = and_parts _ _ h in
-    let rest : (list_all p xs ≡ true) × (list_all p ys ≡ true) = all-parts p xs ys parts.1 in
-    (and_from _ _ parts.0 rest.0, rest.1)
 
 pub filter-last : {X : Type 0} (p : X → Bool) (xs : List X) (x : X) → filter p (xs ++ x ∷ []) ≡ filter p xs ++ (if p x then x ∷ [] else [])
 filter-last p [] x = by (p x)
@@ -47,21 +41,10 @@ before (suc n) (y ∷ ys) zs k = ap (λ us. y ∷ us) (before n ys zs (omega (ar
 pub take-kept : {X : Type 0} (old new : List X) (x : X) (all : List X) → take (length old) new ≡ old → all ≡ new ++ x ∷ [] → length old ≤ length new → take (length old) all ≡ old
 take-kept old new x all h e l = ap (take (length old)) e ∙ before (length old) new (x ∷ []) l ∙ h
 
-pub length-last : {X : Type 0} (xs : List X) (x : X) → length (xs ++ x ∷ []) ≡ length xs + 1
-length-last [] x = omega arith
-length-last (y ∷ ys) x = omega (arith, length-last ys x)
-
--- a list that begins with another keeps what that begins with
-pub take-take : {X : Type 0} (n m : ℕ) (xs : List X) → n ≤ m → take n (take m xs) ≡ take n xs
-take-take zero m xs h = refl
-take-take (suc n) zero xs h = absurd (omega (arith, h))
-take-take (suc n) (suc m) [] h = refl
-take-take (suc n) (suc m) (x ∷ xs) h = ap (λ ys. x ∷ ys) (take-take n m xs (omega (arith, h)))
-
 pub begun-then :
     {X : Type 0} (old mid new : List X)
     → take (length old) mid ≡ old → length old ≤ length mid → take (length mid) new ≡ mid → take (length old) new ≡ old
-begun-then old mid new h l e = sym (take-take (length old) (length mid) new l) ∙ ap (take (length old)) e ∙ h
+begun-then old mid new h l e = sym (take-less (length old) (length mid) new l) ∙ ap (take (length old)) e ∙ h
 
 pub length-take : {X : Type 0} (n : ℕ) (xs : List X) → length (take n xs) ≤ length xs
 length-take zero xs = omega arith
@@ -72,4 +55,4 @@ pub begun-longer : {X : Type 0} (old mid new : List X) → length old ≤ length
 begun-longer old mid new l e = omega (arith, l, ap length e, length-take (length mid) new)
 
 pub longer-kept : {X : Type 0} (old new : List X) (x : X) (all : List X) → all ≡ new ++ x ∷ [] → length old ≤ length new → length old ≤ length all
-longer-kept old new x all e l = omega (arith, ap length e, length-last new x, l)
+longer-kept old new x all e l = omega (arith, ap length e, length-pushed new x, l)

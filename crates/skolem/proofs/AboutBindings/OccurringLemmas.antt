@@ -1,10 +1,9 @@
 -- The variables of a form, as a walk over it finds them, and that they are those in the terms of its free variables.
 use Rattle.std.proofs.Common.{◌≡◌, ℕ, zero, suc, ◌+◌, ◌<◌, ◌≤◌, Bool, true, false, not, ◌&&◌, ◌||◌, ◌==◌, List, [], ◌∷◌, ◌++◌, length, map, drop, get_or, refl, ap, sym, ◌∙◌, append_assoc, append-nil, arith}
-use Rattle.std.specs.Prelude.{if◌then◌else◌, bytes_eq, filter, flat_map}
+use Rattle.std.specs.Prelude.{if◌then◌else◌, bytes_eq}
 use Rattle.std.specs.List.{list_any}
 use Rattle.std.proofs.lemmas.List.Folds.{list_any-append}
 use Rattle.std.proofs.lemmas.List.Elements.{filter_agree}
-use Rattle.std.proofs.lemmas.Slice.Eq.{bytes_eq-Decides}
 use Rattle.tptp_tree.specs.Term.{terms_of}
 use Rattle.tptp_tree.specs.Formula.{exists_some, FormulaTree, truth, falsity, predicate, equation, negation, conjunction, disjunction, connected, quantified, FormulaTrees, no_formulas, formula_then, formula_size, formulas_size, formulas_of}
 use Rattle.tptp_tree.specs.Shape.{term_of}
@@ -14,7 +13,6 @@ use Rattle.fol_base.specs.Canonical.{numbers_from}
 use Rattle.fol_base.proofs.WorkedExamples.TestLemmas.{list_any-agree}
 use Rattle.signature.specs.Environment.{Environment, term_names, terms_names, free_names, all_free_names, without_names, term_in_force}
 use Rattle.signature.specs.Clausal.{made_in_order, Made, skolem_arguments}
-use Rattle.signature.proofs.OccurrenceLemmas.{drop-item, drop-end}
 use Rattle.formula_nnf.specs.declared.form.Nnf.{Nnf}
 use Rattle.formula_nnf.specs.Shape.{nnf_tree}
 use Rattle.skolem.specs.declared.bindings.Binding.{Binding}
@@ -22,6 +20,9 @@ use Rattle.skolem.specs.BoundTerm.{bound_tree}
 use Rattle.skolem.specs.Progress.{environment_of, occurring_in, with_closed, occurring, all_occurring}
 use Rattle.skolem.proofs.AboutBindings.ListLemmas.{added}
 use Rattle.skolem.proofs.AboutBindings.BindingsLemmas.{environment-last}
+use Rattle.list_lemmas.proofs.Tests.{any-filter, any-flat_map}
+use Rattle.list_lemmas.proofs.Places.{drop-item, drop-all}
+use Rattle.list_lemmas.proofs.Lists.{bytes-turned}
 
 -- ---- walks
 
@@ -52,7 +53,7 @@ pub terms-done :
     (made all : List ℕ) (env : Environment) (ts : List TreeTerm) (i : ℕ)
     → length ts ≤ i → made ++ occurring_in env (terms_names (terms_of (map term_of (drop i ts)))) ≡ all → made ≡ all
 terms-done made all env ts i h m =
-    sym (append-nil made) ∙ ap (λ us. made ++ occurring_in env (terms_names (terms_of (map term_of us)))) (sym (drop-end ts i h)) ∙ m
+    sym (append-nil made) ∙ ap (λ us. made ++ occurring_in env (terms_names (terms_of (map term_of us)))) (sym (drop-all ts i h)) ∙ m
 
 pub forms-added :
     (made new all : List ℕ) (env : Environment) (fs : List Nnf) (i : ℕ) (f : Nnf)
@@ -67,7 +68,7 @@ pub forms-done :
     (made all : List ℕ) (env : Environment) (fs : List Nnf) (i : ℕ)
     → length fs ≤ i → made ++ all_occurring (formulas_of (map nnf_tree (drop i fs))) env ≡ all → made ≡ all
 forms-done made all env fs i h m =
-    sym (append-nil made) ∙ ap (λ gs. made ++ all_occurring (formulas_of (map nnf_tree gs)) env) (sym (drop-end fs i h)) ∙ m
+    sym (append-nil made) ∙ ap (λ gs. made ++ all_occurring (formulas_of (map nnf_tree gs)) env) (sym (drop-all fs i h)) ∙ m
 
 form-item :
     (fs : List Nnf) (i : ℕ) (d : Nnf) → i < length fs → formula_size (nnf_tree (get_or fs i d)) ≤ formulas_size (formulas_of (map nnf_tree fs))
@@ -93,20 +94,6 @@ closed-then names i x b bs new all h e t n a m =
 
 -- ---- the variables of a formula are those in the terms of its free variables
 
-pub any-flat_map : {X Y : Type 0} (p : Y → Bool) (g : X → List Y) (xs : List X) → list_any p (flat_map g xs) ≡ list_any (λ x. list_any p (g x)) xs
-any-flat_map p g [] = refl
-any-flat_map p g (x ∷ xs) = list_any-append p (g x) (flat_map g xs) ∙ ap (λ t. list_any p (g x) || t) (any-flat_map p g xs)
-
-pub any-filter : {X : Type 0} (p r : X → Bool) (xs : List X) → list_any p (filter r xs) ≡ list_any (λ x. r x && p x) xs
-any-filter p r [] = refl
-any-filter p r (x ∷ xs) = by (r x) (any-filter p r xs)
-  where
-    by :
-        (t : Bool) → list_any p (filter r xs) ≡ list_any (λ y. r y && p y) xs
-        → list_any p (if t then x ∷ filter r xs else filter r xs) ≡ ((t && p x) || list_any (λ y. r y && p y) xs)
-    by true h = ap (λ t. p x || t) h
-    by false h = h
-
 -- whether the variable is in the term of a name
 abbrev pub is_in : ℕ → Environment → List ℕ → Bool
 is_in v env x = list_any (λ w. v == w) (tree_variables (term_in_force env x))
@@ -120,15 +107,6 @@ in-some v env bound free =
     any-flat_map (λ w. v == w) (λ x. tree_variables (term_in_force env x)) (without_names bound free)
     ∙ any-filter (is_in v env) (λ x. not (list_any (bytes_eq x) bound)) free
 
-pub turned : (x y : List ℕ) → bytes_eq x y ≡ bytes_eq y x
-turned x y = by (bytes_eq x y) (bytes_eq y x) refl refl
-  where
-    by : (t u : Bool) → bytes_eq x y ≡ t → bytes_eq y x ≡ u → t ≡ u
-    by true true h k = refl
-    by false false h k = refl
-    by true false h k = sym ((bytes_eq-Decides y x).1 (sym ((bytes_eq-Decides x y).0 h))) ∙ k
-    by false true h k = sym h ∙ (bytes_eq-Decides x y).1 (sym ((bytes_eq-Decides y x).0 k))
-
 in-closed :
     (v : ℕ) (xs : List (List ℕ)) (env : Environment) (y : List ℕ)
     → is_in v (with_closed xs env) y ≡ (not (list_any (bytes_eq y) xs) && is_in v env y)
@@ -136,7 +114,7 @@ in-closed v [] env y = refl
 in-closed v (x ∷ xs) env y =
     in-closed v xs ((x, true_tree) ∷ env) y
     ∙ by (bytes_eq x y) (list_any (bytes_eq y) xs)
-    ∙ ap (λ t. not (t || list_any (bytes_eq y) xs) && is_in v env y) (turned x y)
+    ∙ ap (λ t. not (t || list_any (bytes_eq y) xs) && is_in v env y) (bytes-turned x y)
   where
     by :
         (t u : Bool)

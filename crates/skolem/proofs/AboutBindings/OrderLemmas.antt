@@ -1,6 +1,6 @@
 -- The variables that occur, in the order in which they were made, each once.
 use Rattle.std.proofs.Common.{◌≡◌, ℕ, zero, suc, ◌+◌, ◌-◌, ◌<◌, ◌≤◌, Bool, true, false, ◌||◌, ◌==◌, List, [], ◌∷◌, ◌++◌, length, take, drop, get_or, refl, ap, sym, ◌∙◌, arith, append-nil, eq-eqb, eqb-true}
-use Rattle.std.specs.Prelude.{if◌then◌else◌, filter, Result, Ok, Err, IfOk}
+use Rattle.std.specs.Prelude.{if◌then◌else◌, filter}
 use Rattle.std.specs.List.{list_any}
 use Rattle.std.specs.List.Sorted.{IsNonDecreasingBy, IsPermutation}
 use Rattle.std.proofs.lemmas.List.Folds.{list_any-append}
@@ -8,8 +8,9 @@ use Rattle.std.proofs.lemmas.List.Elements.{filter_agree}
 use Rattle.std.proofs.lemmas.List.Sorted.{list_any-IsPermutation, IsNonDecreasingBy-drop}
 use Rattle.fol_base.specs.Canonical.{numbers_from}
 use Rattle.signature.specs.Clausal.{made_in_order}
-use Rattle.signature.proofs.OccurrenceLemmas.{drop-item, drop-end}
 use Rattle.skolem.proofs.AboutBindings.ListLemmas.{filter-last}
+use Rattle.list_lemmas.proofs.Numbers.{not-same}
+use Rattle.list_lemmas.proofs.Places.{drop-item, drop-all}
 
 numbers-one : (b k : ℕ) → numbers_from b (suc k) ≡ numbers_from b k ++ (b + k) ∷ []
 numbers-one b zero = ap (λ c. c ∷ []) none
@@ -96,13 +97,6 @@ take-one vs i w h e = ap (λ k. take k vs) plus ∙ by vs i h e
     by (u ∷ us) zero g f = ap (λ x. x ∷ []) (sym f)
     by (u ∷ us) (suc j) g f = ap (λ xs. u ∷ xs) (by us j (omega (arith, g)) f)
 
-pub differs : (v w : ℕ) → (v ≡ w → ⊥) → (v == w) ≡ false
-differs v w h = by (v == w) refl
-  where
-    by : (t : Bool) → (v == w) ≡ t → t ≡ false
-    by true e = absurd (h (eqb-true v w e))
-    by false e = refl
-
 -- one more is passed
 one-passed :
     (vs : List ℕ) (i w v : ℕ) → i < length vs → w ≡ get_or vs i w → (v ≡ w → ⊥) → list_any (λ u. v == u) (take i vs) ≡ false
@@ -111,7 +105,7 @@ one-passed vs i w v h e d p =
     ap (list_any (λ u. v == u)) (take-one vs i w h e)
     ∙ list_any-append (λ u. v == u) (take i vs) (w ∷ [])
     ∙ ap (λ t. t || ((v == w) || false)) p
-    ∙ ap (λ t. t || false) (differs v w d)
+    ∙ ap (λ t. t || false) (not-same v w d)
 
 pub found-skip :
     (limit : ℕ) (vs : List ℕ) (i next w : ℕ) (found : List ℕ)
@@ -181,13 +175,9 @@ pub found-all :
     (limit : ℕ) (vs : List ℕ) (i next : ℕ) (found : List ℕ) → length vs ≤ i → Found limit vs i next found → found ≡ made_in_order limit vs
 found-all limit vs i next found h f =
     f.same ∙ sym (passed-up-to next limit vs f.below (λ v l g.
-    any-parts (λ u. v == u) vs i (f.passed v l g) (ap (list_any (λ u. v == u)) (drop-end vs i h))))
+    any-parts (λ u. v == u) vs i (f.passed v l g) (ap (list_any (λ u. v == u)) (drop-all vs i h))))
 
 -- the order doesn't depend on that of the list
 pub order-of-sorted : (n : ℕ) (vs sorted found : List ℕ) → IsPermutation vs sorted → found ≡ made_in_order n sorted → found ≡ made_in_order n vs
 order-of-sorted n vs sorted found p h =
     h ∙ sym (filter_agree _ _ (λ v. list_any-IsPermutation (λ w. v == w) vs sorted p) (numbers_from 0 n))
-
-pub if-ok : {A B : Type 0} (r : Result A B) (P Q : A → Type 0) → ((x : A) → P x → Q x) → IfOk r P → IfOk r Q
-if-ok (Ok x) P Q h k = h x k
-if-ok (Err y) P Q h k = tt

@@ -10,7 +10,6 @@ use Rattle.fol_base.proofs.WorkedExamples.TestLemmas.{list_any-agree}
 use Rattle.tptp_tree.specs.Formula.{FormulaTree}
 use Rattle.signature.specs.Environment.{term_in_force}
 use Rattle.signature.specs.Clausal.{made_in_order}
-use Rattle.signature.proofs.OccurrenceLemmas.{drop-item, drop-end}
 use Rattle.skolem.specs.declared.bound_term.BoundTerm.TheVariants.{Closed}
 use Rattle.skolem.specs.declared.name.VariableName.{VariableName}
 use Rattle.skolem.specs.declared.bindings.Binding.{Binding}
@@ -18,10 +17,12 @@ use Rattle.skolem.specs.declared.bindings.Entry.{Entry}
 use Rattle.skolem.specs.BoundTerm.{bound_tree}
 use Rattle.skolem.specs.Bindings.{no_binding, no_entry, place_in, entry_variables, IsAlike, IsChained, bindings_of, HasVariables}
 use Rattle.skolem.specs.Progress.{environment_of, place_variables, variables_at, outer_variables, AreClosedFrom, with_closed, occurring}
-use Rattle.skolem.proofs.AboutBindings.ListLemmas.{added, length-last, length-take, take-take}
+use Rattle.skolem.proofs.AboutBindings.ListLemmas.{added, length-take}
 use Rattle.skolem.proofs.AboutBindings.BindingsLemmas.{found-none, found-some, found-place, place-under, binding-at}
-use Rattle.skolem.proofs.AboutBindings.OccurringLemmas.{any-flat_map, any-filter}
 use Rattle.skolem.proofs.AboutFormulas.FormLemmas.{any-mono}
+use Rattle.list_lemmas.proofs.Lists.{length-pushed}
+use Rattle.list_lemmas.proofs.Tests.{any-filter, any-flat_map, any-or}
+use Rattle.list_lemmas.proofs.Places.{drop-item, drop-all, take-less}
 
 -- ---- the binding at a place
 
@@ -79,7 +80,7 @@ pub has-last :
 has-last bs new b n vs a l h = subst (λ k. HasVariables new k vs) (sym longer) (omega (arith, longer, l), at-end)
   where
     longer : n ≡ suc (length bs)
-    longer = omega (arith, l, ap length a, length-last bs b)
+    longer = omega (arith, l, ap length a, length-pushed bs b)
 
     last-is : (cs : List Binding) → get_or (cs ++ b ∷ []) (length cs) no_binding ≡ b
     last-is [] = refl
@@ -209,7 +210,7 @@ inside-step n old mid names places new f c k e h =
     ∙ ap (λ bs. variables_at bs places ++ occurring f (with_closed names (environment_of old))) (sym same)
   where
     same : take n old ≡ take n mid
-    same = ap (take n) (sym k) ∙ take-take n (length old) mid c.within
+    same = ap (take n) (sym k) ∙ take-less n (length old) mid c.within
 
 -- the walk over a whole form
 pub whole-walk :
@@ -219,16 +220,6 @@ whole-walk n old now before places all l e b h =
     ap (λ bs. variables_at bs places) (e ∙ sym (take_all n old (omega (arith, l)))) ∙ h ∙ ap (λ ps. outer_variables n old ps ++ all) b
 
 -- ---- each place once
-
-any-or : (p q : ℕ → Bool) (ns : List ℕ) → list_any (λ n. p n || q n) ns ≡ (list_any p ns || list_any q ns)
-any-or p q [] = refl
-any-or p q (n ∷ ns) = ap (λ t. (p n || q n) || t) (any-or p q ns) ∙ by (p n) (q n) (list_any p ns) (list_any q ns)
-  where
-    by : (t u v w : Bool) → ((t || u) || (v || w)) ≡ ((t || v) || (u || w))
-    by true u v w = refl
-    by false true true w = refl
-    by false true false w = refl
-    by false false v w = refl
 
 any-never : (ns : List ℕ) → list_any (λ n. false) ns ≡ false
 any-never [] = refl
@@ -318,4 +309,4 @@ places-then bs made new all ps i p h e n m =
 
 pub places-end :
     (bs : List Binding) (made all ps : List ℕ) (i : ℕ) → length ps ≤ i → made ++ variables_at bs (drop i ps) ≡ all → made ≡ all
-places-end bs made all ps i h m = sym (append-nil made) ∙ ap (λ ws. made ++ variables_at bs ws) (sym (drop-end ps i h)) ∙ m
+places-end bs made all ps i h m = sym (append-nil made) ∙ ap (λ ws. made ++ variables_at bs ws) (sym (drop-all ps i h)) ∙ m

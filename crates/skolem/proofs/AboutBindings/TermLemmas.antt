@@ -1,9 +1,8 @@
 -- Lists of terms, as a walk over them works them off.
 use Rattle.std.proofs.Common.{◌≡◌, ℕ, ◌+◌, ◌<◌, ◌≤◌, List, [], ◌∷◌, ◌++◌, length, map, drop, get_or, refl, ap, sym, ◌∙◌, append-nil}
 use Rattle.std.specs.List.{list_all}
-use Rattle.tptp_tree.specs.Term.{terms_of}
+use Rattle.tptp_tree.specs.Term.{terms_of, TermTree}
 use Rattle.tptp_tree.specs.Shape.{term_of}
-use Rattle.tptp_tree.specs.Term.{TermTree}
 use Rattle.tptp_tree.specs.declared.term.TreeTerm.{TreeTerm}
 use Rattle.std.proofs.lemmas.Bool.{and_parts}
 use Rattle.signature.specs.declared.symbol.SymbolKind.{SymbolKind}
@@ -11,13 +10,11 @@ use Rattle.fol_base.specs.Tree.{Tree, variable, Trees, no_trees, tree_then, tree
 use Rattle.signature.specs.declared.symbol.Symbol.{Symbol}
 use Rattle.signature.specs.Symbol.{has_symbol}
 use Rattle.signature.specs.Occurrences.{terms_count, term_symbols, terms_symbols}
-use Rattle.signature.proofs.OccurrenceLemmas.{drop-item, drop-end, count_length}
+use Rattle.signature.proofs.OccurrenceLemmas.{count_length}
 use Rattle.skolem.specs.Skolemized.{IsKnown, AreKnown}
-use Rattle.skolem.proofs.AboutBindings.ListLemmas.{added, all-parts}
-
-pub listed : (ts : Trees) → trees_of (list_of ts) ≡ ts
-listed no_trees = refl
-listed (tree_then t ts) = ap (tree_then t) (listed ts)
+use Rattle.skolem.proofs.AboutBindings.ListLemmas.{added}
+use Rattle.list_lemmas.proofs.Tests.{all-parts}
+use Rattle.list_lemmas.proofs.Places.{drop-item, drop-all}
 
 -- the symbols of the next term are known, and those after it
 pub known-then :
@@ -38,7 +35,7 @@ variables-added made new vs i v all h e n m =
 pub variables-done :
     (made : List Tree) (vs : List ℕ) (i : ℕ) (all : List Tree)
     → length vs ≤ i → made ++ map variable (drop i vs) ≡ all → made ≡ all
-variables-done made vs i all h m = sym (append-nil made) ∙ ap (λ ws. made ++ map variable ws) (sym (drop-end vs i h)) ∙ m
+variables-done made vs i all h m = sym (append-nil made) ∙ ap (λ ws. made ++ map variable ws) (sym (drop-all vs i h)) ∙ m
 
 -- ---- heads
 

@@ -8,7 +8,7 @@ use Rattle.signature.specs.Form.{skolem_count, all_skolem_count}
 use Rattle.formula_nnf.specs.NormalForm.{constant_form, list_form, pair_form, quantifier_form, normal_form, normal_forms}
 use Rattle.skolem.specs.Skolemized.{skolemized, skolemized_list}
 use Rattle.skolem.specs.SkolemizedLaws.{SkolemSymbolsOfMatrixAreCounted}
-use Rattle.skolem.proofs.AboutBindings.ListLemmas.{length-last}
+use Rattle.list_lemmas.proofs.Lists.{length-pushed}
 
 abbrev count : Made → ℕ
 count m = length m.skolem_arities
@@ -40,7 +40,7 @@ terms-add n free (x ∷ xs) env m =
     let arguments : List ℕ = skolem_arguments (without_names (x ∷ xs) free) env m in
     let rest : count (with_skolem_terms n free (x ∷ xs) env m).made ≡ length (m.skolem_arities ++ length arguments ∷ []) + length xs =
     terms-add n free xs _ _ in
-    omega (arith, rest, length-last m.skolem_arities (length arguments))
+    omega (arith, rest, length-pushed m.skolem_arities (length arguments))
 
 scope-adds :
     (n : SymbolNumbers) (q : Quantifier) (sign : Bool) (xs : List (List ℕ)) (f : FormulaTree) (env : Environment) (m : Made)

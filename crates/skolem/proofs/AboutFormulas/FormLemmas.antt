@@ -16,17 +16,19 @@ use Rattle.signature.specs.Symbol.{predicate_symbol, has_symbol, number_of}
 use Rattle.signature.specs.Occurrences.{terms_count, formula_symbols, formulas_symbols}
 use Rattle.signature.specs.Environment.{Environment, terms_under, without_names, term_in_force}
 use Rattle.signature.specs.Clausal.{SymbolNumbers, Made, Scope, atom_literal, with_variables, with_skolem_terms, skolem_arguments, applied}
-use Rattle.signature.proofs.OccurrenceLemmas.{drop-item, drop-end}
 use Rattle.formula_nnf.specs.declared.form.Nnf.{Nnf}
 use Rattle.formula_nnf.specs.Shape.{nnf_tree}
 use Rattle.skolem.specs.declared.progress.Progress.{Progress}
 use Rattle.skolem.specs.Matrix.{MatrixTree, literal, MatrixTrees, no_matrices, matrix_then, matrices_of, list_of_matrices}
 use Rattle.skolem.specs.Skolemized.{Skolemized, SkolemizedList, skolemized, skolemized_list, numbers_after, AreKnown}
 use Rattle.skolem.specs.Progress.{environment_of, variable_term, made_of, scope_of_progress, skolem_step, skolem_steps, occurring_in}
-use Rattle.skolem.proofs.AboutBindings.ListLemmas.{added, all-parts}
+use Rattle.skolem.proofs.AboutBindings.ListLemmas.{added}
 use Rattle.skolem.proofs.AboutBindings.BoundTermLemmas.{variables-of}
 use Rattle.skolem.proofs.AboutBindings.BindingsLemmas.{environment-last}
-use Rattle.skolem.proofs.AboutBindings.OccurringLemmas.{is_in, in-some, turned}
+use Rattle.skolem.proofs.AboutBindings.OccurringLemmas.{is_in, in-some}
+use Rattle.list_lemmas.proofs.Tests.{all-parts}
+use Rattle.list_lemmas.proofs.Places.{drop-item, drop-all}
+use Rattle.list_lemmas.proofs.Lists.{bytes-turned}
 
 -- ---- quantifiers
 
@@ -50,7 +52,7 @@ variables-then names i x p q all h e b v a m =
 pub variables-done :
     (names : List (List ℕ)) (i : ℕ) (p : Progress) (all : Scope)
     → length names ≤ i → with_variables (drop i names) (environment_of p.bindings) (made_of p) ≡ all → scope_of_progress p ≡ all
-variables-done names i p all h m = ap (λ xs. with_variables xs (environment_of p.bindings) (made_of p)) (sym (drop-end names i h)) ∙ m
+variables-done names i p all h m = ap (λ xs. with_variables xs (environment_of p.bindings) (made_of p)) (sym (drop-all names i h)) ∙ m
 
 pub scope-step :
     (known : List Symbol) (x : List ℕ) (p q : Progress) (arguments : List ℕ) (t : BoundTerm) (symbol arity : ℕ)
@@ -87,7 +89,7 @@ pub steps-done :
     (n : SymbolNumbers) (arguments : List ℕ) (names : List (List ℕ)) (i : ℕ) (p : Progress) (all : Scope)
     → length names ≤ i → skolem_steps n arguments (drop i names) (scope_of_progress p) ≡ all → scope_of_progress p ≡ all
 steps-done n arguments names i p all h m =
-    ap (λ xs. skolem_steps n arguments xs (scope_of_progress p)) (sym (drop-end names i h)) ∙ m
+    ap (λ xs. skolem_steps n arguments xs (scope_of_progress p)) (sym (drop-all names i h)) ∙ m
 
 -- ---- the Skolem terms of one quantifier have the same arguments
 
@@ -151,7 +153,7 @@ adds-none v x xs free env symbol arguments h =
 
     -- whether the variable is in the term of a name, which may be the new one
     is-new : (y : List ℕ) → is_in v new y ≡ (if bytes_eq y x then list_any (λ w. v == w) arguments else is_in v env y)
-    is-new y = case (bytes_eq x y) ∙ ap (λ t. if t then list_any (λ w. v == w) arguments else is_in v env y) (turned x y)
+    is-new y = case (bytes_eq x y) ∙ ap (λ t. if t then list_any (λ w. v == w) arguments else is_in v env y) (bytes-turned x y)
       where
         case :
             (t : Bool)
@@ -289,14 +291,14 @@ matrices-done known fs i p made all h m =
     ap matrices_of
     (sym (append-nil made)
     ∙ ap (λ gs. made ++ list_of_matrices (skolemized_list (numbers_after known) (formulas_of (map nnf_tree gs)) (environment_of p.bindings) (made_of p)).matrices)
-    (sym (drop-end fs i h)))
+    (sym (drop-all fs i h)))
     ∙ m
 
 pub made-done :
     (known : List Symbol) (fs : List Nnf) (i : ℕ) (p : Progress) (all : Made)
     → length fs ≤ i → made_left known fs i p ≡ all → made_of p ≡ all
 made-done known fs i p all h m =
-    ap (λ gs. (skolemized_list (numbers_after known) (formulas_of (map nnf_tree gs)) (environment_of p.bindings) (made_of p)).made) (sym (drop-end fs i h))
+    ap (λ gs. (skolemized_list (numbers_after known) (formulas_of (map nnf_tree gs)) (environment_of p.bindings) (made_of p)).made) (sym (drop-all fs i h))
     ∙ m
 
 pub forms-known :

@@ -6,7 +6,6 @@ use Rattle.tptp_tree.specs.Formula.{FormulaTree, truth, falsity, predicate, equa
 use Rattle.signature.specs.declared.symbol.Symbol.{Symbol}
 use Rattle.signature.specs.Environment.{Environment}
 use Rattle.signature.specs.Clausal.{SymbolNumbers, Made, Scope, scope_of, makes_variables}
-use Rattle.signature.proofs.OccurrenceLemmas.{drop-item, drop-end}
 use Rattle.formula_nnf.specs.declared.form.Nnf.{Nnf}
 use Rattle.formula_nnf.specs.Shape.{nnf_tree}
 use Rattle.skolem.specs.Matrix.{MatrixTree, MatrixTrees, matrices_of, list_of_matrices}
@@ -18,22 +17,8 @@ use Rattle.skolem.specs.declared.forms.MatrixEnd.{MatrixEnd}
 use Rattle.skolem.specs.declared.forms.MatrixEnd.TheVariants.{NoMemory, TooHeavy, TotalLimit}
 use Rattle.skolem.specs.declared.progress.Progress.{Progress}
 use Rattle.skolem.proofs.AboutFormulas.FormLemmas.{list_left, matrices_left, left-then, rest-same, one}
-
-pub or-first : (t u : Bool) → t ≡ true → (t || u) ≡ true
-or-first true u h = refl
-or-first false u h = cc
-
-pub or-second : (t u : Bool) → u ≡ true → (t || u) ≡ true
-or-second true u h = refl
-or-second false u h = h
-
-pub or-either : (t u : Bool) → (t || u) ≡ true → (t ≡ true) ⊎ (u ≡ true)
-or-either true u h = inl refl
-or-either false u h = inr h
-
-and-both : (t u : Bool) → t ≡ true → u ≡ true → (t && u) ≡ true
-and-both true u p q = q
-and-both false u p q = cc
+use Rattle.list_lemmas.proofs.Bools.{both-true, or-second, or-first, or-either}
+use Rattle.list_lemmas.proofs.Places.{drop-item, drop-all}
 
 -- ---- a form that has clauses, and its matrix
 
@@ -84,7 +69,7 @@ mutual
   all-forms-have n (formula_then f fs) env m h =
       let s : Skolemized = skolemized n f env m in
       let parts : (form_has_clauses f ≡ true) × (all_forms_have_clauses fs ≡ true) = and_parts (form_has_clauses f) (all_forms_have_clauses fs) h in
-      and-both (has_clauses s.matrix) (all_have_clauses (skolemized_list n fs env s.made).matrices) (form-has n f env m parts.0) (all-forms-have n fs env s.made parts.1)
+      both-true (has_clauses s.matrix) (all_have_clauses (skolemized_list n fs env s.made).matrices) (form-has n f env m parts.0) (all-forms-have n fs env s.made parts.1)
 
 -- ---- where the work ends
 
@@ -135,7 +120,7 @@ pub ended-member :
 ended-member known fs i f p made all NoMemory inside counted begun h e m k g = tt
 ended-member known fs i f p made all TooHeavy inside counted begun h e m k g =
     let parts : (inside ≡ true) × (heavy_matrix (one known f p).matrix ≡ true) = and_parts inside (heavy_matrix (one known f p).matrix) g in
-    and-both inside (some_heavy all) parts.0
+    both-true inside (some_heavy all) parts.0
     (ap some_heavy (sym m)
     ∙ ap (λ (s : SkolemizedList). some_heavy (matrices_of (made ++ list_of_matrices s.matrices))) (left-then known fs i f p h e)
     ∙ heavy-among made _ (one known f p).matrix parts.1)
@@ -166,8 +151,8 @@ ended-members n fs env m counted NoMemory in_clauses inside e g = tt
 ended-members n fs env m counted TooHeavy in_clauses inside e g =
     let parts : (inside ≡ true) × (some_heavy (skolemized_list n fs env m).matrices ≡ true) = and_parts inside (some_heavy (skolemized_list n fs env m).matrices) g in
     let both : (in_clauses ≡ true) × (all_forms_have_clauses fs ≡ true) = and_parts in_clauses (all_forms_have_clauses fs) (sym e ∙ parts.0) in
-    and-both in_clauses (all_have_clauses (skolemized_list n fs env m).matrices && some_heavy (skolemized_list n fs env m).matrices) both.0
-    (and-both (all_have_clauses (skolemized_list n fs env m).matrices) (some_heavy (skolemized_list n fs env m).matrices) (all-forms-have n fs env m both.1) parts.1)
+    both-true in_clauses (all_have_clauses (skolemized_list n fs env m).matrices && some_heavy (skolemized_list n fs env m).matrices) both.0
+    (both-true (all_have_clauses (skolemized_list n fs env m).matrices) (some_heavy (skolemized_list n fs env m).matrices) (all-forms-have n fs env m both.1) parts.1)
 ended-members n fs env m counted TotalLimit in_clauses inside e g = omega (arith, g, counted-members n fs env m in_clauses inside e)
 
 pub counted-product :
@@ -207,7 +192,7 @@ some-found fs i f all h e g k =
 
 pub some-end :
     (fs : List Nnf) (i : ℕ) (all : Bool) → length fs ≤ i → some_form_has_clauses (formulas_of (map nnf_tree (drop i fs))) ≡ all → false ≡ all
-some-end fs i all h k = ap (λ gs. some_form_has_clauses (formulas_of (map nnf_tree gs))) (sym (drop-end fs i h)) ∙ k
+some-end fs i all h k = ap (λ gs. some_form_has_clauses (formulas_of (map nnf_tree gs))) (sym (drop-all fs i h)) ∙ k
 
 pub all-passed :
     (fs : List Nnf) (i : ℕ) (f : Nnf) (all : Bool) → i < length fs → f ≡ get_or fs i f → form_has_clauses (nnf_tree f) ≡ true
@@ -225,4 +210,4 @@ all-missed fs i f all h e g k =
 
 pub all-end :
     (fs : List Nnf) (i : ℕ) (all : Bool) → length fs ≤ i → all_forms_have_clauses (formulas_of (map nnf_tree (drop i fs))) ≡ all → true ≡ all
-all-end fs i all h k = ap (λ gs. all_forms_have_clauses (formulas_of (map nnf_tree gs))) (sym (drop-end fs i h)) ∙ k
+all-end fs i all h k = ap (λ gs. all_forms_have_clauses (formulas_of (map nnf_tree gs))) (sym (drop-all fs i h)) ∙ k

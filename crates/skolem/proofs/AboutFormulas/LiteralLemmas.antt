@@ -13,7 +13,6 @@ use Rattle.signature.specs.declared.symbol.SymbolKind.{SymbolKind}
 use Rattle.signature.specs.Symbol.{function_symbol, predicate_symbol, number_of}
 use Rattle.signature.specs.Occurrences.{terms_count}
 use Rattle.signature.specs.Environment.{Environment, term_names, terms_names, term_in_force, term_under, terms_under}
-use Rattle.signature.proofs.OccurrenceLemmas.{drop-item, drop-end}
 use Rattle.skolem.specs.declared.literal.Atom.{Atom}
 use Rattle.skolem.specs.declared.literal.Atom.TheVariants.{Pred, Equal}
 use Rattle.skolem.specs.declared.literal.BoundLiteral.{BoundLiteral}
@@ -22,6 +21,7 @@ use Rattle.skolem.specs.Skolemized.{AreKnown}
 use Rattle.skolem.specs.Literal.{terms_in_force, filled, filled_terms, size_under, sizes_under, atom_symbols, atom_names, atom_size, atom_under, atom_filled, IsBound}
 use Rattle.skolem.proofs.AboutBindings.ListLemmas.{added}
 use Rattle.skolem.proofs.AboutBindings.TermLemmas.{head-same}
+use Rattle.list_lemmas.proofs.Places.{drop-item, drop-all}
 
 -- ---- filling with the terms in force
 
@@ -163,7 +163,7 @@ pub bound-done :
     (made all : List Tree) (env : Environment) (ts : List TreeTerm) (i : ℕ)
     → length ts ≤ i → made ++ terms_in_force env (terms_names (terms_of (map term_of (drop i ts)))) ≡ all → made ≡ all
 bound-done made all env ts i h m =
-    sym (append-nil made) ∙ ap (λ us. made ++ terms_in_force env (terms_names (terms_of (map term_of us)))) (sym (drop-end ts i h)) ∙ m
+    sym (append-nil made) ∙ ap (λ us. made ++ terms_in_force env (terms_names (terms_of (map term_of us)))) (sym (drop-all ts i h)) ∙ m
 
 pub sizes-added :
     (made new all : ℕ) (env : Environment) (ts : List TreeTerm) (i : ℕ) (t : TreeTerm)
@@ -179,7 +179,7 @@ pub sizes-done :
     (made all : ℕ) (env : Environment) (ts : List TreeTerm) (i : ℕ)
     → length ts ≤ i → made ≤ 2 ^ 64 - 1 → min (made + sizes_under env (terms_of (map term_of (drop i ts)))) (2 ^ 64 - 1) ≡ all → made ≡ all
 sizes-done made all env ts i h l m =
-    let none : sizes_under env (terms_of (map term_of (drop i ts))) ≡ 0 = ap (λ us. sizes_under env (terms_of (map term_of us))) (drop-end ts i h) in
+    let none : sizes_under env (terms_of (map term_of (drop i ts))) ≡ 0 = ap (λ us. sizes_under env (terms_of (map term_of us))) (drop-all ts i h) in
     omega (arith, none, l, m)
 
 abbrev pub fills_left : List Symbol → List TreeTerm → ℕ → List Tree → List Tree
@@ -201,7 +201,7 @@ pub fills-done :
     (made us : List Tree) (known : List Symbol) (ts : List TreeTerm) (i : ℕ) (all : Trees)
     → length ts ≤ i → trees_of (made ++ fills_left known ts i us) ≡ all → trees_of made ≡ all
 fills-done made us known ts i all h m =
-    ap trees_of (sym (append-nil made) ∙ ap (λ ss. made ++ list_of (filled_terms known (terms_of (map term_of ss)) us)) (sym (drop-end ts i h))) ∙ m
+    ap trees_of (sym (append-nil made) ∙ ap (λ ss. made ++ list_of (filled_terms known (terms_of (map term_of ss)) us)) (sym (drop-all ts i h))) ∙ m
 
 -- how many terms the variables from the i-th term on take
 abbrev pub names_left : List TreeTerm → ℕ → ℕ
@@ -238,7 +238,7 @@ names-added us vs all ts i t h e d m =
 
 pub names-done :
     (us all : List Tree) (ts : List TreeTerm) (i : ℕ) → length ts ≤ i → drop (names_left ts i) us ≡ all → us ≡ all
-names-done us all ts i h m = ap (λ ss. drop (length (terms_names (terms_of (map term_of ss)))) us) (sym (drop-end ts i h)) ∙ m
+names-done us all ts i h m = ap (λ ss. drop (length (terms_names (terms_of (map term_of ss)))) us) (sym (drop-all ts i h)) ∙ m
 
 pub variables-then :
     {X : Type 0} (f : X → Tree) (made new all : List ℕ) (ts : List X) (i : ℕ) (t : X)
@@ -250,7 +250,7 @@ variables-then f made new all ts i t h e n m =
 pub variables-end :
     {X : Type 0} (f : X → Tree) (made all : List ℕ) (ts : List X) (i : ℕ)
     → length ts ≤ i → made ++ flat_map tree_variables (map f (drop i ts)) ≡ all → made ≡ all
-variables-end f made all ts i h m = sym (append-nil made) ∙ ap (λ ws. made ++ flat_map tree_variables (map f ws)) (sym (drop-end ts i h)) ∙ m
+variables-end f made all ts i h m = sym (append-nil made) ∙ ap (λ ws. made ++ flat_map tree_variables (map f ws)) (sym (drop-all ts i h)) ∙ m
 
 -- ---- heads
 

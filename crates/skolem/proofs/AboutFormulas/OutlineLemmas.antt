@@ -10,7 +10,6 @@ use Rattle.tptp_tree.specs.Formula.{FormulaTree, formulas_of}
 use Rattle.signature.specs.declared.symbol.Symbol.{Symbol}
 use Rattle.signature.specs.Clausal.{Made, made_in_order, is_large_count}
 use Rattle.signature.specs.Form.{nothing_made}
-use Rattle.signature.proofs.OccurrenceLemmas.{drop-item, drop-end}
 use Rattle.formula_nnf.specs.declared.form.Nnf.{Nnf}
 use Rattle.formula_nnf.specs.Shape.{nnf_tree}
 use Rattle.skolem.specs.declared.outline.Outline.{Outline}
@@ -22,11 +21,13 @@ use Rattle.skolem.specs.Heavy.{has_clauses, some_have_clauses, all_have_clauses,
 use Rattle.skolem.specs.Skolemized.{SkolemizedList, skolemized, skolemized_list, numbers_after, skolemized_form}
 use Rattle.skolem.specs.Progress.{environment_of, made_of}
 use Rattle.skolem.specs.Outline.{ClauseOutline, constant_outline, sum_outline, pairs_outline_of, pairs_outline, named_outline, product_outline, joined_outline, outline_of, outlines_of, AreSame, told, lasting, IsOutline, IsOutlineEnd}
-use Rattle.skolem.proofs.AboutBindings.OccurringLemmas.{any-filter}
-use Rattle.skolem.proofs.AboutBindings.OrderLemmas.{differs}
 use Rattle.skolem.proofs.AboutBindings.PlaceLemmas.{any-members}
 use Rattle.skolem.proofs.AboutFormulas.FormLemmas.{list_left, one, rest-same, left-then}
-use Rattle.skolem.proofs.AboutFormulas.HeavyLemmas.{or-either, form-has, all-forms-have}
+use Rattle.skolem.proofs.AboutFormulas.HeavyLemmas.{form-has, all-forms-have}
+use Rattle.list_lemmas.proofs.Tests.{any-filter}
+use Rattle.list_lemmas.proofs.Numbers.{not-same}
+use Rattle.list_lemmas.proofs.Places.{drop-item, drop-all}
+use Rattle.list_lemmas.proofs.Bools.{or-either}
 
 -- ---- variables
 
@@ -41,7 +42,7 @@ pub once-same : (n : ℕ) (xs found : List ℕ) → 2 ^ 32 - 1 ≤ n → found �
 once-same n xs found m e v l =
     ap (list_any (λ w. v == w)) e
     ∙ any-filter (λ w. v == w) (λ u. list_any (λ w. u == w) xs) (numbers_from 0 n)
-    ∙ any-members (λ w. v == w) n xs (λ p h. differs v p (λ q. omega (arith, q, h, l, m)))
+    ∙ any-members (λ w. v == w) n xs (λ p h. not-same v p (λ q. omega (arith, q, h, l, m)))
 
 agreeing :
     (xs ys : List ℕ) (b k : ℕ) → AreSame xs ys → b + k ≤ 2 ^ 32 - 1
@@ -96,7 +97,7 @@ pub paired-some :
     → (max c.largest c.defining ≤ MOST_SYMBOLS → AreSame c.variables.items (a.variables.items ++ b.variables.items))
     → IsOutline a t → IsOutline b u → IsOutline c (pairs_outline t u)
 paired-some a b c t u n m z e l d v h g =
-    subst (λ s. IsOutline c (pairs_outline_of s t u)) (sym (differs (t.clauses * u.clauses) 0 (λ q. z (m ∙ times-same a b t u h g ∙ q))))
+    subst (λ s. IsOutline c (pairs_outline_of s t u)) (sym (not-same (t.clauses * u.clauses) 0 (λ q. z (m ∙ times-same a b t u h g ∙ q))))
     (record {
       clauses = e ∙ m ∙ times-same a b t u h g;
       defining = omega (arith, d, h.defining, g.defining);
@@ -354,7 +355,7 @@ pub outline-done :
 outline-done known fs i p inside listed began a all h o =
     subst (IsOutline a)
     (ap (λ gs. outlines_of listed began o.0 (skolemized_list (numbers_after known) (formulas_of (map nnf_tree gs)) (environment_of p.bindings) (made_of p)).matrices)
-    (sym (drop-end fs i h))
+    (sym (drop-all fs i h))
     ∙ o.1.1.1) o.1.0
 
 -- ---- where the walk ends

@@ -1,7 +1,7 @@
 -- From the matrix of a form of its own to a problem.
 use Rattle.std.proofs.Common.{◌≡◌, ℕ, ◌+◌, Bool, true, false, not, ◌||◌, List, [], ◌∷◌, ◌++◌, length, refl, ap, ap₂, sym, ◌∙◌, arith, append_assoc, append-nil, eq-eqb, subst, true≢false}
-use Rattle.std.specs.Prelude.{cond, bytes_eq, nat_eq}
-use Rattle.std.specs.List.{list_any, list_all, position_or_len, starts_with}
+use Rattle.std.specs.Prelude.{bytes_eq, nat_eq}
+use Rattle.std.specs.List.{list_any, starts_with}
 use Rattle.std.specs.Fmt.{decimal}
 use Rattle.std.proofs.lemmas.Bool.{and_parts, and_from}
 use Rattle.std.proofs.lemmas.List.{length-append}
@@ -22,21 +22,11 @@ use Rattle.skolem.specs.Matrix.{literal, conjunction as all_of, disjunction as s
 use Rattle.skolem.specs.Skolemized.{Skolemized, SkolemizedList, skolemized, skolemized_list, numbers_after, skolemized_form, AreKnown}
 use Rattle.skolem.specs.MatrixClauses.{matrix_clauses}
 use Rattle.skolem.specs.ProblemLaws.{MatrixOfFormIsThatInProblem, ClausesInProblemAreThoseOfMatrix, NormalFormKeepsKnownSymbols, SkolemSymbolsAreNumberedOn, LaterNamesAreUnused}
-use Rattle.skolem.proofs.AboutBindings.ListLemmas.{all-parts}
 use Rattle.skolem.proofs.AboutFormulas.SymbolLemmas.{unused-then}
 use Rattle.skolem.proofs.AboutFormulas.ClauseLemmas.{matrix_of_normal_form_keeps_clauses}
+use Rattle.list_lemmas.proofs.Tests.{all-joined, all-parts, position-kept}
 
 -- ---- the numbers of known symbols
-
-place-before : {X : Type 0} (p : X → Bool) (xs ys : List X) → list_any p xs ≡ true → position_or_len p (xs ++ ys) ≡ position_or_len p xs
-place-before p [] ys h = cc
-place-before p (x ∷ xs) ys h = by (p x) h (place-before p xs ys)
-  where
-    by :
-        (t : Bool) → (t || list_any p xs) ≡ true → (list_any p xs ≡ true → position_or_len p (xs ++ ys) ≡ position_or_len p xs)
-        → cond (not t) (1 + position_or_len p (xs ++ ys)) 0 ≡ cond (not t) (1 + position_or_len p xs) 0
-    by true g f = refl
-    by false g f = ap (λ k. 1 + k) (f g)
 
 mutual
   term-before :
@@ -44,7 +34,7 @@ mutual
       → term_under (known ++ others) env t ≡ term_under known env t
   term-before known others env (named_variable x) h = refl
   term-before known others env (named_application f ts) h =
-      ap₂ application (place-before (same_symbol (function_symbol f (terms_count ts))) known others (and_parts _ _ h).0)
+      ap₂ application (position-kept (same_symbol (function_symbol f (terms_count ts))) known others (and_parts _ _ h).0)
       (terms-before known others env ts (and_parts _ _ h).1)
 
   terms-before :
@@ -115,7 +105,7 @@ mutual
   matrix-shift n others earlier o l falsity env m h = refl
   matrix-shift n others earlier o l (predicate p ts) env m h =
       sym (ap₂ (λ number trees. let r : Skolemized = record { matrix = literal (atom_literal true (application number trees)); made = shifted earlier o m } in r)
-      (place-before (same_symbol (predicate_symbol p (terms_count ts))) n.symbols others (and_parts _ _ h).0)
+      (position-kept (same_symbol (predicate_symbol p (terms_count ts))) n.symbols others (and_parts _ _ h).0)
       (terms-before n.symbols others env ts (and_parts _ _ h).1))
   matrix-shift n others earlier o l (equation positive s t) env m h =
       let parts : AreKnown n.symbols (term_symbols s) × AreKnown n.symbols (term_symbols t) =
@@ -159,10 +149,6 @@ matrix_of_form_is_that_in_problem n others f m h l =
     ∙ matrix-shift n others m.skolem_arities (begun m) l f [] nothing_made h
 
 -- ---- the symbols of a normal form
-
-all-joined : {X : Type 0} (p : X → Bool) (xs ys : List X) → list_all p xs ≡ true → list_all p ys ≡ true → list_all p (xs ++ ys) ≡ true
-all-joined p [] ys h k = k
-all-joined p (x ∷ xs) ys h k = and_from _ _ (and_parts _ _ h).0 (all-joined p xs ys (and_parts _ _ h).1 k)
 
 list-known : (known : List Symbol) (all : Bool) (fs : FormulaTrees) → AreKnown known (formulas_symbols fs) → AreKnown known (formula_symbols (list_form all fs))
 list-known known true fs h = h

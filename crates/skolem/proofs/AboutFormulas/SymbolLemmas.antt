@@ -8,16 +8,9 @@ use Rattle.std.proofs.lemmas.Slice.Eq.{bytes_eq-Decides}
 use Rattle.signature.specs.declared.symbol.Symbol.{Symbol}
 use Rattle.signature.specs.Symbol.{is_named, function_symbol, true_symbol, IsSignature}
 use Rattle.signature.specs.Form.{AreUnused, numbered_symbols}
-use Rattle.signature.proofs.OccurrenceLemmas.{drop-item, drop-end}
-use Rattle.skolem.proofs.AboutBindings.ListLemmas.{added, any-last, take-kept, length-last}
-
-prefix-off : (prefix xs ys : List ℕ) → prefix ++ xs ≡ prefix ++ ys → xs ≡ ys
-prefix-off [] xs ys h = h
-prefix-off (b ∷ prefix) xs ys h = prefix-off prefix xs ys (ap tail h)
-  where
-    tail : List ℕ → List ℕ
-    tail [] = []
-    tail (c ∷ cs) = cs
+use Rattle.skolem.proofs.AboutBindings.ListLemmas.{added, any-last, take-kept}
+use Rattle.list_lemmas.proofs.Lists.{length-pushed, same-rest}
+use Rattle.list_lemmas.proofs.Places.{drop-item, drop-all}
 
 other-number : (prefix : List ℕ) (k n : ℕ) → k < 2 ^ 32 → n < k → bytes_eq (prefix ++ decimal k) (prefix ++ decimal n) ≡ false
 other-number prefix k n h l = by (bytes_eq (prefix ++ decimal k) (prefix ++ decimal n)) refl
@@ -29,7 +22,7 @@ other-number prefix k n h l = by (bytes_eq (prefix ++ decimal k) (prefix ++ deci
           arith,
           l,
           decimal_injective k n (omega (arith, h)) (omega (arith, h, l))
-              (prefix-off prefix (decimal k) (decimal n) ((bytes_eq-Decides (prefix ++ decimal k) (prefix ++ decimal n)).0 e)),
+              (same-rest prefix (decimal k) (decimal n) ((bytes_eq-Decides (prefix ++ decimal k) (prefix ++ decimal n)).0 e)),
         ))
 
 -- the later numbers are unused after a symbol is added
@@ -55,7 +48,7 @@ pub numbered-done :
     (known all : List Symbol) (prefix : List ℕ) (n : ℕ) (arities : List ℕ) (i : ℕ)
     → length arities ≤ i → known ++ numbered_symbols function_symbol prefix n (drop i arities) ≡ all → known ≡ all
 numbered-done known all prefix n arities i h m =
-    sym (append-nil known) ∙ ap (λ left. known ++ numbered_symbols function_symbol prefix n left) (sym (drop-end arities i h)) ∙ m
+    sym (append-nil known) ∙ ap (λ left. known ++ numbered_symbols function_symbol prefix n left) (sym (drop-all arities i h)) ∙ m
 
 some-item : {X : Type 0} (xs : List X) (x : X) → slice_get xs 0 ≡ Some x → 1 ≤ length xs
 some-item [] x h = cc
@@ -82,7 +75,7 @@ symbols-then old known new all prefix next n m arities i arity h g e k inv = (
       subst (AreUnused new prefix) (sym k) (unused-then known new prefix n arity e inv.1.1.0),
       (
         take-kept old known (function_symbol (prefix ++ decimal n) arity) new inv.1.1.1.0 e inv.1.1.1.1,
-        omega (arith, ap length e, length-last known (function_symbol (prefix ++ decimal n) arity), inv.1.1.1.1),
+        omega (arith, ap length e, length-pushed known (function_symbol (prefix ++ decimal n) arity), inv.1.1.1.1),
       ),
     ),
   ),

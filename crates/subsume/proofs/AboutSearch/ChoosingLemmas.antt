@@ -24,7 +24,9 @@ use Rattle.subsume.specs.Kinds.{AreLiterals, TurnsInto, are_alike}
 use Rattle.subsume.specs.Choosing.{AreNoPartners, HasNoPartner, IsNoPartner}
 use Rattle.subsume.specs.Placing.{IsFoundFor, Places, is_free}
 use Rattle.subsume.specs.Target.{IsMapped, Maps}
-use Rattle.subsume.proofs.AboutSearch.PlacingLemmas.{alike-needed, below-item, length-mapped, split-below, there-within, within}
+use Rattle.subsume.proofs.AboutSearch.PlacingLemmas.{alike-needed, below-item, there-within, within}
+use Rattle.list_lemmas.proofs.Lists.{length-mapped}
+use Rattle.list_lemmas.proofs.Numbers.{below-or-same}
 
 -- ---- either order of the sides
 
@@ -103,7 +105,7 @@ no-partner-more so_far used l ds at m there here before = λ k n below stands fr
     let same : Some m ≡ Some n = sym there ∙ ap (slice_get ds) (sym e) ∙ stands in
     let one : m ≡ n = cc in
     subst (IsNoPartner so_far l) one (here (subst (λ j. is_free used j ≡ true) e free)))
-    (split-below k at below)
+    (below-or-same k at below)
 
 pub no-partner-taken :
     (so_far : Pairs) (used : List Bool) (l : TreeLiteral) (ds : List TreeLiteral) (at : ℕ)
@@ -112,7 +114,7 @@ no-partner-taken so_far used l ds at taken before = λ k n below stands free.
     ⊎_elim
     (λ e. before k n e stands free)
     (λ e. absurd (taken (subst (λ j. is_free used j ≡ true) e free)))
-    (split-below k at below)
+    (below-or-same k at below)
 
 -- ---- different places in another order
 

@@ -2,19 +2,16 @@
 use Rattle.std.proofs.Common.{◌≡◌, ℕ, Bool, true, false, ◌||◌, ◌==◌, None, Some, List, [], ◌∷◌, ◌++◌, refl, ap, sym, ◌∙◌, subst, ⊎_elim}
 use Rattle.std.specs.Prelude.{not, unwrap_or}
 use Rattle.std.specs.List.{list_any}
-use Rattle.std.proofs.lemmas.Bool.{and_parts, and_from, or_parts, not-true, cond-true, cond-false, cases_Bool, eqb-true, eq-eqb, true≢false}
+use Rattle.std.proofs.lemmas.Bool.{and_parts, and_from, or_parts, not-true, cond-true, cond-false, cases_Bool, eqb-true, eq-eqb}
 use Rattle.fol_base.specs.Tree.{Tree, variable, tree_variables}
 use Rattle.fol_base.specs.Instance.{Substitution}
 use Rattle.fol_base.specs.Subsumption.{all_different}
 use Rattle.unifier.specs.Matching.{variables_of, term_for, by_pairs, HasPairs, with_further, IsMatched}
 use Rattle.unifier.proofs.AboutMatching.MatchLemmas.{Pairs}
+use Rattle.list_lemmas.proofs.Numbers.{differs-turned}
 
 abbrev has : ℕ → List ℕ → Bool
 has v vs = list_any (λ w. v == w) vs
-
-other-way : (v w : ℕ) → (v == w) ≡ false → (w == v) ≡ false
-other-way v w n =
-    ⊎_elim (λ same. absurd (true≢false (sym (eq-eqb v w (sym (eqb-true w v same))) ∙ n))) (λ other. other) (cases_Bool (w == v))
 
 has-push : (v w : ℕ) (vs : List ℕ) → has v vs ≡ false → (v == w) ≡ false → has v (vs ++ w ∷ []) ≡ false
 has-push v w [] h n = ap (λ b. b || false) n
@@ -28,7 +25,7 @@ different-push w (v ∷ vs) h n =
     let parts = and_parts (not (has v vs)) (all_different vs) h in
     let others = or_parts (w == v) (has w vs) n in
     and_from (not (has v (vs ++ w ∷ []))) (all_different (vs ++ w ∷ []))
-    (ap not (has-push v w vs (not-true (has v vs) parts.0) (other-way w v others.0)))
+    (ap not (has-push v w vs (not-true (has v vs) parts.0) (differs-turned w v others.0)))
     (different-push w vs parts.1 others.1)
 
 different-further : (vs ws : List ℕ) → all_different vs ≡ true → all_different (with_further vs ws) ≡ true

@@ -1,6 +1,6 @@
 -- The search for different literals: what a match adds, what a target that is taken adds, and why nothing else comes into question.
 use mathlib.Core.Bool.{beq}
-use Rattle.std.proofs.Common.{◌≡◌, ◌↔◌, ◌⊎◌, ℕ, zero, suc, ◌+◌, ◌<◌, Bool, true, false, ◌&&◌, ◌||◌, ◌==◌, Option, None, Some, List, [], ◌∷◌, length, map, get_or, refl, ap, sym, ◌∙◌, inl, inr, ⊎_elim, subst, arith}
+use Rattle.std.proofs.Common.{◌≡◌, ◌↔◌, ◌⊎◌, ℕ, zero, suc, ◌+◌, ◌<◌, Bool, true, false, ◌&&◌, ◌||◌, ◌==◌, Option, None, Some, List, [], ◌∷◌, length, get_or, refl, ap, sym, ◌∙◌, inl, inr, ⊎_elim, subst, arith}
 use Rattle.std.specs.Prelude.{not, slice_get, slice_set, slice_index_or, is_some, IsTrue, All, MatchOption, ⊤}
 use Rattle.std.specs.List.{list_all, list_any}
 use Rattle.std.proofs.lemmas.List.Elements.{All-head, All-tail}
@@ -22,20 +22,10 @@ use Rattle.unifier.specs.Laws.{are_of_one_kind}
 use Rattle.unifier.proofs.AboutMatching.MatchLemmas.{Pairs}
 use Rattle.subsume.specs.Kinds.{AreLiterals, TurnsInto, are_alike}
 use Rattle.subsume.specs.Placing.{is_free, IsPlaced, Places, IsFoundFor}
+use Rattle.list_lemmas.proofs.Bools.{beq-says, beq-from}
+use Rattle.list_lemmas.proofs.Numbers.{below-or-same}
 
 -- ---- kinds
-
-beq-says : (a b : Bool) → beq a b ≡ true → a ≡ b
-beq-says true true h = refl
-beq-says true false h = absurd cc
-beq-says false true h = absurd cc
-beq-says false false h = refl
-
-beq-from : (a b : Bool) → a ≡ b → beq a b ≡ true
-beq-from true true h = refl
-beq-from true false h = absurd cc
-beq-from false true h = absurd cc
-beq-from false false h = refl
 
 pub record Alike (l m : TreeLiteral) : Type 0 where
   pub sign : l.positive ≡ m.positive
@@ -281,12 +271,6 @@ all-kept used i (k ∷ ks) ne h =
 
 -- ---- a target more
 
-pub item :
-    {X Y : Type 0} (f : X → Y) (xs : List X) (i : ℕ) (x : X) → i < length xs → x ≡ get_or xs i x → slice_get (map f xs) i ≡ Some (f x)
-item f [] i x h e = absurd (omega arith)
-item f (y ∷ ys) zero x h e = ap (λ z. Some (f z)) (sym e)
-item f (y ∷ ys) (suc i) x h e = item f ys i x (omega arith) e
-
 pub place-target :
     (rest ds : List TreeLiteral) (k : ℕ) (used : List Bool) (so_far : Pairs) (l m : TreeLiteral) (found : Option Pairs)
     → slice_get ds k ≡ Some m → is_free used k ≡ true → is_some found ≡ true
@@ -340,12 +324,6 @@ StandsAtNone l rest ds used so_far bound =
     (p : ℕ → Bool) → AreLiterals p (l ∷ rest) → AreLiterals p ds → (σ : Substitution) → PutsFunctionTerms p σ
     → (k : ℕ) (places : List ℕ) → k < bound → IsPlaced used (l ∷ rest) ds so_far σ (k ∷ places) → ⊥
 
-pub split-below : (k n : ℕ) → k < n + 1 → (k < n) ⊎ (k ≡ n)
-split-below zero zero h = inr refl
-split-below zero (suc n) h = inl (omega arith)
-split-below (suc k) zero h = absurd (omega arith)
-split-below (suc k) (suc n) h = ⊎_elim (λ e. inl (omega arith)) (λ e. inr (ap suc e)) (split-below k n (omega arith))
-
 one-more :
     (l : TreeLiteral) (rest ds : List TreeLiteral) (at : ℕ) (used : List Bool) (so_far : Pairs)
     → StandsAtNone l rest ds used so_far at
@@ -356,7 +334,7 @@ one-more l rest ds at used so_far before here = λ p wl wd σ puts k places belo
     ⊎_elim
     (λ e. before p wl wd σ puts k places e placed)
     (λ e. here p wl wd σ puts places (subst (λ j. IsPlaced used (l ∷ rest) ds so_far σ (j ∷ places)) e placed))
-    (split-below k at below)
+    (below-or-same k at below)
 
 -- nor at the next one: the search there found nothing
 pub none-found :
@@ -425,10 +403,6 @@ pub below-item : {X : Type 0} (P : X → Type 0) (xs : List X) (i : ℕ) (x : X)
 below-item P [] i x there all = absurd cc
 below-item P (y ∷ ys) zero x there all = let same : y ≡ x = cc in subst P same (All-head P y ys all)
 below-item P (y ∷ ys) (suc i) x there all = below-item P ys i x there (All-tail P y ys all)
-
-pub length-mapped : {X Y : Type 0} (f : X → Y) (xs : List X) → length (map f xs) ≡ length xs
-length-mapped f [] = refl
-length-mapped f (x ∷ xs) = ap suc (length-mapped f xs)
 
 marked : (used : List Bool) (i : ℕ) → i < length used → slice_index_or used i true ≡ get_or used i false
 marked [] i h = absurd (omega arith)

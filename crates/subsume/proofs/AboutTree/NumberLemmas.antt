@@ -1,11 +1,10 @@
 -- Numbers of members, in order.
-use Rattle.std.proofs.Common.{◌≡◌, ◌⊎◌, ℕ, zero, suc, ◌+◌, ◌<◌, ◌≤◌, true, false, ◌||◌, ◌==◌, List, [], ◌∷◌, length, ap, sym, ◌∙◌, subst, inl, inr, ⊎_elim, arith}
+use Rattle.std.proofs.Common.{◌≡◌, ℕ, zero, suc, ◌+◌, ◌<◌, ◌≤◌, true, false, ◌||◌, ◌==◌, List, [], ◌∷◌, length, ap, sym, ◌∙◌, subst, ⊎_elim, arith}
 use Rattle.std.specs.Prelude.{not, Contains, IsPermutation, IsSortedByKey, slice_index}
 use Rattle.std.specs.List.{list_any}
 use Rattle.std.specs.List.Sorted.{IsStrictlyIncreasing}
 use Rattle.std.specs.Ordering.{nat_cmp}
 use Rattle.std.proofs.lemmas.Bool.{and_parts, and_from, or_parts, not-true, true≢false, eq-eqb}
-use Rattle.std.proofs.lemmas.List.Elements.{Contains-append_cases, Contains-append_left, Contains-append_right, Contains-push, Contains-push_cases, All-contains}
 use Rattle.std.proofs.lemmas.List.Sorted.{IsPermutation-sym, Contains-permutation, IsNonDecreasingBy-from_sort}
 use Rattle.fol_base.specs.Subsumption.{all_different}
 use Rattle.bank_clause.specs.declared.member.Member.{Member}
@@ -13,44 +12,32 @@ use Rattle.subsume.specs.Members.{numbers_of}
 use Rattle.subsume.specs.Searching.{AreNumbersWhere}
 use Rattle.bank_clause.specs.Members.{AreNumbersOf, SomeMember}
 use Rattle.subsume.proofs.AboutSearch.ChoosingLemmas.{different-permutation}
-
-empty : {X : Type 0} (x : X) → Contains [] x → ⊥
-empty {X} x h = All-contains (λ (y : X). ⊥) [] x (λ i d lt. absurd (omega arith)) h
-
-first-or-later : {X : Type 0} (x : X) (xs : List X) (y : X) → Contains (x ∷ xs) y → (x ≡ y) ⊎ Contains xs y
-first-or-later x xs y h =
-    ⊎_elim (λ e. ⊎_elim (λ a. absurd (empty y a)) (λ a. inl a) (Contains-push_cases [] x y e)) (λ e. inr e) (Contains-append_cases (x ∷ []) xs y h)
-
-first : {X : Type 0} (x : X) (xs : List X) → Contains (x ∷ xs) x
-first x xs = Contains-append_left (x ∷ []) xs x (Contains-push [] x)
-
-later : {X : Type 0} (x : X) (xs : List X) (y : X) → Contains xs y → Contains (x ∷ xs) y
-later x xs y h = Contains-append_right (x ∷ []) xs y h
+use Rattle.list_lemmas.proofs.Members.{contains-first, contains-none, first-or-later, contains-later}
 
 one-later : (Does : Member → Type 0) (m : Member) (ms : List Member) (n : ℕ) → SomeMember Does ms n → SomeMember Does (m ∷ ms) n
-one-later Does m ms n s = record { member = s.member; there = later m ms s.member s.there; does = s.does; number = s.number }
+one-later Does m ms n s = record { member = s.member; there = contains-later m ms s.member s.there; does = s.does; number = s.number }
 
 told : (Does : Member → Type 0) (ms : List Member) (ns : List ℕ) → AreNumbersWhere Does ms ns → (n : ℕ) → Contains ns n → SomeMember Does ms n
-told Does [] ns h n there = absurd (empty n (subst (λ ks. Contains ks n) h there))
+told Does [] ns h n there = absurd (contains-none n (subst (λ ks. Contains ks n) h there))
 told Does (m ∷ ms) ns h n there =
     ⊎_elim
     (λ s.
     ⊎_elim
-    (λ e. record { member = m; there = first m ms; does = s.1; number = e })
+    (λ e. record { member = m; there = contains-first m ms; does = s.1; number = e })
     (λ e. one-later Does m ms n (told Does ms s.0 s.3 n e))
     (first-or-later m.number s.0 n (subst (λ ks. Contains ks n) s.2 there)))
     (λ s. one-later Does m ms n (told Does ms ns s.1 n there))
     h
 
 listed : (Does : Member → Type 0) (ms : List Member) (ns : List ℕ) → AreNumbersWhere Does ms ns → (k : Member) → Contains ms k → Does k → Contains ns k.number
-listed Does [] ns h k there does = absurd (empty k there)
+listed Does [] ns h k there does = absurd (contains-none k there)
 listed Does (m ∷ ms) ns h k there does =
     ⊎_elim
     (λ s.
     subst (λ ks. Contains ks k.number) (sym s.2)
     (⊎_elim
-    (λ e. subst (λ (x : Member). Contains (m.number ∷ s.0) x.number) e (first m.number s.0))
-    (λ e. later m.number s.0 k.number (listed Does ms s.0 s.3 k e does))
+    (λ e. subst (λ (x : Member). Contains (m.number ∷ s.0) x.number) e (contains-first m.number s.0))
+    (λ e. contains-later m.number s.0 k.number (listed Does ms s.0 s.3 k e does))
     (first-or-later m ms k there)))
     (λ s.
     ⊎_elim

@@ -7,6 +7,7 @@ use Rattle.std.proofs.lemmas.Option.{same_Some}
 use Rattle.std.proofs.lemmas.List.Elements.{Contains-append_left, Contains-append_right, Contains-get_or}
 pub use Rattle.kbo_order.proofs.AboutMultisets.MemberLemmas.{In, In-left, In-right}
 use Rattle.kbo_order.proofs.AboutMultisets.MemberLemmas.{map-In}
+use Rattle.kbo_order.proofs.AboutMultisets.ClauseLoops.{In-index}
 
 -- ---- members
 
@@ -135,17 +136,12 @@ popped front pushed rest x None is left some = absurd (true≢false (sym some))
 popped front pushed rest x (Some y) is left some = sym (fronts_same front rest x y (sym is ∙ left))
 
 -- what stands once has one place
-In-place : {X : Type 0} (xs : List X) (i : ℕ) (x : X) → slice_get xs i ≡ Some x → In x xs
-In-place [] i x at = absurd (cc)
-In-place (y ∷ ys) zero x at = inl (sym (same_Some y x at))
-In-place (y ∷ ys) (suc i) x at = inr (In-place ys i x at)
-
 pub Once-place :
     {X : Type 0} (xs : List X) (i j : ℕ) (x : X) → Once xs → slice_get xs i ≡ Some x → slice_get xs j ≡ Some x → i ≡ j
 Once-place [] i j x once at_i at_j = absurd (cc)
 Once-place (y ∷ ys) zero zero x once at_i at_j = refl
 Once-place (y ∷ ys) zero (suc j) x once at_i at_j =
-    absurd (once.0 (subst (λ z. In z ys) (sym (same_Some y x at_i)) (In-place ys j x at_j)))
+    absurd (once.0 (subst (λ z. In z ys) (sym (same_Some y x at_i)) (In-index ys j x at_j)))
 Once-place (y ∷ ys) (suc i) zero x once at_i at_j =
-    absurd (once.0 (subst (λ z. In z ys) (sym (same_Some y x at_j)) (In-place ys i x at_i)))
+    absurd (once.0 (subst (λ z. In z ys) (sym (same_Some y x at_j)) (In-index ys i x at_i)))
 Once-place (y ∷ ys) (suc i) (suc j) x once at_i at_j = ap suc (Once-place ys i j x once.1 at_i at_j)

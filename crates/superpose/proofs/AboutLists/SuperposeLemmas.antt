@@ -28,12 +28,10 @@ use Rattle.fol_base.proofs.AboutCanonical.NumberingLemmas.{with_variables-have}
 use Rattle.fol_base.proofs.WorkedExamples.TestLemmas.{list_all-item}
 use Rattle.kernel_steps.specs.Conclusion.{concludes, verdict_of, binding_fault, clause_with, binds, bound_literals, by_two}
 use Rattle.kernel_steps.specs.Inference.{NamedSuperposition}
-use Rattle.kernel_steps.specs.Inference as kernel
 use Rattle.kernel_steps.specs.Names.{sorted_names}
 use Rattle.kernel_steps.specs.Named.{IsInference}
 use Rattle.kernel_steps.specs.Parents.{Parent}
 use Rattle.kernel_steps.specs.Symbols.{symbols_pass, literal_symbols_pass}
-use Rattle.kernel_steps.specs.declared.step.Step.TheVariants as step
 use Rattle.kernel_steps.proofs.AboutCalls.SymbolLemmas.{side-passes, subterm-passes}
 use Rattle.unifier.specs.Renaming.{AreNamedTerms}
 use Rattle.unifier.specs.SolvedForm.{SolvedForm, substitution_of}
@@ -43,9 +41,8 @@ use Rattle.kernel_steps.specs.Lines.{is_small_term, clause_parents}
 use Rattle.eq_rules.specs.Inferences.{IsConcluded, IsMade}
 use Rattle.eq_rules.specs.declared.inference.Made.TheVariants.{Heavy}
 use Rattle.eq_rules.proofs.AboutConclusions.BindingLemmas.{bound_functions, bound_small, bound_symbols}
-use Rattle.eq_rules.proofs.AboutFactoring.FactorAnswers.{part_size, sides_size}
-use Rattle.eq_rules.proofs.AboutConclusions.ConclusionLemmas.{conclusion_numbered, bindings_numbered, binds_renamed, numbered-has}
-use Rattle.eq_rules.proofs.AboutConclusions.PremiseLemmas.{not_large}
+use Rattle.eq_rules.proofs.AboutFactoring.FactorAnswers.{sides_size}
+use Rattle.eq_rules.proofs.AboutConclusions.ConclusionLemmas.{conclusion_numbered, bindings_numbered, binds_renamed, numbered-has, appended_variables}
 use Rattle.eq_rules.proofs.AboutConclusions.SideLemmas.{Kinds}
 use Rattle.eq_rules.proofs.AboutConclusions.StepLemmas.{renaming-no_truth}
 use Rattle.eq_rules.proofs.AboutConclusions.WideLemmas.{Has, Has-front, Has-back, numbered, literals-below, renamed-literals, renamed-literals_size}
@@ -55,10 +52,14 @@ use Rattle.eq_rules.specs.declared.concluding.LiteralSide.{LiteralSide}
 use Rattle.superpose.specs.declared.sites.LiteralPlace.{LiteralPlace}
 use Rattle.superpose.proofs.AboutSites.AllowLemmas.{Allowed, allows-parts, allows-from, allowed_lifts, atoms_coincide, coincide_says, named-allowed}
 use Rattle.superpose.proofs.AboutSteps.ApartLemmas.{wide_by, left_fresh, right_fresh, wide_by-literals, wide_by-back, wide_apart}
-use Rattle.superpose.proofs.AboutSteps.BoundLemmas.{binds_two, left_terms_small, right_terms_small, left_terms_pass, right_terms_pass}
+use Rattle.superpose.proofs.AboutSteps.BoundLemmas.{left_terms_small, right_terms_small, left_terms_pass, right_terms_pass}
 use Rattle.superpose.proofs.AboutSites.KindLemmas.{kinds-alike}
-use Rattle.superpose.proofs.AboutSteps.StepLemmas.{appended_variables}
 use Rattle.superpose.proofs.AboutSteps.TermsLemmas.{left-many, right-many, left-below, right-below, s-below, old-below, general, left-size, right-size, plain, superposition_gives}
+use Rattle.list_lemmas.proofs.Numbers.{not-less}
+use Rattle.list_lemmas.proofs.Bools.{two-true}
+use Rattle.kernel_steps.specs.Inference as kernel
+use Rattle.kernel_steps.specs.declared.step.Step.TheVariants as step
+use Rattle.kbo_order.proofs.AboutMultisets.ClauseLoops.{mapped-size}
 
 -- ---- the verdict
 
@@ -359,7 +360,7 @@ module _
           let put =
           shared_put_function_terms p true (side_of s.side l) r.enters.old b (bound_of (clause_variables c)) (bound_of (clause_variables d)) left right
           kinds.unifier r.unified h in
-          let part = part_size (substitution left) c.literals s.literal l r.starts.there in
+          let part = mapped-size (substitution left) c.literals s.literal l r.starts.there in
           let sides = sides_size (substitution left) s.side l in
           let side_small : tree_size (instance (substitution left) (side_of s.side l)) ≤ MOST_SYMBOLS =
           omega (arith, part, sides, left-size c s d t b r left right h, first_small) in
@@ -373,9 +374,9 @@ module _
               second_there = partner_there;
               infers =
                   superposition_sized g.order has_left has_right e false gives g.names
-                  (ap₂ ◌||◌ (not_large MOST_SYMBOLS (clause_size (clause_instance (wide_by left_fresh g.order left) c)) first_fits)
-                  (ap₂ ◌||◌ (not_large MOST_SYMBOLS (clause_size (clause_instance (wide_by right_fresh g.order right) d)) second_fits)
-                  (not_large MOST_SYMBOLS (clause_size e) e_small)));
+                  (ap₂ ◌||◌ (not-less MOST_SYMBOLS (clause_size (clause_instance (wide_by left_fresh g.order left) c)) first_fits)
+                  (ap₂ ◌||◌ (not-less MOST_SYMBOLS (clause_size (clause_instance (wide_by right_fresh g.order right) d)) second_fits)
+                  (not-less MOST_SYMBOLS (clause_size e) e_small)));
             };
             of_key = refl;
             right_step =
@@ -390,11 +391,11 @@ module _
             numbered = conclusion_numbered g.plain (trees_variables (trees_of (left ++ right))) g.order e g.met e_is;
             bindings_numbered = bindings_numbered g.plain (left ++ right) (first_bind ++ second_bind) g.order e g.met renamed e_is;
             terms =
-                binds_two (list_all (is_function_term p) first_bind) (list_all (is_function_term p) second_bind)
+                two-true (list_all (is_function_term p) first_bind) (list_all (is_function_term p) second_bind)
                 (bound_functions p g.order left first_bind g.first_renamed put.0)
                 (bound_functions p g.order right second_bind g.second_renamed put.1);
             small =
-                binds_two (list_all is_small_term first_bind) (list_all is_small_term second_bind)
+                two-true (list_all is_small_term first_bind) (list_all is_small_term second_bind)
                 (bound_small g.order left first_bind g.first_renamed
                 (left_terms_small (side_of s.side l) r.enters.old left right (general c s d t b r left right h) MOST_SYMBOLS side_small (omega arith)))
                 (bound_small g.order right second_bind g.second_renamed
@@ -404,7 +405,7 @@ module _
                 let m_passes = list_all-item (literal_symbols_pass test) d.literals t.at.literal m r.enters.there (pass d (inr partner_there)) in
                 let s_passes = side-passes test s.side l l_passes in
                 let old_passes = subterm-passes test t.place (side_of t.at.side m) r.enters.old r.enters.old_there (side-passes test t.at.side m m_passes) in
-                binds_two (list_all (symbols_pass test) first_bind) (list_all (symbols_pass test) second_bind)
+                two-true (list_all (symbols_pass test) first_bind) (list_all (symbols_pass test) second_bind)
                 (bound_symbols test g.order left first_bind g.first_renamed
                 (left_terms_pass (side_of s.side l) r.enters.old left right (general c s d t b r left right h) test s_passes old_passes))
                 (bound_symbols test g.order right second_bind g.second_renamed

@@ -8,17 +8,6 @@ use Rattle.fol_base.specs.Place.{argument, with_argument, subterm, replaced}
 use Rattle.fol_base.proofs.AboutInstances.PlaceLemmas.{replaced-parts}
 use Rattle.fol_base.proofs.AboutTerms.TreeLemmas.{trees_of-list_of}
 
--- a subterm that is there can be replaced
-pub replaced-there : (place : List ℕ) (new t old : Tree) → subterm place t ≡ Some old → (made : Tree) × (replaced place new t ≡ Some made)
-replaced-there [] new t old there = (new, refl)
-replaced-there (k ∷ place) new t old there =
-    option_and_then_some (subterm place) (argument k t) old there λ a a_is a_there.
-    let inner = replaced-there place new a old a_there in (
-      with_argument k inner.0 t,
-      ap (option_and_then (λ x. option_map (λ b. with_argument k b t) (replaced place new x))) a_is
-          ∙ ap (option_map (λ b. with_argument k b t)) inner.1,
-    )
-
 -- ---- sizes
 
 set-size :

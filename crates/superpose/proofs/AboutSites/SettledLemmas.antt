@@ -1,9 +1,9 @@
 -- What a clause alone tells of a side holds under every substitution.
-use Rattle.std.proofs.Common.{◌≡◌, ◌↔◌, ◌⊎◌, ◌+◌, ◌≤◌, ◌==◌, inl, inr, ℕ, zero, suc, ◌++◌, ◌<◌, Bool, true, false, not, ◌&&◌, Option, None, Some, List, [], ◌∷◌, length, map, take, drop, refl, ap, ap₂, sym, ◌∙◌, subst, ⊎_elim, arith, eq-eqb}
+use Rattle.std.proofs.Common.{◌≡◌, ◌↔◌, ◌+◌, ◌≤◌, ◌==◌, ℕ, zero, suc, ◌++◌, ◌<◌, Bool, true, false, not, ◌&&◌, Option, None, Some, List, [], ◌∷◌, length, refl, ap, ap₂, sym, ◌∙◌, subst, ⊎_elim, arith, eq-eqb}
 use Rattle.std.specs.Prelude.{slice_get, remove}
 use Rattle.std.specs.List.{list_all}
 use Rattle.std.proofs.lemmas.Bool.{true≢false, not_from_false, and_from, cases_lt, eqb-true, false_from_ne_true}
-use Rattle.std.proofs.lemmas.List.{take-map, drop-map, length-append, map-append}
+use Rattle.std.proofs.lemmas.List.{length-append}
 use Rattle.std.proofs.lemmas.List.Folds.{list_all-map}
 use Rattle.std.proofs.lemmas.Option.{same_Some, slice_get_within}
 use Rattle.fol_base.specs.Tree.{Tree, tree_eq}
@@ -25,24 +25,18 @@ use Rattle.superpose.specs.Settled.{AreSettled, AreSettledSides, IsGreatest, IsS
 use Rattle.superpose.specs.Superposing.{is_root, one_literal, both_literals, others_coincide, starts_under, enters_under, allows}
 use Rattle.superpose.specs.declared.settled.SettledSides.{SettledSides}
 use Rattle.superpose.specs.declared.sites.LiteralPlace.{LiteralPlace}
+use Rattle.list_lemmas.proofs.Places.{get-pushed}
+use Rattle.list_lemmas.proofs.Lists.{remove-map}
+use Rattle.list_lemmas.proofs.Tests.{all-from-each}
 
 -- ---- all but one of a list
-
-remove-map : {X Y : Type 0} (f : X → Y) (xs : List X) (i : ℕ) → remove (map f xs) i ≡ map f (remove xs i)
-remove-map f xs i =
-    ap₂ ◌++◌ (take-map f i xs) (drop-map f (suc i) xs)
-    ∙ sym (map-append f (take i xs) (drop (suc i) xs))
-
-all-pass : {X : Type 0} (p : X → Bool) (xs : List X) → ((j : ℕ) (x : X) → slice_get xs j ≡ Some x → p x ≡ true) → list_all p xs ≡ true
-all-pass p [] h = refl
-all-pass p (y ∷ ys) h = and_from (p y) (list_all p ys) (h 0 y refl) (all-pass p ys (λ j x at. h (suc j) x at))
 
 others-pass :
     {X : Type 0} (p : X → Bool) (xs : List X) (i : ℕ)
     → ((j : ℕ) (x : X) → slice_get xs j ≡ Some x → (j ≡ i → ⊥) → p x ≡ true) → list_all p (remove xs i) ≡ true
 others-pass p [] zero h = refl
 others-pass p [] (suc i) h = refl
-others-pass p (y ∷ ys) zero h = all-pass p ys (λ j x at. h (suc j) x at (λ e. absurd (omega (arith, e))))
+others-pass p (y ∷ ys) zero h = all-from-each p ys (λ j x at. h (suc j) x at (λ e. absurd (omega (arith, e))))
 others-pass p (y ∷ ys) (suc i) h =
     and_from (p y) (list_all p (remove ys i)) (h 0 y refl (λ e. absurd (omega (arith, e))))
     (others-pass p ys i (λ j x at other. h (suc j) x at (λ e. other (omega (arith, e)))))
@@ -206,15 +200,6 @@ pub chosen-outdoes : (ls : List TreeLiteral) (i c : ℕ) (b : Bool) → b ≡ (i
 chosen-outdoes ls i c b is = ((λ yes_. eqb-true i c (sym is ∙ yes_)), (λ same. is ∙ eq-eqb i c same))
 
 -- ---- sides of literals one after another
-
-get-pushed :
-    {X : Type 0} (xs : List X) (x : X) (i : ℕ) (y : X)
-    → slice_get (xs ++ x ∷ []) i ≡ Some y → (slice_get xs i ≡ Some y) ⊎ ((i ≡ length xs) × (x ≡ y))
-get-pushed [] x zero y at = inr (refl, same_Some x y at)
-get-pushed [] x (suc i) y at = absurd (cc)
-get-pushed (z ∷ zs) x zero y at = inl at
-get-pushed (z ∷ zs) x (suc i) y at =
-    ⊎_elim (λ before. inl before) (λ last. inr (ap suc last.0, last.1)) (get-pushed zs x i y at)
 
 abbrev pub AreSettledBelow : List TreeLiteral → Option ℕ → List SettledSides → ℕ → Type 0
 AreSettledBelow ls choice settled n =

@@ -26,6 +26,7 @@ use Rattle.eq_rules.specs.declared.concluding.LiteralSide.{LiteralSide}
 use Rattle.superpose.specs.declared.sites.LiteralPlace.{LiteralPlace}
 use Rattle.superpose.proofs.AboutSites.AllowLemmas.{named-allowed, into_unchosen, from_positive, from_no_truth, into_no_truth}
 use Rattle.superpose.proofs.AboutLists.ListLemmas.{In-either, In-flat_map, In-flat_mapped, In-filter, In-filtered, In-contained, Once, Once-append, Once-map, Once-filter, Once-flat_map, Once-place}
+use Rattle.kbo_order.proofs.AboutMultisets.ClauseLoops.{In-index}
 
 -- ---- sides
 
@@ -331,24 +332,19 @@ superpositions_have_sites p mode c d s t e n = (
 
 -- ---- a site by its index
 
-item_in : {X : Type 0} (xs : List X) (k : ℕ) (x : X) → slice_get xs k ≡ Some x → In x xs
-item_in [] k x h = absurd (cc)
-item_in (y ∷ ys) zero x h = inl (sym (same_Some y x h))
-item_in (y ∷ ys) (suc k) x h = inr (item_in ys k x h)
-
 module _ (c : TreeClause) (sites : Sites) (are : AreSitesOf c sites) where
   pub start_at :
       (k : ℕ) (s : LiteralSide) → slice_get sites.from.items k ≡ Some s → can_start (mode_of sites.mode) c.literals s ≡ true
   start_at k s h =
       (In-filtered (can_start (mode_of sites.mode) c.literals) s (all_sides (length c.literals))
-      (subst (λ (ss : List LiteralSide). In s ss) are.from (item_in sites.from.items k s h))).1
+      (subst (λ (ss : List LiteralSide). In s ss) are.from (In-index sites.from.items k s h))).1
 
   pub enter_at :
       (k : ℕ) (t : LiteralPlace) → slice_get sites.into.items k ≡ Some t
       → (can_enter (mode_of sites.mode) c.literals t.at ≡ true) × EntersAt c.literals t
   enter_at k t h =
       enter_there (mode_of sites.mode) c.literals t
-      (subst (λ (ts : List LiteralPlace). In t ts) are.into (item_in sites.into.items k t h))
+      (subst (λ (ts : List LiteralPlace). In t ts) are.into (In-index sites.into.items k t h))
 
 pub sites_differ : SitesDiffer
 sites_differ mode ls = (

@@ -1,10 +1,10 @@
 -- Terms for the first variables of two sides, most general among all that unify two trees of different variables, with their variables
 -- numbered anew, make a most general unifier: beyond them each variable of a side becomes one that is new.
-use Rattle.std.proofs.Common.{◌≡◌, ℕ, suc, ◌+◌, ◌*◌, ◌-◌, ◌<◌, ◌≤◌, true, false, ◌==◌, nat_lt, get_or, if◌then◌else◌, Option, None, Some, List, [], ◌∷◌, length, refl, ap, sym, ◌∙◌, inl, inr, ⊎_elim, arith}
+use Rattle.std.proofs.Common.{◌≡◌, ℕ, suc, ◌+◌, ◌*◌, ◌-◌, ◌<◌, ◌≤◌, true, ◌==◌, nat_lt, get_or, if◌then◌else◌, Option, Some, List, [], ◌∷◌, length, ap, sym, ◌∙◌, inl, inr, ⊎_elim, arith}
 use Rattle.std.specs.Prelude.{unwrap_or}
 use Rattle.std.specs.List.{AllByRecursion}
 use Rattle.std.specs.Option.{is_some, option_map}
-use Rattle.std.proofs.lemmas.Bool.{true≢false, cases_Bool, cond-true, cond-false, eqb-true, false_from_ne_true, lt-ltb, ltb-true, cases_lt}
+use Rattle.std.proofs.lemmas.Bool.{true≢false, cases_Bool, cond-true, cond-false, eqb-true, lt-ltb, cases_lt}
 use Rattle.fol_base.specs.Tree.{Tree, variable, tree_variables, trees_variables, trees_of, VariablesBelow}
 use Rattle.fol_base.specs.Instance.{Substitution, instance, substitution}
 use Rattle.fol_base.specs.InstanceLaws.{after}
@@ -15,7 +15,9 @@ use Rattle.fol_base.specs.Unifier.{IsUnifierApart, IsMostGeneralUnifierApart}
 use Rattle.fol_base.proofs.AboutInstances.InstanceLemmas.{Agree, instance-agree, instances_of_instances, instances_agree_below, literals_instance-again}
 use Rattle.unifier.proofs.AboutEquations.UnifyLemmas.{joint_of, joint_of-left, joint_of-right}
 use Rattle.eq_rules.proofs.AboutConclusions.PremiseLemmas.{has-literals}
-use Rattle.eq_rules.proofs.AboutConclusions.WideLemmas.{Has, Has-item, numbered, literals_back, literals-below}
+use Rattle.eq_rules.proofs.AboutConclusions.WideLemmas.{Has, Has-item, numbered, literals_back, literals-below, onward-agrees, onward-past, onward}
+use Rattle.list_lemmas.proofs.Numbers.{not-less}
+use Rattle.list_lemmas.proofs.Results.{some-mapped}
 
 -- terms for the first variables of each side that make two trees equal, and after which every two substitutions go on that do so
 pub record IsGeneralApart (s : Tree) (t : Tree) (left : List Tree) (right : List Tree) : Type 0 where
@@ -32,9 +34,6 @@ abbrev pub wide_by : (ℕ → ℕ) → List ℕ → List Tree → Substitution
 wide_by fresh order terms v =
     if nat_lt v (length terms) then instance (renaming order) (substitution terms v) else variable (length order + fresh v)
 
-not_less : (a b : ℕ) → b ≤ a → nat_lt a b ≡ false
-not_less a b h = false_from_ne_true (nat_lt a b) (λ e. absurd (omega (arith, ltb-true a b e, h)))
-
 module _ (fresh : ℕ → ℕ) (order : List ℕ) (terms : List Tree) where
   within : (v : ℕ) → v < length terms → wide_by fresh order terms v ≡ instance (renaming order) (substitution terms v)
   within v less =
@@ -44,7 +43,7 @@ module _ (fresh : ℕ → ℕ) (order : List ℕ) (terms : List Tree) where
   past : (v : ℕ) → length terms ≤ v → wide_by fresh order terms v ≡ variable (length order + fresh v)
   past v beyond =
       cond-false (nat_lt v (length terms)) (instance (renaming order) (substitution terms v)) (variable (length order + fresh v))
-      (not_less v (length terms) beyond)
+      (not-less v (length terms) beyond)
 
   pub wide_by-instance :
       (t : Tree) → VariablesBelow (length terms) t → instance (wide_by fresh order terms) t ≡ instance (renaming order) (instance (substitution terms) t)
@@ -67,49 +66,6 @@ module _ (fresh : ℕ → ℕ) (order : List ℕ) (terms : List Tree) where
   wide_by-back ls has all =
       ap (literals_instance (numbered order)) (wide_by-literals ls all)
       ∙ literals_back order (literals_instance (substitution terms) ls) (has-literals order terms ls has all)
-
--- a variable that has a number stands at that place
-some_mapped : (o : Option ℕ) → is_some (option_map suc o) ≡ true → is_some o ≡ true
-some_mapped None h = h
-some_mapped (Some k) h = refl
-
-place_found :
-    (v : ℕ) (ws : List ℕ) → is_some (place_of v ws) ≡ true
-    → (k : ℕ) × (place_of v ws ≡ Some k) × (k < length ws) × ((d : ℕ) → get_or ws k d ≡ v)
-place_found v [] h = absurd (true≢false (sym h))
-place_found v (w ∷ ws) h =
-    ⊎_elim
-    (λ e. (0, cond-true (v == w) (Some 0) (option_map suc (place_of v ws)) e, omega arith, λ d. sym (eqb-true v w e)))
-    (λ e.
-    let later : place_of v (w ∷ ws) ≡ option_map suc (place_of v ws) = cond-false (v == w) (Some 0) (option_map suc (place_of v ws)) e in
-    let found = place_found v ws (some_mapped (place_of v ws) (sym (ap is_some later) ∙ h)) in
-    (suc found.0, later ∙ ap (option_map suc) found.1, omega (arith, found.2), found.3))
-    (cases_Bool (v == w))
-
--- what goes on from it: from the numbers as from the variables, and from the new variables as they become
-abbrev onward : List ℕ → Substitution → Substitution → Substitution
-onward order another rest w = if nat_lt w (length order) then another (get_or order w w) else rest (w - length order)
-
-onward-within :
-    (order : List ℕ) (another rest : Substitution) (v : ℕ)
-    → is_some (place_of v order) ≡ true → onward order another rest (unwrap_or (place_of v order) v) ≡ another v
-onward-within order another rest v has =
-    let found = place_found v order has in
-    ap (λ (o : Option ℕ). onward order another rest (unwrap_or o v)) found.1
-    ∙ cond-true (nat_lt found.0 (length order)) (another (get_or order found.0 found.0)) (rest (found.0 - length order))
-    (lt-ltb found.0 (length order) found.2)
-    ∙ ap another (found.3 found.0)
-
-onward-agrees :
-    (order : List ℕ) (another rest : Substitution) (vs : List ℕ) → Has order vs → Agree (after (onward order another rest) (renaming order)) another vs
-onward-agrees order another rest [] all = tt
-onward-agrees order another rest (v ∷ vs) all = (onward-within order another rest v all.0, onward-agrees order another rest vs all.1)
-
-onward-past : (order : List ℕ) (another rest : Substitution) (k : ℕ) → onward order another rest (length order + k) ≡ rest k
-onward-past order another rest k =
-    let n : ℕ = length order in
-    let less : (n + k) - n ≡ k = omega arith in
-    cond-false (nat_lt (n + k) n) (another (get_or order (n + k) (n + k))) (rest ((n + k) - n)) (not_less (n + k) n (omega arith)) ∙ ap rest less
 
 wide_by-general :
     (fresh : ℕ → ℕ) (order : List ℕ) (terms : List Tree) (another rest ρ : Substitution)

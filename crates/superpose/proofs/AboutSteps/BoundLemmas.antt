@@ -1,17 +1,12 @@
 -- What the terms of a most general unifier of two trees of different variables are like: no larger than what is unified, and of its
 -- symbols alone.
-use Rattle.std.proofs.Common.{◌≡◌, ℕ, ◌<◌, ◌≤◌, Bool, true, ◌&&◌, List, [], ◌∷◌, length, Some, refl, ap, sym, ◌∙◌, ⊎_elim, arith}
-use Rattle.std.proofs.lemmas.Bool.{and_from}
+use Rattle.std.proofs.Common.{◌≡◌, ℕ, ◌<◌, ◌≤◌, true, List, [], ◌∷◌, length, Some, ap, sym, ◌∙◌, ⊎_elim, arith}
 use Rattle.fol_base.specs.Tree.{Tree, tree_size}
 use Rattle.fol_base.specs.Instance.{Substitution, instance, substitution}
 use Rattle.kernel_steps.specs.Symbols.{symbols_pass}
 use Rattle.unifier.proofs.AboutAdditions.SymbolLemmas.{cleaned, adds-no_symbol}
 use Rattle.eq_rules.proofs.AboutConclusions.BindingLemmas.{SymbolTest, changed, changed_there, smaller_or_same, variable_size, added-passes}
 use Rattle.superpose.proofs.AboutSteps.ApartLemmas.{IsGeneralApart}
-
--- of the two lists that a step binds
-pub binds_two : (first second : Bool) → first ≡ true → second ≡ true → (first && (second && true)) ≡ true
-binds_two first second h k = and_from first (second && true) h (and_from second true k refl)
 
 module _ (s t : Tree) (left right : List Tree) (general : IsGeneralApart s t left right) where
   abbrev σ : Substitution

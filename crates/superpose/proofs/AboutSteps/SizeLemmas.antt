@@ -28,7 +28,7 @@ use Rattle.unifier.proofs.AboutClasses.SharedLemmas.{own_terms_are_named}
 use Rattle.eq_rules.specs.Inferences.{IsConcluded, IsMade}
 use Rattle.eq_rules.specs.declared.inference.Made.{Made}
 use Rattle.eq_rules.specs.declared.inference.Made.TheVariants.{Conclusion, Heavy}
-use Rattle.eq_rules.proofs.AboutFactoring.FactorAnswers.{item_size, part_size, sides_size}
+use Rattle.eq_rules.proofs.AboutFactoring.FactorAnswers.{sides_size}
 use Rattle.eq_rules.proofs.AboutConclusions.MadeLemmas.{size_above}
 use Rattle.eq_rules.proofs.AboutConclusions.PremiseLemmas.{literal-kind}
 use Rattle.eq_rules.proofs.AboutConclusions.SideLemmas.{Kinds}
@@ -42,6 +42,7 @@ use Rattle.superpose.proofs.AboutSteps.TermsLemmas.{general, left-below, right-b
 use Rattle.superpose.proofs.AboutSteps.BoundLemmas.{left_terms_small, right_terms_small}
 use Rattle.superpose.proofs.AboutSteps.GrowthLemmas.{literals_grow}
 use Rattle.superpose.proofs.AboutLists.SuperposeLemmas.{atoms_refused, unlike_refused, apart_refused, superposition_not_allowed, superposition_heavy, superposition_concluded}
+use Rattle.kbo_order.proofs.AboutMultisets.ClauseLoops.{item-size, mapped-size}
 
 -- ---- what sites say
 
@@ -164,7 +165,7 @@ module _
 
   pub side_low : side_size ≤ size_under b Left c
   side_low =
-      let part = part_size (substitution left) c.literals s.literal r.starts.literal r.starts.there in
+      let part = mapped-size (substitution left) c.literals s.literal r.starts.literal r.starts.there in
       let sides = sides_size (substitution left) s.side r.starts.literal in
       omega (arith, part, sides, left_sum, side_same)
 
@@ -177,7 +178,7 @@ module _
     told_exactly : told ≡ side_size
     told_exactly =
         let l : TreeLiteral = r.starts.literal in
-        let size : literal_size l ≤ clause_size c = item_size c.literals s.literal l r.starts.there in
+        let size : literal_size l ≤ clause_size c = item-size c.literals s.literal l r.starts.there in
         let positive : 0 < clause_size c + clause_size d = omega (arith, size, tree_size-positive l.left) in
         let less : told ≤ told * (clause_size c + clause_size d) = le-mul_of_pos_right told positive in
         omega (arith, told_is, less, small)

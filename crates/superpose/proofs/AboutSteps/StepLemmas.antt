@@ -17,18 +17,14 @@ use Rattle.fol_base.proofs.AboutCanonical.WalkLemmas.{left-kept}
 use Rattle.kernel_steps.specs.Names.{sorted_names}
 use Rattle.eq_rules.proofs.AboutConclusions.PremiseLemmas.{clause-below}
 use Rattle.eq_rules.proofs.AboutConclusions.RenumberedLemmas.{met_onward}
-use Rattle.eq_rules.proofs.AboutConclusions.StepLemmas.{some_there, renaming-no_truth}
+use Rattle.eq_rules.proofs.AboutConclusions.StepLemmas.{renaming-no_truth}
 use Rattle.eq_rules.proofs.AboutConclusions.WideLemmas.{renamed-literals}
 use Rattle.superpose.specs.Concluding.{superposed_at, GivesNumbered}
 use Rattle.eq_rules.specs.declared.concluding.LiteralSide.{LiteralSide}
 use Rattle.superpose.specs.declared.sites.LiteralPlace.{LiteralPlace}
 use Rattle.superpose.proofs.AboutSites.PlaceLemmas.{trees_variables-listed}
-
-pub appended_variables :
-    (left right : List Tree) → trees_variables (trees_of (left ++ right)) ≡ trees_variables (trees_of left) ++ trees_variables (trees_of right)
-appended_variables left right =
-    trees_variables-listed (left ++ right) ∙ flat_map-append tree_variables left right
-    ∙ ap₂ ◌++◌ (sym (trees_variables-listed left)) (sym (trees_variables-listed right))
+use Rattle.list_lemmas.proofs.Results.{some-there}
+use Rattle.eq_rules.proofs.AboutConclusions.ConclusionLemmas.{appended_variables}
 
 abbrev arguments_of : Tree → List Tree
 arguments_of (variable v) = []
@@ -64,7 +60,7 @@ module _
   given :
       (plain : List TreeLiteral)
       × (superposed_at s t (literals_instance (substitution left) c.literals) (literals_instance (substitution right) d.literals) ≡ Some plain)
-  given = some_there (superposed_at s t (literals_instance (substitution left) c.literals) (literals_instance (substitution right) d.literals)) applies
+  given = some-there (superposed_at s t (literals_instance (substitution left) c.literals) (literals_instance (substitution right) d.literals)) applies
 
   first_renamed : first_bind ≡ map (instance (renaming order)) left
   first_renamed = first_form ∙ terms_kept walked now order left (trees_variables (trees_of right)) now_met order_met

@@ -31,7 +31,8 @@ use Rattle.superpose.specs.Concluding.{superposed_at}
 use Rattle.eq_rules.specs.declared.concluding.LiteralSide.{LiteralSide}
 use Rattle.superpose.specs.declared.sites.LiteralPlace.{LiteralPlace}
 use Rattle.superpose.proofs.AboutSteps.ApartLemmas.{IsGeneralApart}
-use Rattle.superpose.proofs.AboutSites.PlaceLemmas.{replaced-there, replaced-size}
+use Rattle.superpose.proofs.AboutSites.PlaceLemmas.{replaced-size}
+use Rattle.fol_base.proofs.AboutInstances.ConversePlaces.{replaced-there}
 
 -- ---- variables of subterms
 

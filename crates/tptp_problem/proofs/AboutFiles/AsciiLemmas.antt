@@ -11,6 +11,7 @@ use Rattle.tptp_token.specs.Lexing.{lexed_of}
 use Rattle.tptp_token.specs.declared.token.Token.{Token}
 use Rattle.tptp_token.proofs.AboutLexemes.LexemeLemmas.{tokens-spelled}
 use Rattle.tptp_token.specs.Words.{Word, bare, quoted, name_of, unescaped}
+use Rattle.tptp_reader.proofs.AboutTexts.PrintedLemmas.{spelled-behind}
 
 abbrev AreSmall : List ℕ → Type 0
 AreSmall = AllByRecursion (λ b. b < 128)
@@ -81,16 +82,11 @@ all-spelled :
 all-spelled bytes [] h = tt
 all-spelled bytes (t ∷ ts) h = (h.0, all-spelled bytes ts h.1)
 
-rest-spelled : (n : ℕ) (ls : List Lexeme) → AreSpelled ls → AreSpelled (drop n ls)
-rest-spelled zero ls h = h
-rest-spelled (suc n) [] h = tt
-rest-spelled (suc n) (l ∷ ls) h = rest-spelled n ls h.1
-
 -- a word among the tokens of a text
 pub word-there :
     (bytes : List ℕ) (at : ℕ) (w : Word) (rest : List Lexeme)
     → drop at (map (lexeme_at bytes) (lexed_of bytes).tokens) ≡ word_lexeme w ∷ rest → IsAscii (name_of w)
 word-there bytes at w rest e =
-    let all = rest-spelled at (map (lexeme_at bytes) (lexed_of bytes).tokens) (all-spelled bytes (lexed_of bytes).tokens (tokens-spelled bytes)) in
+    let all = spelled-behind at (map (lexeme_at bytes) (lexed_of bytes).tokens) (all-spelled bytes (lexed_of bytes).tokens (tokens-spelled bytes)) in
     let P : List Lexeme → Type 0 = AreSpelled in
     word-ascii w (subst P e all).0

@@ -14,31 +14,20 @@ use Rattle.tptp_reader.specs.declared.source.Name.{Name}
 use Rattle.tptp_reader.specs.Bound.{bytes_of, same_name}
 use Rattle.tptp_problem.specs.Formulas.{Placed, placed, is_named, missing_from}
 use Rattle.tptp_problem.specs.NameSets.{HasNames, names_among}
+use Rattle.list_lemmas.proofs.Bools.{or-false, and-true, and-false, or-first}
+use Rattle.list_lemmas.proofs.Lists.{bytes-turned}
 
 abbrev Names : Type 0
 Names = HashSet Name (BuildHasherDefault FoldHasher)
-
-bytes-sym : (x y : List ℕ) → bytes_eq x y ≡ bytes_eq y x
-bytes-sym x y = by (bytes_eq x y) (bytes_eq y x) refl refl
-  where
-    by : (s t : Bool) → bytes_eq x y ≡ s → bytes_eq y x ≡ t → s ≡ t
-    by true true h g = refl
-    by false false h g = refl
-    by true false h g = absurd (let e : false ≡ true = sym g ∙ (bytes_eq-Decides y x).1 (sym ((bytes_eq-Decides x y).0 h)) in cc)
-    by false true h g = absurd (let e : false ≡ true = sym h ∙ (bytes_eq-Decides x y).1 (sym ((bytes_eq-Decides y x).0 g)) in cc)
 
 or-right : (b : Bool) → (b || true) ≡ true
 or-right true = refl
 or-right false = refl
 
-or-none : (b : Bool) → (b || false) ≡ b
-or-none true = refl
-or-none false = refl
-
 one-more : (names : List (List ℕ)) (a x : List ℕ) → is_one_of (names ++ a ∷ []) x ≡ (is_one_of names x || bytes_eq a x)
 one-more names a x =
     list_any-append (bytes_eq x) names (a ∷ [])
-    ∙ ap (λ b. is_one_of names x || b) (or-none (bytes_eq x a) ∙ bytes-sym x a)
+    ∙ ap (λ b. is_one_of names x || b) (or-false (bytes_eq x a) ∙ bytes-turned x a)
 
 -- ---- sets
 
@@ -53,7 +42,7 @@ has-more names old new a h u q = u q ∙ by (same_name a q) refl ∙ sym (one-mo
   where
     by : (t : Bool) → same_name a q ≡ t → cond t true (contains same_name old q) ≡ (is_one_of names (bytes_of q) || bytes_eq (bytes_of a) (bytes_of q))
     by true e = sym (ap (λ b. is_one_of names (bytes_of q) || b) e ∙ or-right (is_one_of names (bytes_of q)))
-    by false e = h q ∙ sym (ap (λ b. is_one_of names (bytes_of q) || b) e ∙ or-none (is_one_of names (bytes_of q)))
+    by false e = h q ∙ sym (ap (λ b. is_one_of names (bytes_of q) || b) e ∙ or-false (is_one_of names (bytes_of q)))
 
 -- one name more of a list
 pub has-next :
@@ -77,27 +66,16 @@ names-length fs = length-map fs (λ (a : Annotated). a.name)
 
 pub named-among : (fs : List Annotated) (x : List ℕ) → is_one_of (names_among fs) x ≡ is_named (map placed fs) x
 named-among [] x = refl
-named-among (f ∷ fs) x = ap₂ (λ a b. a || b) (bytes-sym x f.name) (named-among fs x)
+named-among (f ∷ fs) x = ap₂ (λ a b. a || b) (bytes-turned x f.name) (named-among fs x)
 
 -- ---- names that are taken out
-
-or-left : (b c : Bool) → b ≡ true → (b || c) ≡ true
-or-left b c h = ap (λ t. t || c) h
-
-and-none : (b : Bool) → (b && false) ≡ false
-and-none true = refl
-and-none false = refl
-
-and-all : (b : Bool) → (b && true) ≡ b
-and-all true = refl
-and-all false = refl
 
 -- the set is the other one without these names
 abbrev pub IsWithout : List (List ℕ) → Names → Names → Type 0
 IsWithout names start set = (n : Name) → contains same_name set n ≡ (contains same_name start n && not (is_one_of names (bytes_of n)))
 
 pub without-none : (set : Names) → IsWithout [] set set
-without-none set n = sym (and-all (contains same_name set n))
+without-none set n = sym (and-true (contains same_name set n))
 
 without-more :
     (names : List (List ℕ)) (start old new : Names) (a : Name)
@@ -112,11 +90,11 @@ without-more names start old new a h u q =
         ≡ (contains same_name start q && not (is_one_of names (bytes_of q) || bytes_eq (bytes_of a) (bytes_of q)))
     by true e =
         sym (ap (λ b. contains same_name start q && not (is_one_of names (bytes_of q) || b)) e
-        ∙ ap (λ b. contains same_name start q && not b) (or-right (is_one_of names (bytes_of q))) ∙ and-none (contains same_name start q))
+        ∙ ap (λ b. contains same_name start q && not b) (or-right (is_one_of names (bytes_of q))) ∙ and-false (contains same_name start q))
     by false e =
         h q
         ∙ sym (ap (λ b. contains same_name start q && not (is_one_of names (bytes_of q) || b)) e
-        ∙ ap (λ b. contains same_name start q && not b) (or-none (is_one_of names (bytes_of q))))
+        ∙ ap (λ b. contains same_name start q && not b) (or-false (is_one_of names (bytes_of q))))
 
 -- one name more of a list
 pub without-next :
@@ -134,7 +112,7 @@ without-all names i start set l h = subst (λ ns. IsWithout ns start set) (take_
 
 one-of-at : (names : List (List ℕ)) (i : ℕ) (x : List ℕ) → i < length names → x ≡ get_or names i x → is_one_of names x ≡ true
 one-of-at [] i x l e = absurd (omega (arith, l))
-one-of-at (n ∷ ns) zero x l e = or-left (bytes_eq x n) (is_one_of ns x) ((bytes_eq-Decides x n).1 e)
+one-of-at (n ∷ ns) zero x l e = or-first (bytes_eq x n) (is_one_of ns x) ((bytes_eq-Decides x n).1 e)
 one-of-at (n ∷ ns) (suc i) x l e = ap (λ b. bytes_eq x n || b) (one-of-at ns i x (omega (arith, l)) e) ∙ or-right (bytes_eq x n)
 
 -- A listed name is left in the set where no formula has it.

@@ -1,5 +1,5 @@
 -- No formula of a problem but a clause has a free variable.
-use Rattle.std.proofs.Common.{◌≡◌, ℕ, Bool, true, false, ◌&&◌, None, Some, Option, List, [], ◌∷◌, ◌++◌, refl, ap, sym, ◌∙◌, subst}
+use Rattle.std.proofs.Common.{◌≡◌, ℕ, Bool, true, false, None, Some, Option, List, [], ◌∷◌, ◌++◌, refl, ap, sym, ◌∙◌, subst}
 use Rattle.std.specs.Prelude.{if◌then◌else◌}
 use Rattle.std.specs.List.{AllByRecursion}
 use Rattle.tptp_tree.specs.declared.limits.TheConstants.{MOST_NESTING}
@@ -16,10 +16,7 @@ use Rattle.tptp_problem.specs.Closed.{term_within, terms_within, closed_within, 
 use Rattle.tptp_problem.specs.Formulas.{Placed}
 use Rattle.tptp_problem.specs.Problem.{LoadedFile, tokens_of, IsProblem}
 use Rattle.tptp_problem.proofs.AboutReading.ConjectureLemmas.{all-hold}
-
-both : (a b : Bool) → a ≡ true → b ≡ true → (a && b) ≡ true
-both true b h k = k
-both false b h k = absurd (let t : false ≡ true = h in cc)
+use Rattle.list_lemmas.proofs.Bools.{both-true}
 
 variable-bound : (scope : Scope) (xs : List (List ℕ)) (x : List ℕ) → scope ≡ bound_ones xs → variable_cause scope x ≡ None → is_one_of xs x ≡ true
 variable-bound scope xs x e h = by (is_one_of xs x) (subst (λ (s : Scope). variable_cause s x ≡ None) e h)
@@ -42,7 +39,7 @@ mutual
   arguments-bound s xs (phrase_then t ts) rest e h =
       let first = term-bound (deeper s) xs t (more_arguments_causes (deeper s) ts rest) e h.1 in
       let more = more-bound (deeper s) xs ts rest e first.1 in
-      (both (term_within xs (term_meant t)) (terms_within xs (terms_meant ts)) first.0 more.0, more.1)
+      (both-true (term_within xs (term_meant t)) (terms_within xs (terms_meant ts)) first.0 more.0, more.1)
 
   more-bound :
       (s : Surroundings) (xs : List (List ℕ)) (ts : TermPhrases) (rest : List (Option Refusal)) → s.scope ≡ bound_ones xs
@@ -51,7 +48,7 @@ mutual
   more-bound s xs (phrase_then t ts) rest e h =
       let first = term-bound s xs t (more_arguments_causes s ts rest) e h.1 in
       let more = more-bound s xs ts rest e first.1 in
-      (both (term_within xs (term_meant t)) (terms_within xs (terms_meant ts)) first.0 more.0, more.1)
+      (both-true (term_within xs (term_meant t)) (terms_within xs (terms_meant ts)) first.0 more.0, more.1)
 
 atom-bound :
     (s : Surroundings) (xs : List (List ℕ)) (a : Atom) (rest : List (Option Refusal)) → s.scope ≡ bound_ones xs
@@ -62,7 +59,7 @@ atom-bound s xs (predicate_atom w ts) rest e h = arguments-bound s xs ts rest e 
 atom-bound s xs (equation_atom positive l r) rest e h =
     let left = term-bound s xs l (None ∷ term_causes s r rest) e h in
     let right = term-bound s xs r rest e left.1.1 in
-    (both (term_within xs (term_meant l)) (term_within xs (term_meant r)) left.0 right.0, right.1)
+    (both-true (term_within xs (term_meant l)) (term_within xs (term_meant r)) left.0 right.0, right.1)
 
 variables-faultless : (xs : List (List ℕ)) (rest : List (Option Refusal)) → AreFaultless (more_variables_causes xs rest) → AreFaultless rest
 variables-faultless [] rest h = h
@@ -87,7 +84,7 @@ mutual
   units-bound s xs (unit_then u us) rest e h =
       let first = unit-bound s xs u (units_causes s us rest) e h.1 in
       let more = units-bound s xs us rest e first.1 in
-      (both (closed_within xs (unit_meant u)) (all_closed_within xs (units_meant us)) first.0 more.0, more.1)
+      (both-true (closed_within xs (unit_meant u)) (all_closed_within xs (units_meant us)) first.0 more.0, more.1)
 
   phrase-bound :
       (s : Surroundings) (xs : List (List ℕ)) (p : Phrase) (rest : List (Option Refusal)) → s.scope ≡ bound_ones xs
@@ -97,16 +94,16 @@ mutual
       let first = unit-bound s xs u (None ∷ unit_causes s v (units_causes s us rest)) e h in
       let second = unit-bound s xs v (units_causes s us rest) e first.1.1 in
       let more = units-bound s xs us rest e second.1 in
-      (both (closed_within xs (unit_meant u)) _ first.0 (both (closed_within xs (unit_meant v)) _ second.0 more.0), more.1)
+      (both-true (closed_within xs (unit_meant u)) _ first.0 (both-true (closed_within xs (unit_meant v)) _ second.0 more.0), more.1)
   phrase-bound s xs (some_of u v us) rest e h =
       let first = unit-bound s xs u (None ∷ unit_causes s v (units_causes s us rest)) e h in
       let second = unit-bound s xs v (units_causes s us rest) e first.1.1 in
       let more = units-bound s xs us rest e second.1 in
-      (both (closed_within xs (unit_meant u)) _ first.0 (both (closed_within xs (unit_meant v)) _ second.0 more.0), more.1)
+      (both-true (closed_within xs (unit_meant u)) _ first.0 (both-true (closed_within xs (unit_meant v)) _ second.0 more.0), more.1)
   phrase-bound s xs (joined_by c u v) rest e h =
       let first = unit-bound s xs u (None ∷ unit_causes s v rest) e h in
       let second = unit-bound s xs v rest e first.1.1 in
-      (both (closed_within xs (unit_meant u)) (closed_within xs (unit_meant v)) first.0 second.0, second.1)
+      (both-true (closed_within xs (unit_meant u)) (closed_within xs (unit_meant v)) first.0 second.0, second.1)
 
 body-closed :
     (b : Body) (rest : List (Option Refusal)) → is_clause_body b ≡ false → AreFaultless (body_causes MOST_NESTING b rest) → closed_within [] (body_meant b) ≡ true

@@ -15,12 +15,11 @@ use Rattle.tptp_reader.specs.Annotating.{IsReading, IsFaultAt}
 use Rattle.tptp_tree.specs.declared.problem.Annotated.{Annotated}
 use Rattle.tptp_tree.specs.Shape.{entry_of}
 use Rattle.tptp_reader.specs.declared.entry.Read.{Read}
-use Rattle.tptp_reader.specs.Faults.{IsEndFault}
+use Rattle.tptp_reader.specs.Faults.{IsEndFault, IsFaultWhere}
 use Rattle.tptp_reader.specs.declared.cause.ReadCause.{ReadCause}
 use Rattle.tptp_reader.specs.declared.cause.ReadCause.TheVariants.{Syntax, SecondConjecture}
 use Rattle.tptp_reader.specs.declared.cause.ReadFault.{ReadFault}
 use Rattle.tptp_reader.specs.declared.cause.ReadFault.TheVariants.{NoMemory, At}
-use Rattle.tptp_reader.specs.Faults.{IsFaultWhere}
 use Rattle.tptp_problem.specs.declared.include.Awaited.TheVariants.{Keyword}
 use Rattle.tptp_problem.specs.declared.include.Ending.TheVariants.{Whole, Stopped, Cut}
 use Rattle.tptp_problem.specs.declared.source.Source.{Source}
@@ -34,6 +33,7 @@ use Rattle.tptp_problem.proofs.AboutFiles.AsciiLemmas.{word-there}
 use Rattle.tptp_problem.proofs.AboutReading.AwaitLemmas.{WholeThere, whole-there, stopped-there, cut-there}
 use Rattle.tptp_problem.proofs.AboutReading.IncludeTokens.{include-tail, tail_lexemes, width}
 use Rattle.tptp_problem.proofs.AboutFiles.IncludeLemmas.{word-name}
+use Rattle.list_lemmas.proofs.Bools.{both-true, and-false}
 
 pub fault-then :
     (P Q : ReadCause → List ℕ → ℕ → Type 0) (fault : ReadFault) → ((c : ReadCause) (f : List ℕ) (p : ℕ) → P c f p → Q c f p)
@@ -142,14 +142,6 @@ second s first progress b h e =
     ap (λ x. progress.met && x)
     (ap (λ ls. begun_counts (selections s.around.now) (conjecture_begun (drop first ls))) (sym (lexemes-same s h)) ∙ sym e)
 
-both-true : (a b : Bool) → a ≡ true → b ≡ true → (a && b) ≡ true
-both-true true b h k = k
-both-true false b h k = absurd (let t : false ≡ true = h in cc)
-
-never : (a : Bool) → (a && false) ≡ false
-never true = refl
-never false = refl
-
 pub second-true :
     (s : Source) (first : ℕ) (progress : Progress) (b : Bool) → IsLexed s
     → b ≡ begun_counts (selections s.around.now) (conjecture_begun (drop first (lexemes_told s))) → progress.met ≡ true → b ≡ true
@@ -160,7 +152,7 @@ pub second-none :
     (s : Source) (first : ℕ) (progress : Progress) (b : Bool) → IsLexed s
     → b ≡ begun_counts (selections s.around.now) (conjecture_begun (drop first (lexemes_told s))) → b ≡ false
     → is_second (file_of s) first progress ≡ false
-second-none s first progress b h e k = second s first progress b h e ∙ ap (λ x. progress.met && x) k ∙ never progress.met
+second-none s first progress b h e k = second s first progress b h e ∙ ap (λ x. progress.met && x) k ∙ and-false progress.met
 
 pub second-clear : (s : Source) (first : ℕ) (progress : Progress) → progress.met ≡ false → is_second (file_of s) first progress ≡ false
 second-clear s first progress m =

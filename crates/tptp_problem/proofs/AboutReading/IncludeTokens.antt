@@ -1,5 +1,5 @@
 -- The tokens of an include, and that what the machine reads up to its end is one.
-use Rattle.std.proofs.Common.{◌≡◌, ℕ, suc, ◌+◌, ◌*◌, Bool, true, false, ◌&&◌, None, Some, List, [], ◌∷◌, length, codes, refl, ap, ap₂, sym, ◌∙◌, arith}
+use Rattle.std.proofs.Common.{◌≡◌, ℕ, suc, ◌+◌, ◌*◌, Bool, true, false, None, Some, List, [], ◌∷◌, length, codes, refl, ap, ap₂, sym, ◌∙◌, arith}
 use Rattle.std.specs.Prelude.{if◌then◌else◌}
 use Rattle.std.specs.List.{list_all}
 use Rattle.std.proofs.lemmas.Bool.{and_parts}
@@ -14,6 +14,7 @@ use Rattle.tptp_problem.specs.Awaiting.{when, after, is_nothing, ended, ending_f
 use Rattle.tptp_problem.specs.declared.include.Awaited.{Awaited}
 use Rattle.tptp_problem.specs.declared.include.Awaited.TheVariants.{Keyword, Open, File, AfterFile, OpenList, Name, AfterName, Close, Stop, Nothing}
 use Rattle.tptp_problem.specs.declared.include.Ending.TheVariants.{Whole}
+use Rattle.list_lemmas.proofs.Bools.{both-true}
 
 -- ---- the tokens of an include behind its file
 
@@ -55,10 +56,6 @@ name-takes (digits_name digits) h = ap (λ b. when b AfterName None) h
 word-takes : (w : Word) → after File (word_lexeme w) ≡ Some AfterFile
 word-takes (bare bytes) = refl
 word-takes (quoted bytes) = refl
-
-pub both : (a b : Bool) → a ≡ true → b ≡ true → (a && b) ≡ true
-both true b h k = k
-both false b h k = absurd (let t : false ≡ true = h in cc)
 
 names-end :
     (at : ℕ) (ns : List NamePhrase) (rest : List Lexeme) → list_all is_right_name ns ≡ true
@@ -155,7 +152,7 @@ more-names at t u ts next h k r =
     record {
       names = name.0 ∷ r.names;
       rest = r.rest;
-      right = both (is_right_name name.0) (list_all is_right_name r.names) name.1 r.right;
+      right = both-true (is_right_name name.0) (list_all is_right_name r.names) name.1 r.right;
       spelled = ap₂ (λ x xs. x ∷ xs) (mark-same (codes ",") t h) (ap₂ (λ x xs. x ∷ xs) name.2 r.spelled);
       next_is = let far : suc (suc at) + 2 * length r.names + 3 ≡ at + 2 * suc (length r.names) + 3 = omega arith in r.next_is ∙ far;
     }
@@ -204,7 +201,7 @@ list-read at t (u ∷ us) next h e =
     record {
       names = name.0 ∷ more.names;
       rest = more.rest;
-      right = both (is_right_name name.0) (list_all is_right_name more.names) name.2 more.right;
+      right = both-true (is_right_name name.0) (list_all is_right_name more.names) name.2 more.right;
       spelled =
           ap₂ (λ x xs. x ∷ xs) (mark-same (codes ",") t h)
           (ap₂ (λ x xs. x ∷ xs) (mark-same (codes "[") u bracket.0) (name.3 ∙ ap (λ xs. name_lexeme name.0 ∷ xs) more.spelled));

@@ -1,6 +1,6 @@
 -- The counts of bound variables, and how they are kept.
 use Rattle.std.proofs.Common.{◌≡◌, ℕ, ◌+◌, ◌-◌, ◌≤◌, Bool, true, false, ◌||◌, cond, List, [], ◌∷◌, ◌++◌, length, take, drop, None, Some, refl, ap, sym, ◌∙◌, arith}
-use Rattle.std.specs.Prelude.{count_by, nat_lt, bytes_eq, Result, Ok, Err, OnErr, OnOk, IsOk}
+use Rattle.std.specs.Prelude.{count_by, nat_lt, bytes_eq}
 use Rattle.std.specs.List.{list_any}
 use Rattle.std.specs.Map.{count_at}
 use Rattle.std.specs.HashMap.{HashMap, get, Updates}
@@ -118,14 +118,6 @@ pub counted-short :
     → IsCounted names counts → IsCounted others counts
 counted-short names others counts h g c x =
     c x ∙ ap (count_by (same_name x)) (drop_all SCANNED names h ∙ sym (drop_all SCANNED others g))
-
-pub ok-unless : {A B : Type 0} (r : Result A B) (X : Type 0) → OnErr r X → (X → ⊥) → IsOk r
-ok-unless (Ok x) X h k = refl
-ok-unless (Err y) X h k = absurd (k h)
-
-pub when-ok : {A B : Type 0} (r : Result A B) (x : A) (X : Type 0) → r ≡ Ok x → OnOk r X → X
-when-ok (Ok y) x X e h = h
-when-ok (Err y) x X e h = cc
 
 -- ---- what the table tells
 

@@ -1,7 +1,7 @@
 -- Items that are read one after the other, with a token between two of them.
 use Rattle.std.proofs.Common.{append_assoc, ◌≡◌, ◌≤◌, ℕ, ◌+◌, true, List, [], ◌∷◌, ◌++◌, drop, refl, sym, ap, ◌∙◌, arith, bytes_eq, subst, Result, Ok, Err}
 use Rattle.std.specs.Result.{IsErrAnd}
-use Rattle.std.specs.Prelude.{IfOk, IfErr}
+use Rattle.std.specs.Prelude.{IfErr}
 use Rattle.std.proofs.lemmas.List.{map-append}
 use Rattle.std.proofs.lemmas.Slice.Eq.{bytes_eq-Decides}
 use Rattle.tptp_token.specs.Lexemes.{Lexeme, is_mark, lexeme}
@@ -146,14 +146,6 @@ first-halts r item pending names level at halt h =
 pub passed : {Y : Type 0} (q : Result Y Halt) (halt : Halt) (P : Halt → Type 0) → IsErrAnd q (λ h. h ≡ halt) → P halt → IfErr q P
 passed (Ok y) halt P e h = tt
 passed (Err x) halt P e h = subst P (sym e) h
-
-pub ok-then : {Y E : Type 0} (q : Result Y E) (P Q : Y → Type 0) → ((y : Y) → P y → Q y) → IfOk q P → IfOk q Q
-ok-then (Ok y) P Q f h = f y h
-ok-then (Err x) P Q f h = tt
-
-pub err-then : {Y E : Type 0} (q : Result Y E) (P Q : E → Type 0) → ((x : E) → P x → Q x) → IfErr q P → IfErr q Q
-err-then (Ok y) P Q f h = tt
-err-then (Err x) P Q f h = f x h
 
 pub memory-halts : (r : Reader) (start : Surroundings → List Symbol) (names : List Name) (level at : ℕ) (halt : Halt) → halt ≡ NoMemory → Halts r start names level at halt
 memory-halts r start names level at halt e = record { by = λ s f. memory-ends r (start s) at halt e }

@@ -16,6 +16,7 @@ use Rattle.tptp_reader.specs.declared.cause.Halt.TheVariants.{At}
 use Rattle.tptp_reader.specs.declared.cause.Refusal.TheVariants.{Syntax, FreeVariable}
 use Rattle.tptp_reader.proofs.AboutTexts.TellingLemmas.{takes-leads, fault-ends, stop-ends, passes-leads}
 use Rattle.tptp_reader.proofs.AboutSteps.StepLemmas.{variable-spelled, cause-among}
+use Rattle.list_lemmas.proofs.Lists.{bytes-self}
 
 -- ---- tokens by tests
 
@@ -54,15 +55,12 @@ lexeme-is k bytes t h =
     let both = and-true (kind_place k == kind_place t.kind) (bytes_eq bytes t.bytes) h in
     ap (λ j. lexeme j t.bytes) (kinds-same k t.kind both.0) ∙ ap (lexeme k) (sym ((bytes_eq-Decides bytes t.bytes).0 both.1))
 
-bytes_eq-refl : (a : List ℕ) → bytes_eq a a ≡ true
-bytes_eq-refl a = (bytes_eq-Decides a a).1 refl
-
 -- a test that fails one way fails the other way
 pub bytes_eq-turned : (a b : List ℕ) (v : Bool) → bytes_eq a b ≡ false → bytes_eq b a ≡ v → v ≡ false
 bytes_eq-turned a b false h g = refl
 bytes_eq-turned a b true h g =
     let same : b ≡ a = (bytes_eq-Decides b a).0 g in
-    let yes : bytes_eq a b ≡ true = ap (bytes_eq a) same ∙ bytes_eq-refl a in
+    let yes : bytes_eq a b ≡ true = ap (bytes_eq a) same ∙ bytes-self a in
     absurd (false≢true (sym h ∙ yes))
 
 -- ---- words and variables

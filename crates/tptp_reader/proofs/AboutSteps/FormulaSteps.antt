@@ -17,6 +17,7 @@ use Rattle.tptp_reader.specs.declared.cause.Halt.TheVariants.{At}
 use Rattle.tptp_reader.specs.declared.cause.Refusal.TheVariants.{Syntax, Nesting}
 use Rattle.tptp_reader.proofs.AboutTexts.TellingLemmas.{takes-leads, fault-ends, stop-ends, passes-leads, same-leads, begun-none, begun-deep}
 use Rattle.tptp_reader.proofs.AboutSteps.AtomSteps.{lexeme-is}
+use Rattle.list_lemmas.proofs.Tests.{any-map}
 
 -- ---- units
 
@@ -172,17 +173,13 @@ variables-end r at xs s t n g h = stop-ends r at (more_variables xs s) t Syntax 
 
 -- ---- bound names
 
-list_any-map : {X Y : Type 0} (p : Y → Bool) (f : X → Y) (xs : List X) → list_any p (map f xs) ≡ list_any (λ x. p (f x)) xs
-list_any-map p f [] = refl
-list_any-map p f (x ∷ xs) = ap (λ b. p (f x) || b) (list_any-map p f xs)
-
 among-more :
     (old added : List Name) (texts : List (List ℕ)) (x : List ℕ)
     → map (λ (n : Name). n.bytes.now) added ≡ texts → is_among (old ++ added) x ≡ (is_among old x || list_any (bytes_eq x) texts)
 among-more old added texts x e =
     list_any-append (λ (n : Name). bytes_eq x n.bytes.now) old added
     ∙ ap (λ b. is_among old x || b)
-    (sym (list_any-map (bytes_eq x) (λ (n : Name). n.bytes.now) added) ∙ ap (list_any (bytes_eq x)) e)
+    (sym (any-map (bytes_eq x) (λ (n : Name). n.bytes.now) added) ∙ ap (list_any (bytes_eq x)) e)
 
 -- a variable is free of the new names and the old ones, by whether it is free of the old ones
 cause-or :

@@ -12,7 +12,8 @@ use Rattle.tptp_tree.specs.Brackets.{Bracket, round, square, curly, closes, open
 use Rattle.tptp_tree.specs.Causes.{typed, role_form, number_form, distinct_form, dollar_form, Refusal, syntax, free_variable, role_not_taken, too_deep, left_out, Surroundings, deeper, binding, begun, outermost}
 use Rattle.tptp_reader.specs.Machine.{Symbol, mark, a_term, maybe_arguments, more_arguments, an_atom, maybe_applied, maybe_equation, an_equation, a_unit, maybe_connected, maybe_more_units, variables_bracket, next_variable, more_variables, a_clause, a_literal, a_plain_literal, maybe_more_literals, a_name, a_role, end_of_body, first_note, more_notes, an_annotated, Step, takes, passes, stops, taken, followed_by, arguments, step, term_step, atom_step, equation_step, unit_step, connected_step, variable_step, literal_step, name_step, role_step, note_step, end_of_notes_step, before_body, formula_symbols, typed_words, annotated_step, is_binary_connective, is_sign_of_equation, is_truth_word}
 use Rattle.tptp_reader.specs.Answers.{form_of_token}
-use Rattle.tptp_reader.proofs.AboutTexts.TokenTests.{choose, lexeme-same, either}
+use Rattle.tptp_reader.proofs.AboutTexts.TokenTests.{choose, lexeme-same}
+use Rattle.list_lemmas.proofs.Bools.{or-either}
 
 -- a variable and a word
 abbrev pub a_variable : Lexeme
@@ -176,7 +177,7 @@ plain-halts s t =
 -- ---- notes
 
 closing-formless : (t : Lexeme) → is_closing t ≡ true → form_of_token t.kind t.bytes ≡ None
-closing-formless t h = by (either (closes round t) (closes square t || closes curly t) h)
+closing-formless t h = by (or-either (closes round t) (closes square t || closes curly t) h)
   where
     of : (k : Kind) (bytes : List ℕ) → t ≡ lexeme k bytes → form_of_token k bytes ≡ None → form_of_token t.kind t.bytes ≡ None
     of k bytes e f = ap (λ (x : Lexeme). form_of_token x.kind x.bytes) e ∙ f
@@ -187,7 +188,7 @@ closing-formless t h = by (either (closes round t) (closes square t || closes cu
 
     by : (closes round t ≡ true) ⊎ ((closes square t || closes curly t) ≡ true) → form_of_token t.kind t.bytes ≡ None
     by (inl e) = of Mark (codes ")") (lexeme-same Mark (codes ")") t e) refl
-    by (inr e) = last (either (closes square t) (closes curly t) e)
+    by (inr e) = last (or-either (closes square t) (closes curly t) e)
 
 nothing-opened : (o : Option Bracket) (c : Bool) (bs : List Bracket) → with_opened o c bs ≡ None → c ≡ true
 nothing-opened (Some b) c bs e = absurd (let f : Some (b ∷ bs) ≡ None = e in cc)

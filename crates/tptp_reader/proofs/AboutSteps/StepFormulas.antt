@@ -9,8 +9,9 @@ use Rattle.tptp_tree.specs.Entries.{atom_of, positive_literal, negated_literal, 
 use Rattle.tptp_tree.specs.Causes.{Surroundings, deeper, binding, begun, syntax}
 use Rattle.tptp_reader.specs.Machine.{Symbol, mark, an_atom, a_unit, maybe_connected, maybe_more_units, variables_bracket, next_variable, more_variables, a_clause, a_literal, a_plain_literal, maybe_more_literals, Step, takes, passes, stops, taken, followed_by, step, atom_step, unit_step, connected_step, variable_step, literal_step, is_binary_connective}
 use Rattle.tptp_reader.proofs.AboutTexts.Spelled.{with_end, with_end-lexemes, ended, and_all, or_some, and_joined, colon_and, SpellAll, IsStepOf, all-split}
-use Rattle.tptp_reader.proofs.AboutTexts.TokenTests.{choose, mark-same, connective-same, either, binary-same}
+use Rattle.tptp_reader.proofs.AboutTexts.TokenTests.{choose, mark-same, connective-same, binary-same}
 use Rattle.tptp_reader.proofs.AboutSteps.StepTerms.{atom-right, mapped}
+use Rattle.list_lemmas.proofs.Bools.{or-either}
 
 -- ---- units
 
@@ -48,7 +49,7 @@ unit-right s t =
     choose (IsStepOf (a_unit s) t) (is_connective (codes "~") t) (takes (a_unit (deeper s) ∷ []) (begun s)) _
     (λ e ts rest h. (negated h.1.0, ap₂ (λ x xs. x ∷ xs) (connective-same (codes "~") t e) (h.1.1 ∙ ap (unit_lexemes h.1.0) h.2)))
     (λ e. choose (IsStepOf (a_unit s) t) (is_connective (codes "!") t || is_connective (codes "?") t) (takes (variables_bracket (deeper s) ∷ []) (begun s)) _
-    (λ f ts rest h. let q = quantifier-same t (either (is_connective (codes "!") t) (is_connective (codes "?") t) f) in bound-unit (deeper s) t q.0 q.1 ts rest h)
+    (λ f ts rest h. let q = quantifier-same t (or-either (is_connective (codes "!") t) (is_connective (codes "?") t) f) in bound-unit (deeper s) t q.0 q.1 ts rest h)
     (λ f. choose (IsStepOf (a_unit s) t) (is_mark (codes "(") t) (takes (a_unit (deeper s) ∷ maybe_connected (deeper s) ∷ mark (codes ")") ∷ []) (begun s)) (atom_step true s t.kind t.bytes)
     (λ g ts rest h. bracketed-unit (deeper s) t (mark-same (codes "(") t g) ts rest h)
     (λ g. mapped (an_atom true s) (a_unit s) t (atom_step true s t.kind t.bytes) (λ ts rest h. (atomic h.0, h.1)) (atom-right true s t.kind t.bytes))))

@@ -10,7 +10,8 @@ use Rattle.tptp_tree.specs.Entries.{plain_true, plain_false, plain_predicate, pl
 use Rattle.tptp_tree.specs.Causes.{Surroundings, deeper, begun, syntax, left_out, dollar_form}
 use Rattle.tptp_reader.specs.Machine.{Symbol, a_term, maybe_arguments, more_arguments, an_atom, maybe_applied, maybe_equation, an_equation, Step, takes, passes, stops, taken, arguments, step, term_step, atom_step, equation_step, is_sign_of_equation, is_truth_word}
 use Rattle.tptp_reader.proofs.AboutTexts.Spelled.{SignFor, sign_for, AtomFor, atom_for, EquationEnd, no_equation, equation_with, equation_lexemes, Spells, SpellAll, IsStepOf}
-use Rattle.tptp_reader.proofs.AboutTexts.TokenTests.{choose, mark-same, connective-same, either, only, truth-same}
+use Rattle.tptp_reader.proofs.AboutTexts.TokenTests.{choose, mark-same, connective-same, truth-same}
+use Rattle.list_lemmas.proofs.Bools.{or-false-true, or-either}
 
 pub term-right : (s : Surroundings) (k : Kind) (bytes : List ℕ) → IsStepOf (a_term s) (lexeme k bytes) (term_step s k bytes)
 term-right s Lower bytes = λ ts rest h. (word_with (bare bytes) h.1.0, ap (λ xs. lexeme Lower bytes ∷ xs) (h.1.1 ∙ ap (arguments_lexemes h.1.0) h.2))
@@ -45,12 +46,12 @@ more_arguments-right s t =
 -- ---- atoms
 
 sign-same : (b : Bool) (t : Lexeme) → is_sign_of_equation b t ≡ true → (sign : SignFor b) × (t ≡ equals_lexeme (sign_for b sign))
-sign-same true t h = by (either (is_connective (codes "=") t) (is_connective (codes "!=") t) h)
+sign-same true t h = by (or-either (is_connective (codes "=") t) (is_connective (codes "!=") t) h)
   where
     by : (is_connective (codes "=") t ≡ true) ⊎ (is_connective (codes "!=") t ≡ true) → (sign : Bool) × (t ≡ equals_lexeme sign)
     by (inl e) = (true, connective-same (codes "=") t e)
     by (inr e) = (false, connective-same (codes "!=") t e)
-sign-same false t h = (tt, connective-same (codes "=") t (only (is_connective (codes "=") t) h))
+sign-same false t h = (tt, connective-same (codes "=") t (or-false-true (is_connective (codes "=") t) h))
 
 -- the right side behind a sign
 right-side :

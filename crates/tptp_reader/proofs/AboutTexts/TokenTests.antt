@@ -40,14 +40,6 @@ mark-same bytes t h = lexeme-same Mark bytes t h
 pub connective-same : (bytes : List ℕ) (t : Lexeme) → is_connective bytes t ≡ true → t ≡ lexeme Connective bytes
 connective-same bytes t h = lexeme-same Connective bytes t h
 
-pub either : (a b : Bool) → (a || b) ≡ true → (a ≡ true) ⊎ (b ≡ true)
-either true b h = inl refl
-either false b h = inr h
-
-pub only : (a : Bool) → (a || false) ≡ true → a ≡ true
-only true h = refl
-only false h = absurd (let t : false ≡ true = h in cc)
-
 -- one of some texts
 pub one-more :
     (bytes text : List ℕ) (others : List (List ℕ)) (P : Type 0)

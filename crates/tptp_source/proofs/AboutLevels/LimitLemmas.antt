@@ -11,6 +11,7 @@ use Rattle.tptp_source.specs.General.{GeneralTree, trees_of, whole}
 use Rattle.tptp_source.specs.Spelling.{PartPhrase, variable_part, word_part, dollar_part, number_part, distinct_part, negated_part, list_part, PartPhrases, no_parts, part_then, GeneralPhrase, parts, GeneralPhrases, no_phrases, phrase_then, number_lexemes, part_lexemes, arguments_lexemes, items_lexemes, more_lexemes, general_lexemes, more_parts_lexemes, part_meant, parts_meant, general_meant, phrases_meant, SpellsGeneral}
 use Rattle.tptp_source.specs.Levels.{general_levels, general_arguments_levels, all_general_levels}
 use Rattle.tptp_source.proofs.AboutLevels.TokenLemmas.{Shallow, IsPlainToken, Closes, plain-says, plain-from, close-says, close-from, open-says, open-from, plain-token, comma-plain, colon-plain, word-plain, round-opens, square-opens, round-closes, square-closes}
+use Rattle.list_lemmas.proofs.Numbers.{max-none}
 
 -- ---- levels that are left
 
@@ -42,12 +43,8 @@ fits-left limit u n m h = omega (arith, h, le-max_left n m)
 fits-right : (limit : ℕ) (u : List Bracket) (n m : ℕ) → Fits limit u (max n m) → Fits limit u m
 fits-right limit u n m h = omega (arith, h, le-max_right n m)
 
--- a term of parts has the levels of its parts
-max-nothing : (n : ℕ) → n ≡ max n 0
-max-nothing n = let least : max n 0 ≤ n = max-le (omega arith) (omega arith) in omega (arith, least, le-max_left n 0)
-
 whole-levels : (t : GeneralTree) (ts : List GeneralTree) → general_levels (whole (t ∷ ts)) ≡ max (general_levels t) (all_general_levels (trees_of ts))
-whole-levels t [] = max-nothing (general_levels t)
+whole-levels t [] = max-none (general_levels t)
 whole-levels t (u ∷ us) = refl
 
 -- ---- plain parts

@@ -5,7 +5,7 @@ use Rattle.tptp_source.specs.General.{tree_size, trees_size, trees_of}
 use Rattle.tptp_source.specs.Shape.{tree_of}
 use Rattle.tptp_source.specs.Items.{term_before, term_in, terms_in}
 use Rattle.tptp_source.specs.declared.term.GeneralTerm.{GeneralTerm}
-use Rattle.tptp_source.proofs.AboutParts.ItemLemmas.{drop-item}
+use Rattle.list_lemmas.proofs.Places.{drop-item}
 
 -- ---- a member of a list is no larger than the list
 

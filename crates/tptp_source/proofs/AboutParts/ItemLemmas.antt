@@ -1,5 +1,5 @@
 -- Sides, names and numbers among the items of an inference.
-use Rattle.std.proofs.Common.{◌≡◌, ◌<◌, ◌≤◌, ◌+◌, ◌-◌, ◌*◌, ◌^◌, ℕ, true, List, [], ◌∷◌, ◌++◌, drop, length, get_or, None, Some, Option, refl, sym, ap, ◌∙◌, arith}
+use Rattle.std.proofs.Common.{◌≡◌, ◌<◌, ◌≤◌, ◌+◌, ◌-◌, ◌*◌, ◌^◌, ℕ, true, List, [], ◌∷◌, ◌++◌, drop, length, get_or, None, Some, Option, refl, ap, ◌∙◌, arith}
 use Rattle.std.proofs.lemmas.List.{at_drop_more}
 use Rattle.std.proofs.lemmas.Bool.{le-ltb, lt-ltb}
 use Rattle.tptp_source.specs.declared.items.SideName.{SideName}
@@ -15,9 +15,6 @@ no_signed_name f [] h = absurd (h refl)
 no_signed_name f (t ∷ ts) h = refl
 
 -- ---- numbers
-
-pub drop-item : {A : Type 0} (xs : List A) (i : ℕ) (x : A) → i < length xs → x ≡ get_or xs i x → drop i xs ≡ x ∷ drop (i + 1) xs
-drop-item xs i x h e = at_drop_more (λ ys. ys) xs i x h ∙ ap (λ y. y ∷ drop (i + 1) xs) (sym e)
 
 grows : (n : ℕ) (ds : List ℕ) → n ≤ value_behind n ds
 grows n [] = omega arith

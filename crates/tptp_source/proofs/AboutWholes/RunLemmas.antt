@@ -1,7 +1,7 @@
 -- The machine from an index on.
 use Rattle.std.proofs.Common.{◌≡◌, ◌+◌, ℕ, false, List, [], ◌∷◌, drop, None, Some, Option, Result, Ok, Err, refl, sym, ap, ◌∙◌, subst}
 use Rattle.std.specs.Result.{IsErrAnd}
-use Rattle.std.specs.Prelude.{IfOk, IfErr}
+use Rattle.std.specs.Prelude.{IfErr}
 use Rattle.tptp_token.specs.Lexemes.{Lexeme, is_mark}
 use Rattle.tptp_source.specs.General.{GeneralTree}
 use Rattle.tptp_source.specs.Machine.{Level, State, step, at_end, run, begins_with}
@@ -125,11 +125,3 @@ halts-after r a b i j halt g h =
 pub passed : {Y : Type 0} (q : Result Y Halt) (halt : Halt) (P : Halt → Type 0) → IsErrAnd q (λ h. h ≡ halt) → P halt → IfErr q P
 passed (Ok y) halt P e h = tt
 passed (Err x) halt P e h = subst P (sym e) h
-
-pub ok-then : {Y E : Type 0} (q : Result Y E) (P Q : Y → Type 0) → ((y : Y) → P y → Q y) → IfOk q P → IfOk q Q
-ok-then (Ok y) P Q f h = f y h
-ok-then (Err x) P Q f h = tt
-
-pub err-then : {Y E : Type 0} (q : Result Y E) (P Q : E → Type 0) → ((x : E) → P x → Q x) → IfErr q P → IfErr q Q
-err-then (Ok y) P Q f h = tt
-err-then (Err x) P Q f h = f x h

@@ -33,12 +33,6 @@ one-source tokens s r h g =
 
 -- ---- answers
 
-pub some-holds : {T : Type 0} (o : Option T) (t : T) (P : T → Type 0) → IfSome o P → o ≡ Some t → P t
-some-holds o t P h e = subst (λ x. IfSome x P) e h
-
-pub none-holds : {T : Type 0} (o : Option T) (P : Type 0) → IfNone o P → o ≡ None → P
-none-holds o P h e = subst (λ x. IfNone x P) e h
-
 pub answer-spelled :
     {E : Type 0} (tokens : List Lexeme) (q : Result (Option Source) E) (t : GeneralTree)
     → SpellsGeneral tokens t → IfOk q (λ read. option_map source_of read ≡ source_in t)

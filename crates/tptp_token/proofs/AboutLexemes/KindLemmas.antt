@@ -8,6 +8,7 @@ use Rattle.tptp_token.specs.Kinds.{all_kinds, first_kind, is_token, kind_of}
 use Rattle.tptp_token.specs.declared.token.Kind.{Kind}
 use Rattle.tptp_token.specs.declared.token.Kind.TheVariants.{Lower, Variable, Quoted, Distinct, Dollar, Number, Connective, Mark, Other}
 use Rattle.tptp_token.proofs.AboutLexemes.TestLemmas.{second-false}
+use Rattle.list_lemmas.proofs.Bools.{or-false}
 
 -- the first bytes of a kind
 abbrev pub starts : Kind → ℕ → Bool
@@ -47,10 +48,6 @@ none_started [] b w e = refl
 none_started (kind ∷ kinds) b w e =
     let h = or_parts (starts kind b) _ e in
     ap (λ t. t || list_any (λ k. spells k (b ∷ w)) kinds) (not_started kind b w h.0) ∙ none_started kinds b w h.1
-
-or-false : (a : Bool) → (a || false) ≡ a
-or-false true = refl
-or-false false = refl
 
 any-only :
     (p : Kind → Bool) (before after : List Kind) (kind : Kind)

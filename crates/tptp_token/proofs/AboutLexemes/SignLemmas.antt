@@ -12,6 +12,7 @@ use Rattle.tptp_token.proofs.AboutLexemes.TestLemmas.{first_passes, first_fails}
 use Rattle.tptp_token.proofs.AboutLexemes.LongestLemmas.{longest-is, longest-none}
 use Rattle.tptp_token.proofs.AboutLexemes.KindLemmas.{starts, token-none, list_any-end}
 use Rattle.tptp_token.proofs.AboutLexemes.WordLemmas.{token_known, no_token, other-piece}
+use Rattle.list_lemmas.proofs.Bools.{and-false}
 
 -- one sign that goes on with none that follows it, and is a connective by itself
 one_sign :
@@ -49,10 +50,6 @@ two_signs b c rest kind whole more =
     by [] (suc (suc (suc m))) l w = absurd (omega arith)
     by (d ∷ us) (suc (suc (suc m))) l w = more d (take m us)
 
-and-nil : (a : Bool) → (a && false) ≡ false
-and-nil true = refl
-and-nil false = refl
-
 starts_at : (k : ℕ) (bs : List ℕ) → starts_with k bs ≡ false → (c : ℕ) (w : List ℕ) → bs ≡ c ∷ w → (c == k) ≡ false
 starts_at k [] h c w e = absurd (cc)
 starts_at k (b ∷ bs) h c w e = let same : b ≡ c = cc in sym (ap (λ x. x == k) same) ∙ first_fails (b == k) h
@@ -76,7 +73,7 @@ not_equal rest true e = by rest e
     by (c ∷ us) g =
         two_signs 33 61 us refl refl (λ d w. refl) ∙ ap (λ x. plain_piece 33 (x ∷ us)) (sym (eqb-true c 61 (first_passes (c == 61) (sym g))))
 not_equal rest false e =
-    one_sign 33 rest refl refl (λ c w f. let h = starts_at 61 rest (sym e) c w f in simp h) (λ c d w. simp and-nil)
+    one_sign 33 rest refl refl (λ c w f. let h = starts_at 61 rest (sym e) c w f in simp h) (λ c d w. simp and-false)
 
 pub equal_sign : (rest : List ℕ) (t : Bool) → t ≡ starts_with 62 rest → Token Connective (if t then 2 else 1) ≡ plain_piece 61 rest
 unfolding is_token kind_of
@@ -87,7 +84,7 @@ equal_sign rest true e = by rest e
     by (c ∷ us) g =
         two_signs 61 62 us refl refl (λ d w. refl) ∙ ap (λ x. plain_piece 61 (x ∷ us)) (sym (eqb-true c 62 (first_passes (c == 62) (sym g))))
 equal_sign rest false e =
-    one_sign 61 rest refl refl (λ c w f. let h = starts_at 62 rest (sym e) c w f in simp h) (λ c d w. simp and-nil)
+    one_sign 61 rest refl refl (λ c w f. let h = starts_at 62 rest (sym e) c w f in simp h) (λ c d w. simp and-false)
 
 -- `~`, `~|` or `~&`
 pub negation_sign :
@@ -110,7 +107,7 @@ negation_sign rest true e = by rest (sym (e ∙ either 124 38 rest))
 negation_sign rest false e =
     let parts = or_parts (starts_with 124 rest) (starts_with 38 rest) (sym (e ∙ either 124 38 rest)) in
     one_sign 126 rest refl refl
-    (λ c w f. let h = starts_at 124 rest parts.0 c w f in let k = starts_at 38 rest parts.1 c w f in simp (h, k)) (λ c d w. simp and-nil)
+    (λ c w f. let h = starts_at 124 rest parts.0 c w f in let k = starts_at 38 rest parts.1 c w f in simp (h, k)) (λ c d w. simp and-false)
 
 -- `&`, `|` and `?`
 pub lone_sign : (b : ℕ) (rest : List ℕ) → list_any (λ sign. b == sign) (codes "&|?") ≡ true → Token Connective 1 ≡ plain_piece b rest
@@ -199,7 +196,7 @@ short_arrow (c ∷ us) inner e k h =
     more [] g (suc (suc (suc m))) l w = absurd (omega arith)
     more (v ∷ vs) g (suc (suc (suc zero))) l w = let f = first_fails (v == 62) g in simp f
     more (v ∷ []) g (suc (suc (suc (suc m)))) l w = absurd (omega arith)
-    more (v ∷ x ∷ vs) g (suc (suc (suc (suc m)))) l w = simp and-nil
+    more (v ∷ x ∷ vs) g (suc (suc (suc (suc m)))) l w = simp and-false
 
 -- `<` alone
 less_sign :
@@ -224,12 +221,12 @@ less_sign rest inner h e k =
     more vs g f zero l w = absurd (omega arith)
     more vs g f (suc zero) l w = absurd (omega arith)
     more [] g f (suc (suc m)) l w = absurd (omega arith)
-    more (c ∷ vs) g f (suc (suc zero)) l w = let p = first_fails (c == 61) g in simp (p, and-nil)
+    more (c ∷ vs) g f (suc (suc zero)) l w = let p = first_fails (c == 61) g in simp (p, and-false)
     more (c ∷ []) g f (suc (suc (suc m))) l w = absurd (omega arith)
     more (c ∷ d ∷ vs) g f (suc (suc (suc zero))) l w =
         let p = first_fails (c == 61) g in let q = xor_fails (c == 126) (d == 62) f in simp (p, q)
     more (c ∷ d ∷ []) g f (suc (suc (suc (suc m)))) l w = absurd (omega arith)
-    more (c ∷ d ∷ x ∷ vs) g f (suc (suc (suc (suc m)))) l w = simp and-nil
+    more (c ∷ d ∷ x ∷ vs) g f (suc (suc (suc (suc m)))) l w = simp and-false
 
 pub less_sign-alone : (rest : List ℕ) → starts_with_either 61 126 rest ≡ false → Token Other 1 ≡ plain_piece 60 rest
 less_sign-alone rest h =

@@ -1,5 +1,5 @@
 -- Pieces that begin with letters, marks and dollar signs.
-use Rattle.std.proofs.Common.{◌≡◌, ℕ, zero, suc, ◌+◌, ◌-◌, ◌<◌, ◌≤◌, Bool, true, false, ◌&&◌, ◌||◌, ◌==◌, List, [], ◌∷◌, ◌++◌, take, drop, length, refl, ap, sym, ◌∙◌, arith, one-add, add-one, eqb-true, take_all, length-drop}
+use Rattle.std.proofs.Common.{◌≡◌, ℕ, zero, suc, ◌+◌, ◌-◌, ◌<◌, ◌≤◌, Bool, true, false, ◌&&◌, ◌||◌, ◌==◌, List, [], ◌∷◌, ◌++◌, take, drop, length, refl, ap, sym, ◌∙◌, arith, one-add, add-one, eqb-true, length-drop}
 use Rattle.std.specs.List.{prefix_len, list_any, list_all}
 use Rattle.std.proofs.lemmas.Bool.{and_left, and_parts}
 use Rattle.tptp_token.specs.Spelling.{spells, is_lower, is_upper, is_word_byte, is_lower_word, begins, is_end, marks, other_signs}
@@ -11,6 +11,7 @@ use Rattle.tptp_token.specs.declared.token.Kind.TheVariants.{Lower, Variable, Qu
 use Rattle.tptp_token.specs.declared.piece.Piece.TheVariants.{Token, Bad}
 use Rattle.tptp_token.proofs.AboutLexemes.LongestLemmas.{longest-passes, longest-none, longest-after, longest-behind, longest-all}
 use Rattle.tptp_token.proofs.AboutLexemes.KindLemmas.{starts, token-only, kind_of-only, others_apart}
+use Rattle.list_lemmas.proofs.Places.{take-rest}
 
 -- a token of a known length
 pub token_known :
@@ -116,11 +117,6 @@ lower_word-length b bs n h counted =
     ∙ ap (λ x. 1 + x) (longest-all is_word_byte bs ∙ sym counted)
     ∙ omega arith)
 
--- bytes of which there are none
-pub empty : (bs : List ℕ) → length bs ≡ 0 → bs ≡ []
-empty [] e = refl
-empty (b ∷ bs) e = absurd (omega arith)
-
 pub no_bytes : (test : List ℕ → Bool) (bs : List ℕ) → length bs ≡ 0 → 0 ≡ longest test bs
 no_bytes test bs e = sym (longest-none test bs (λ m l w. absurd (omega arith)))
 
@@ -211,9 +207,5 @@ two_dollars-bad (b ∷ bs) inner h i e =
     first_is : (x : ℕ) → ((x == 36) && true) ≡ true → x ≡ 36
     first_is x g = eqb-true x 36 (and_parts (x == 36) true g).0
 
--- what `&bytes[i..]` holds
-pub suffix : (bs : List ℕ) (i : ℕ) → take (length bs - i) (drop i bs) ≡ drop i bs
-suffix bs i = take_all (length bs - i) (drop i bs) (omega (arith, length-drop i bs))
-
 pub length-suffix : (bs : List ℕ) (i : ℕ) → length (take (length bs - i) (drop i bs)) ≡ length bs - i
-length-suffix bs i = ap length (suffix bs i) ∙ length-drop i bs
+length-suffix bs i = ap length (take-rest bs i) ∙ length-drop i bs

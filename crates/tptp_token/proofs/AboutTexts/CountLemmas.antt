@@ -18,7 +18,3 @@ unwrap_or-position p q xs same = chosen (prefix_len (λ x. not (p x)) xs) (prefi
     agree : (ys : List ℕ) → prefix_len (λ x. not (p x)) ys ≡ prefix_len q ys
     agree [] = refl
     agree (y ∷ ys) = ap (λ t. cond t (1 + prefix_len (λ x. not (p x)) ys) 0) (same y) ∙ ap (λ n. cond (q y) (1 + n) 0) (agree ys)
-
-pub not-not : (t : Bool) → not (not t) ≡ t
-not-not true = refl
-not-not false = refl

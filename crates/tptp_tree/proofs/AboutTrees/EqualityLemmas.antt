@@ -1,20 +1,15 @@
 -- Formulas are the same exactly where they are equal.
-use Rattle.std.proofs.Common.{◌≡◌, ℕ, suc, Bool, true, false, ◌&&◌, ◌↔◌, List, [], ◌∷◌, length, refl, ap, ap₂, sym, ◌∙◌, subst}
+use Rattle.std.proofs.Common.{◌≡◌, ℕ, suc, true, false, ◌&&◌, ◌↔◌, List, [], ◌∷◌, length, refl, ap, ap₂, sym, ◌∙◌, subst}
 use Rattle.std.specs.Prelude.{bytes_eq, IsTrue}
 use Rattle.std.proofs.lemmas.Bool.{and_parts, and_from, false≢true}
-use Rattle.std.proofs.lemmas.Slice.Eq.{bytes_eq-Decides}
 use Rattle.tptp_tree.specs.Term.{TermTree, variable, application, TermTrees, no_terms, term_then, terms_of}
 use Rattle.tptp_tree.specs.Formula.{FormulaTree, formulas_of}
 use Rattle.tptp_tree.specs.Codes.{encoded, decoded, decoded-formula, text_terms, encoded_formulas}
 use Rattle.tptp_tree.specs.Equality.{same_term, same_terms, same_formula}
+use Rattle.list_lemmas.proofs.Bools.{false-and}
+use Rattle.list_lemmas.proofs.Lists.{bytes-self, bytes-same}
 
 -- ---- terms
-
-bytes-same : (x y : List ℕ) → bytes_eq x y ≡ true → x ≡ y
-bytes-same x y h = (bytes_eq-Decides x y).0 h
-
-bytes-self : (x : List ℕ) → bytes_eq x x ≡ true
-bytes-self x = (bytes_eq-Decides x x).1 refl
 
 mutual
   pub term-same : (t u : TermTree) → same_term t u ≡ true → t ≡ u
@@ -53,23 +48,19 @@ formulas-equal f g = (formula-same f g, λ e. subst (λ h. IsTrue (same_formula 
 
 -- ---- lists of different lengths
 
-and_false : (b : Bool) → false ≡ (b && false)
-and_false true = refl
-and_false false = refl
-
 pub terms-lengths : (ts us : List TermTree) → (length ts ≡ length us → ⊥) → false ≡ same_terms (terms_of ts) (terms_of us)
 terms-lengths [] [] h = absurd (h refl)
 terms-lengths [] (u ∷ us) h = refl
 terms-lengths (t ∷ ts) [] h = refl
 terms-lengths (t ∷ ts) (u ∷ us) h =
-    and_false (same_term t u) ∙ ap (λ b. same_term t u && b) (terms-lengths ts us (λ e. h (ap suc e)))
+    false-and (same_term t u) ∙ ap (λ b. same_term t u && b) (terms-lengths ts us (λ e. h (ap suc e)))
 
 pub names-lengths : (xs ys : List (List ℕ)) → (length xs ≡ length ys → ⊥) → false ≡ same_terms (text_terms xs) (text_terms ys)
 names-lengths [] [] h = absurd (h refl)
 names-lengths [] (y ∷ ys) h = refl
 names-lengths (x ∷ xs) [] h = refl
 names-lengths (x ∷ xs) (y ∷ ys) h =
-    and_false (bytes_eq x y) ∙ ap (λ b. bytes_eq x y && b) (names-lengths xs ys (λ e. h (ap suc e)))
+    false-and (bytes_eq x y) ∙ ap (λ b. bytes_eq x y && b) (names-lengths xs ys (λ e. h (ap suc e)))
 
 pub formulas-lengths :
     (fs gs : List FormulaTree)
@@ -78,5 +69,5 @@ formulas-lengths [] [] h = absurd (h refl)
 formulas-lengths [] (g ∷ gs) h = refl
 formulas-lengths (f ∷ fs) [] h = refl
 formulas-lengths (f ∷ fs) (g ∷ gs) h =
-    and_false (same_term (encoded f) (encoded g))
+    false-and (same_term (encoded f) (encoded g))
     ∙ ap (λ b. same_term (encoded f) (encoded g) && b) (formulas-lengths fs gs (λ e. h (ap suc e)))

@@ -1,6 +1,6 @@
 -- The check of a derivation, line by line.
 use Rattle.std.proofs.Common.{◌≡◌, inl, inr, ℕ, zero, suc, ◌+◌, ◌-◌, ◌<◌, ◌≤◌, Option, None, Some, Result, Ok, Err, List, [], ◌∷◌, ◌++◌, length, drop, refl, ap, sym, ◌∙◌, subst, arith}
-use Rattle.std.specs.Prelude.{IfOk, IfErr, IsErrAnd, IsTrue}
+use Rattle.std.specs.Prelude.{IfOk, IfErr, IsTrue}
 use Rattle.std.proofs.lemmas.List.{length-append, length-map, drop_all, length-drop}
 use Rattle.tptp_token.specs.Lexemes.{Lexeme, lexeme_at}
 use Rattle.tptp_token.specs.Lexing.{with_piece, piece_length, lexed_from, lexed_of}
@@ -253,8 +253,3 @@ pub accepted-proves :
     → IfOk result (λ a. IsAcceptedDerivation problem bytes a.lines) → IfOk result (λ a. IsTrue (are_closed problem) → ConjectureFollows problem)
 accepted-proves problem bytes (Ok a) h = λ closed. accepted_derivations_prove problem bytes a.lines closed h
 accepted-proves problem bytes (Err fault) h = tt
-
--- what a call passes on
-pub passed : {Y E : Type 0} (q : Result Y E) (fault : E) (P : E → Type 0) → IsErrAnd q (λ e. e ≡ fault) → P fault → IfErr q P
-passed (Ok y) fault P e h = tt
-passed (Err x) fault P e h = subst P (sym e) h

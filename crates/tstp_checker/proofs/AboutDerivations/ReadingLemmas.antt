@@ -1,6 +1,5 @@
 -- A line is read where one can be, and nowhere else.
-use Rattle.std.proofs.Common.{◌≡◌, ⊎_elim, ℕ, ◌+◌, ◌-◌, ◌<◌, ◌≤◌, Option, None, Some, List, [], ◌∷◌, ◌++◌, length, take, drop, ap, sym, ◌∙◌, subst, arith}
-use Rattle.std.specs.Prelude.{IfSome, IfNone}
+use Rattle.std.proofs.Common.{◌≡◌, ⊎_elim, ℕ, ◌+◌, ◌-◌, ◌<◌, ◌≤◌, List, [], ◌∷◌, ◌++◌, length, take, drop, ap, sym, ◌∙◌, subst, arith}
 use Rattle.std.proofs.Math.Seq.{take-append_seam}
 use Rattle.std.proofs.lemmas.List.{length-map, length-drop, take-map, drop-map, length-append}
 use Rattle.tptp_token.specs.Lexemes.{Lexeme, lexeme_at, lexemes_of}
@@ -32,12 +31,6 @@ use Rattle.tstp_checker.specs.Lines.{line_meant}
 use Rattle.tstp_checker.specs.Reading.{IsLineAt}
 
 -- ---- what is said of an option
-
-pub some-holds : {T : Type 0} (o : Option T) (t : T) (P : T → Type 0) → IfSome o P → o ≡ Some t → P t
-some-holds o t P h e = subst (λ x. IfSome x P) e h
-
-pub none-holds : {T : Type 0} (o : Option T) (P : Type 0) → IfNone o P → o ≡ None → P
-none-holds o P h e = subst (λ x. IfNone x P) e h
 
 -- ---- one line is one phrase
 

@@ -5,11 +5,9 @@ use Rattle.std.specs.List.{list_any, position_or_len}
 use Rattle.std.proofs.lemmas.Bool.{eqb-true, eq-eqb, false_from_ne_true}
 use Rattle.fol_base.specs.Clause.{TreeClause}
 use Rattle.fol_base.specs.Literal.{clause_of}
-use Rattle.signature.proofs.OccurrenceLemmas.{drop-item, drop-end}
 use Rattle.kernel_steps.specs.Parents.{all_there}
 use Rattle.kernel_steps.specs.Derivation.{is_component_of, component_clause}
 use Rattle.kernel_steps.specs.declared.step.Step.{Step}
-use Rattle.kernel_steps.specs.declared.step.Step.TheVariants as step
 use Rattle.kernel_steps.specs.declared.step.Line.{Line}
 use Rattle.clausal_form.specs.DerivationClause.{name_number}
 use Rattle.clausal_form.specs.DerivationLine.{NamedLine, kernel_lines}
@@ -17,7 +15,9 @@ use Rattle.clausal_form.specs.DerivationParts.{line_place}
 use Rattle.tstp_checker.specs.declared.taken.TakenLines.{TakenLines}
 use Rattle.tstp_checker.specs.Taken.{named_lines, taken_of, clause_at, IsKept, IsNext, introduced_by, components_with}
 use Rattle.tstp_lines.proofs.AboutItems.ItemLemmas.{joined}
-use Rattle.tstp_lines.proofs.AboutReadings.NumberLemmas.{append-more}
+use Rattle.list_lemmas.proofs.Lists.{length-pushed, push-joined}
+use Rattle.list_lemmas.proofs.Places.{get-last, drop-item, drop-all}
+use Rattle.kernel_steps.specs.declared.step.Step.TheVariants as step
 
 -- ---- lines with their names
 
@@ -84,7 +84,7 @@ walk-more {X = X} item ts i t x made new all h e o a w =
 
     by : (o : Option (List X)) → joined (made ++ x ∷ []) o ≡ joined made (option_map (λ ys. x ∷ ys) o)
     by None = refl
-    by (Some ys) = ap (λ zs. Some zs) (append-more made x ys)
+    by (Some ys) = ap (λ zs. Some zs) (push-joined made x ys)
 
 pub walk-none :
     {A X : Type 0} (item : A → Option X) (ts : List A) (i : ℕ) (t : A) (made : List X) (all : Option (List X))
@@ -97,7 +97,7 @@ pub walk-ends :
     {A X : Type 0} (item : A → Option X) (ts : List A) (i : ℕ) (made : List X) (all : Option (List X))
     → length ts ≤ i → joined made (all_there (map item (drop i ts))) ≡ all → Some made ≡ all
 walk-ends item ts i made all h w =
-    ap (λ ys. Some ys) (sym (append-nil made)) ∙ ap (λ us. joined made (all_there (map item us))) (sym (drop-end ts i h)) ∙ w
+    ap (λ ys. Some ys) (sym (append-nil made)) ∙ ap (λ us. joined made (all_there (map item us))) (sym (drop-all ts i h)) ∙ w
 
 -- ---- steps and clauses of lines
 
@@ -127,18 +127,10 @@ abbrev or_else : {X : Type 0} → Option X → Option X → Option X
 or_else None other = other
 or_else (Some x) other = Some x
 
-length-more : {X : Type 0} (xs : List X) (x : X) → length (xs ++ x ∷ []) ≡ length xs + 1
-length-more [] x = refl
-length-more (y ∷ ys) x = omega (arith, length-more ys x)
-
 slice-front : {X : Type 0} (xs ys : List X) (n : ℕ) → n < length xs → slice_get (xs ++ ys) n ≡ slice_get xs n
 slice-front [] ys n h = absurd (omega (arith, h))
 slice-front (x ∷ xs) ys zero h = refl
 slice-front (x ∷ xs) ys (suc n) h = slice-front xs ys n (omega (arith, h))
-
-slice-last : {X : Type 0} (xs : List X) (x : X) → slice_get (xs ++ x ∷ []) (length xs) ≡ Some x
-slice-last [] x = refl
-slice-last (y ∷ ys) x = slice-last ys x
 
 named-more :
     (ns : List (List ℕ)) (ls : List Line) (n : List ℕ) (l : Line)
@@ -228,7 +220,7 @@ component-of-more n m ls l table says within is next =
         let same : n ≡ length table = sym (eqb-true m n e) ∙ next in
         sym
         (ap (λ b. clause_at (ls ++ l ∷ []) (if b then Some (length ls) else None)) (eq-eqb n (length table) same)
-        ∙ ap (option_map (λ (k : Line). clause_of k.clause)) (slice-last ls l))
+        ∙ ap (option_map (λ (k : Line). clause_of k.clause)) (get-last ls l))
     last false e =
         sym
         (ap (λ b. clause_at (ls ++ l ∷ []) (if b then Some (length ls) else None))
@@ -243,18 +235,18 @@ component-of-more n m ls l table says within is next =
     by (Some p) e = some-clause ls p (if m == n then Some (clause_of l.clause) else None) (within n p e) ∙ sym (clause-stays ls l p (within n p e))
 
 within-more : (ls : List Line) (l : Line) (table : List ℕ) → Within ls table → Within (ls ++ l ∷ []) table
-within-more ls l table within n p e = omega (arith, within n p e, length-more ls l)
+within-more ls l table within n p e = omega (arith, within n p e, length-pushed ls l)
 
 within-component : (ls : List Line) (l : Line) (table : List ℕ) → Within ls table → Within (ls ++ l ∷ []) (table ++ length ls ∷ [])
 within-component ls l table within n p e = by (slice_get table n) refl (sym (slice-more table (length ls) n) ∙ e)
   where
     last : (b : Bool) → (if b then Some (length ls) else None) ≡ Some p → p < length (ls ++ l ∷ [])
-    last true h = let same : length ls ≡ p = cc in omega (arith, same, length-more ls l)
+    last true h = let same : length ls ≡ p = cc in omega (arith, same, length-pushed ls l)
     last false h = absurd (cc)
 
     by : (o : Option ℕ) → slice_get table n ≡ o → or_else o (if n == length table then Some (length ls) else None) ≡ Some p → p < length (ls ++ l ∷ [])
     by None f h = last (n == length table) h
-    by (Some q) f h = let same : q ≡ p = cc in omega (arith, same, within n q f, length-more ls l)
+    by (Some q) f h = let same : q ≡ p = cc in omega (arith, same, within n q f, length-pushed ls l)
 
 -- the table after a line more
 abbrev IsTable : List Line → List ℕ → Type 0
@@ -280,7 +272,7 @@ pub added-kept :
     → IsKept x → IsNext (length x.components) l.step → y.names ≡ x.names ++ name ∷ [] → y.lines ≡ x.lines ++ l ∷ []
     → y.components ≡ components_with (length x.lines) x.components l.step → IsKept y
 added-kept x y name l kept next names lines components = record {
-  named = omega (arith, ap length names, ap length lines, length-more x.names name, length-more x.lines l, kept.named);
+  named = omega (arith, ap length names, ap length lines, length-pushed x.names name, length-pushed x.lines l, kept.named);
   components = (subst (λ ls. IsTable ls y.components) (sym lines) (subst (IsTable (x.lines ++ l ∷ [])) (sym components) more)).0;
   within = (subst (λ ls. IsTable ls y.components) (sym lines) (subst (IsTable (x.lines ++ l ∷ [])) (sym components) more)).1;
 }
@@ -302,7 +294,7 @@ components-length place table (step.Para a b d f g i j k m) = omega arith
 components-length place table (step.Refl a b d) = omega arith
 components-length place table (step.Factor a b d f g i) = omega arith
 components-length place table (step.Merge a b d f) = omega arith
-components-length place table (step.Component m) = length-more table place
+components-length place table (step.Component m) = length-pushed table place
 components-length place table (step.Opposite a) = omega arith
 components-length place table (step.Split a b d) = omega arith
 components-length place table (step.Chain a b) = omega arith

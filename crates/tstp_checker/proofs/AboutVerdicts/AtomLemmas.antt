@@ -1,6 +1,6 @@
 -- Ground literals by the bound of their variables, and names that are one alone.
-use Rattle.std.proofs.Common.{◌≡◌, ℕ, zero, suc, ◌<◌, ◌≤◌, max, Bool, true, false, ◌&&◌, ◌==◌, List, [], ◌∷◌, ◌++◌, length, refl, ap, ap₂, sym, ◌∙◌, arith}
-use Rattle.std.proofs.lemmas.Bool.{eq-eqb, eqb-true}
+use Rattle.std.proofs.Common.{◌≡◌, ℕ, zero, suc, ◌≤◌, max, false, ◌&&◌, ◌==◌, List, [], ◌∷◌, ◌++◌, length, refl, ap, ap₂, sym, ◌∙◌, arith}
+use Rattle.std.proofs.lemmas.Bool.{eq-eqb}
 use Rattle.plain_types.specs.declared.sequence.NameLit.{NameLit}
 use Rattle.plain_types.specs.Names.{same_name}
 use Rattle.fol_base.specs.Tree.{Tree, variable, application, Trees, no_trees, tree_then, tree_variables, trees_variables}
@@ -8,15 +8,10 @@ use Rattle.fol_base.specs.Clause.{TreeLiteral, names_eq, literal_variables}
 use Rattle.fol_base.specs.Canonical.{bound_of}
 use Rattle.fol_base.specs.Ground.{is_ground, are_ground, is_ground_literal}
 use Rattle.fol_base.proofs.AboutTerms.VariableLemmas.{bound_of-append}
+use Rattle.list_lemmas.proofs.Numbers.{not-zero}
+use Rattle.list_lemmas.proofs.Bools.{false-and}
 
 -- ---- a literal is ground where no number bounds its variables but 0
-
-not-zero : (n : ℕ) → 0 < n → (n == 0) ≡ false
-not-zero n h = by (n == 0) refl
-  where
-    by : (b : Bool) → (n == 0) ≡ b → b ≡ false
-    by false e = refl
-    by true e = absurd (let same = eqb-true n 0 e in let none : ⊥ = omega (arith, same, h) in none)
 
 max-zero : (a b : ℕ) → (max a b == 0) ≡ ((a == 0) && (b == 0))
 max-zero zero b = ap (λ n. n == 0) (let e : max zero b ≡ b = omega arith in e) ∙ sym (ap (λ x. x && (b == 0)) (eq-eqb 0 0 refl))
@@ -40,11 +35,7 @@ literal-ground l =
 
 -- ---- lists against one alone
 
-never-both : (b : Bool) → false ≡ (b && false)
-never-both true = refl
-never-both false = refl
-
 pub names-many : (ns : List NameLit) (n : NameLit) → 2 ≤ length ns → false ≡ names_eq ns (n ∷ [])
 names-many [] n h = absurd (let none : ⊥ = omega (arith, h) in none)
 names-many (a ∷ []) n h = absurd (let none : ⊥ = omega (arith, h) in none)
-names-many (a ∷ b ∷ ns) n h = never-both (same_name a n)
+names-many (a ∷ b ∷ ns) n h = false-and (same_name a n)

@@ -3,7 +3,6 @@ use Rattle.std.proofs.Common.{◌≡◌, ℕ, zero, suc, ◌+◌, ◌<◌, ◌�
 use Rattle.std.specs.Prelude.{option_map, option_and_then, unwrap_or, slice_get, if◌then◌else◌}
 use Rattle.std.proofs.lemmas.Bool.{eqb-true, eq-eqb, true≢false, false_from_ne_true}
 use Rattle.std.proofs.lemmas.Option.{slice_get-map, none-some}
-use Rattle.signature.proofs.OccurrenceLemmas.{drop-item, drop-end}
 use Rattle.tptp_tree.specs.declared.problem.Annotated.{Annotated}
 use Rattle.clausal_form.specs.DerivationLine.{same_entry}
 use Rattle.tptp_tree.specs.Shape.{entry_of}
@@ -11,8 +10,9 @@ use Rattle.tstp_checker.specs.Classes.{class_of, same_at, same_place, AreClasses
 use Rattle.tstp_checker.specs.declared.classes.Classes.{Classes}
 use Rattle.tstp_checker.specs.Inputs.{first_from}
 use Rattle.tstp_checker.proofs.AboutVerdicts.InputLemmas.{whole-search, matches}
-use Rattle.tstp_lines.proofs.AboutReadings.NumberLemmas.{append-more}
 use Rattle.tstp_checker.specs.EntryLaws.{same_entry-refl, same_entry-like}
+use Rattle.list_lemmas.proofs.Places.{drop-item, drop-all}
+use Rattle.list_lemmas.proofs.Lists.{push-joined}
 
 -- ---- a list made of another, one after another
 
@@ -28,13 +28,13 @@ pub map-more :
     → i < length xs → x ≡ get_or xs i x → y ≡ f x → new ≡ made ++ y ∷ []
     → made ++ map f (drop i xs) ≡ map f xs → new ++ map f (drop (i + 1) xs) ≡ map f xs
 map-more f xs i x y made new h e o a w =
-    ap (λ ys. ys ++ map f (drop (i + 1) xs)) a ∙ append-more made y (map f (drop (i + 1) xs))
+    ap (λ ys. ys ++ map f (drop (i + 1) xs)) a ∙ push-joined made y (map f (drop (i + 1) xs))
     ∙ ap (λ z. made ++ z ∷ map f (drop (i + 1) xs)) o ∙ ap (λ us. made ++ map f us) (sym (drop-item xs i x h e)) ∙ w
 
 pub map-ends :
     {A B : Type 0} (f : A → B) (xs : List A) (i : ℕ) (made : List B)
     → length xs ≤ i → made ++ map f (drop i xs) ≡ map f xs → made ≡ map f xs
-map-ends f xs i made h w = sym (append-nil made) ∙ ap (λ us. made ++ map f us) (sym (drop-end xs i h)) ∙ w
+map-ends f xs i made h w = sym (append-nil made) ∙ ap (λ us. made ++ map f us) (sym (drop-all xs i h)) ∙ w
 
 -- ---- searches by two tests
 

@@ -1,5 +1,4 @@
 -- The verdict on lines of clauses that come from the form or introduce a name.
-use mathlib.Core.Bool.{beq}
 use Rattle.std.proofs.Common.{◌≡◌, ℕ, Bool, true, false, not, ◌&&◌, ◌||◌, List, [], ◌∷◌, Option, Some, None, refl, ap, ap₂, sym, ◌∙◌, subst}
 use Rattle.std.specs.Prelude.{option_map, option_and_then, unwrap_or, codes, Result, if◌then◌else◌}
 use Rattle.std.proofs.lemmas.Bool.{eq-eqb}
@@ -11,7 +10,6 @@ use Rattle.fol_base.specs.Literal.{clause_of}
 use Rattle.tptp_source.specs.General.{GeneralTree}
 use Rattle.kernel_steps.specs.Derivation.{component_clause}
 use Rattle.kernel_steps.specs.declared.step.Step.{Step}
-use Rattle.kernel_steps.specs.declared.step.Step.TheVariants as step
 use Rattle.kernel_steps.specs.declared.step.Line.{Line}
 use Rattle.clausal_form.specs.DerivationClause.{is_written_clause, name_number}
 use Rattle.clausal_form.specs.DerivationItems.{only_one, row_arguments}
@@ -25,6 +23,8 @@ use Rattle.tstp_lines.specs.declared.parts.LineParts.{LineParts}
 use Rattle.tstp_checker.specs.declared.refusal.Refusal.{Refusal}
 use Rattle.tstp_checker.specs.ClauseLines.{comes_from, is_form_clause, ground_atom, atom_named, opposite_clause}
 use Rattle.tstp_checker.specs.Verdicts.{IsVerdict, with_names_asked, IsClauseLine}
+use Rattle.list_lemmas.proofs.Bools.{or-false, beq-self}
+use Rattle.kernel_steps.specs.declared.step.Step.TheVariants as step
 
 -- ---- equal clauses
 
@@ -37,26 +37,18 @@ mutual
   trees-refl no_trees = refl
   trees-refl (tree_then t ts) = ap₂ ◌&&◌ (tree-refl t) (trees-refl ts)
 
-beq-refl : (b : Bool) → beq b b ≡ true
-beq-refl true = refl
-beq-refl false = refl
-
 literals-refl : (ls : List TreeLiteral) → literals_eq ls ls ≡ true
 literals-refl [] = refl
-literals-refl (l ∷ ls) = ap₂ ◌&&◌ (ap₂ ◌&&◌ (ap₂ ◌&&◌ (beq-refl l.positive) (tree-refl l.left)) (tree-refl l.right)) (literals-refl ls)
+literals-refl (l ∷ ls) = ap₂ ◌&&◌ (ap₂ ◌&&◌ (ap₂ ◌&&◌ (beq-self l.positive) (tree-refl l.left)) (tree-refl l.right)) (literals-refl ls)
 
 names-refl : (ns : List NameLit) → names_eq ns ns ≡ true
 names-refl [] = refl
-names-refl (n ∷ ns) = ap₂ ◌&&◌ (ap₂ ◌&&◌ (beq-refl n.positive) (eq-eqb n.name n.name refl)) (names-refl ns)
+names-refl (n ∷ ns) = ap₂ ◌&&◌ (ap₂ ◌&&◌ (beq-self n.positive) (eq-eqb n.name n.name refl)) (names-refl ns)
 
 pub clause_eq-refl : (c : TreeClause) → clause_eq c c ≡ true
 clause_eq-refl c = ap₂ ◌&&◌ (literals-refl c.literals) (names-refl c.names)
 
 -- ---- what is asked first
-
-or-false : (b : Bool) → (b || false) ≡ b
-or-false true = refl
-or-false false = refl
 
 pub clause-asked :
     (s : Setting) (e : Taken) (t : LineTree)

@@ -3,7 +3,6 @@ use Rattle.std.proofs.Common.{◌≡◌, ℕ, suc, ◌+◌, ◌<◌, Bool, true,
 use Rattle.std.specs.Prelude.{Option, None, Some, position, nat_lt, if◌then◌else◌}
 use Rattle.std.specs.List.{position_or_len}
 use Rattle.std.proofs.lemmas.Bool.{ltb-true, ltb-false, lt-ltb, le-ltb}
-use Rattle.signature.proofs.OccurrenceLemmas.{drop-item}
 use Rattle.tptp_tree.specs.Entries.{AnnotatedTree}
 use Rattle.tptp_tree.specs.declared.problem.Annotated.{Annotated}
 use Rattle.clausal_form.specs.DerivationLine.{same_entry}
@@ -12,6 +11,7 @@ use Rattle.tstp_checker.specs.Entries.{entry_meant, same_meant}
 use Rattle.tstp_checker.specs.EntryLaws.{same_entry-symm}
 use Rattle.tstp_checker.specs.Inputs.{first_from, says}
 use Rattle.tstp_checker.specs.declared.entries.Entry.{Entry}
+use Rattle.list_lemmas.proofs.Places.{drop-item}
 
 -- ---- the table
 

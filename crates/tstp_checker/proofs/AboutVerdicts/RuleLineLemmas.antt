@@ -4,7 +4,6 @@ use Rattle.std.specs.Prelude.{option_map, unwrap_or, zip, Err, if◌then◌else�
 use Rattle.std.specs.List.{list_all}
 use Rattle.fol_base.specs.Tree.{Tree}
 use Rattle.tptp_source.specs.General.{GeneralTree}
-use Rattle.signature.proofs.OccurrenceLemmas.{drop-item, drop-end}
 use Rattle.kernel_steps.specs.Conclusion.{verdict}
 use Rattle.kernel_steps.specs.declared.step.Step.{Step}
 use Rattle.clausal_form.specs.DerivationSteps.{LineKind, bindings_count, rule_step}
@@ -16,6 +15,7 @@ use Rattle.tstp_checker.specs.declared.refusal.Refusal.{Refusal}
 use Rattle.tstp_checker.specs.declared.refusal.Refusal.TheVariants.{Cause, NoMemory}
 use Rattle.tstp_checker.specs.Causes.{cause_meant}
 use Rattle.tstp_checker.specs.Verdicts.{IsVerdict, IsClauseLine, IsConcluded}
+use Rattle.list_lemmas.proofs.Places.{drop-item, drop-all}
 
 -- ---- bindings, one after another
 
@@ -53,7 +53,7 @@ bound-none f bs i b left all h e l w =
 pub bound-ends :
     (f : Bound → Bool) (bs : List (Option (List Tree))) (i : ℕ) (left : List ℕ) (all : Bool)
     → length bs ≤ i → bound_left f bs i left ≡ all → true ≡ all
-bound-ends f bs i left all h w = ap (λ xs. list_all f (zip xs left)) (sym (drop-end bs i h)) ∙ w
+bound-ends f bs i left all h w = ap (λ xs. list_all f (zip xs left)) (sym (drop-all bs i h)) ∙ w
 
 -- ---- the verdict
 

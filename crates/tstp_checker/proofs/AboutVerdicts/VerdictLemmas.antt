@@ -13,11 +13,9 @@ use Rattle.signature.specs.declared.symbol.Symbol.{Symbol}
 use Rattle.signature.specs.Symbol.{predicate_symbol, has_symbol}
 use Rattle.kernel_steps.specs.Derivation.{is_component}
 use Rattle.kernel_steps.specs.declared.step.Step.{Step}
-use Rattle.kernel_steps.specs.declared.step.Step.TheVariants as step
 use Rattle.kernel_steps.specs.declared.step.Line.{Line}
 use Rattle.clausal_form.specs.DerivationClause.{is_written_clause, ordinary_literals, symbols_in, Numbering, numbering, term_by, clause_by}
 use Rattle.clausal_form.specs.DerivationItems.{bindings_in}
-use Rattle.clausal_form.specs.DerivationSteps as kind
 use Rattle.clausal_form.specs.DerivationSteps.{LineKind, rule_kind, kind_of, bindings_count}
 use Rattle.clausal_form.specs.DerivationLine.{LineTree, Taken, names_with}
 use Rattle.clausal_form.specs.DerivationParts.{Setting, line_kind, items_of, bound_terms, line_names}
@@ -25,7 +23,6 @@ use Rattle.clausal_form.specs.DerivationCauses.{text, given_by, given_by_rule, i
 use Rattle.tstp_lines.specs.declared.parts.LineParts.{LineParts}
 use Rattle.tstp_lines.specs.declared.numbers.LineNumbers.{LineNumbers}
 use Rattle.tstp_lines.specs.declared.steps.Kind.{Kind}
-use Rattle.tstp_lines.specs.declared.steps.Kind.TheVariants as told
 use Rattle.tstp_checker.specs.declared.refusal.Refusal.{Refusal}
 use Rattle.tstp_checker.specs.declared.refusal.Refusal.TheVariants.{Cause, NoMemory}
 use Rattle.tstp_lines.specs.Bindings.{all_bound}
@@ -36,8 +33,12 @@ use Rattle.tstp_lines.specs.Steps.{kind_meant}
 use Rattle.tstp_lines.specs.Tables.{with_name, place_of_name}
 use Rattle.tstp_checker.specs.Taken.{IsNext, introduced_by}
 use Rattle.tstp_checker.specs.Verdicts.{IsVerdict, IfAnswered, with_names_asked, AreParents, ArePartsOf, IsComponentLine}
-use Rattle.tstp_lines.proofs.AboutReadings.TableLemmas.{absent-place, last-place}
+use Rattle.tstp_lines.proofs.AboutReadings.TableLemmas.{last-place}
 use Rattle.tstp_checker.proofs.AboutVerdicts.ClauseLineLemmas.{clause-asked, verdict-as}
+use Rattle.list_lemmas.proofs.Tests.{position-past}
+use Rattle.kernel_steps.specs.declared.step.Step.TheVariants as step
+use Rattle.clausal_form.specs.DerivationSteps as kind
+use Rattle.tstp_lines.specs.declared.steps.Kind.TheVariants as told
 
 -- ---- answers
 
@@ -334,7 +335,7 @@ place-before names name = by (list_any (bytes_eq name) names) refl
         (b : Bool) → list_any (bytes_eq name) names ≡ b
         → position_or_len (bytes_eq name) (if b then names else names ++ name ∷ []) ≡ position_or_len (bytes_eq name) names
     by true h = refl
-    by false h = last-place (bytes_eq name) name names (nat_list_eq_equiv.refl name) h ∙ sym (absent-place (bytes_eq name) names h)
+    by false h = last-place (bytes_eq name) name names (nat_list_eq_equiv.refl name) h ∙ sym (position-past (bytes_eq name) names h)
 
 pub old-so :
     (s : Setting) (e : Taken) (name : List ℕ) (found predicate : Bool)
@@ -352,7 +353,7 @@ old-so s e name found predicate f p = ap₂ ◌||◌ (sym p) (sym f) ∙ either 
 pub new-number :
     (names : List (List ℕ)) (name : List ℕ) (number : ℕ)
     → list_any (bytes_eq name) names ≡ false → number ≡ place_of_name (with_name names name) name → number ≡ length names
-new-number names name number h e = e ∙ place-before names name ∙ absent-place (bytes_eq name) names h
+new-number names name number h e = e ∙ place-before names name ∙ position-past (bytes_eq name) names h
 
 pub fresh-name :
     (names : List (List ℕ)) (name : List ℕ) (is_new is_old predicate : Bool)

@@ -8,16 +8,16 @@ use Rattle.tptp_source.specs.TermSources.{items_in}
 use Rattle.std.specs.Borrow.{Bor}
 use Rattle.std.proofs.lemmas.Bool.{eqb-true}
 use Rattle.std.specs.List.{list_any}
-use Rattle.signature.proofs.OccurrenceLemmas.{drop-item, drop-end}
 use Rattle.tptp_source.specs.General.{GeneralTree, word, listed, trees_of}
 use Rattle.tptp_source.specs.Shape.{tree_of}
 use Rattle.tptp_source.specs.declared.term.GeneralTerm.{GeneralTerm}
 use Rattle.clausal_form.specs.DerivationItems.{arguments, has_word, plain_word, is_plain, is_one_word, have_words, items_with, row_arguments, list_in, numbers_in}
 use Rattle.tstp_lines.specs.Items.{item_word, terms_lent}
 use Rattle.tstp_lines.specs.declared.items.ItemWord.{ItemWord}
-use Rattle.tstp_lines.proofs.AboutReadings.NumberLemmas.{append-more}
 use Rattle.tstp_lines.proofs.AboutReadings.BindingLemmas.{listed-generals}
 use Rattle.tstp_lines.proofs.AboutReadings.TableLemmas.{map-appended}
+use Rattle.list_lemmas.proofs.Places.{drop-item, drop-all}
+use Rattle.list_lemmas.proofs.Lists.{push-joined}
 
 -- ---- items of a row, from one on
 
@@ -33,7 +33,7 @@ row-then words ts i t b h e o =
     ∙ ap (λ x. cond x (tree_of t ∷ row_left words ts (i + 1)) (row_left words ts (i + 1))) (sym o)
 
 pub row-end : (words : List (List ℕ)) (ts : List GeneralTerm) (i : ℕ) → length ts ≤ i → row_left words ts i ≡ []
-row-end words ts i h = ap (λ us. items_with words (map tree_of us)) (drop-end ts i h)
+row-end words ts i h = ap (λ us. items_with words (map tree_of us)) (drop-all ts i h)
 
 -- ---- whether they have just the words
 
@@ -82,7 +82,7 @@ pub argument-added :
 argument-added words ts i t made new x all h e o f a w =
     ap (λ ys. map terms_lent ys ++ map arguments (row_left words ts (i + 1))) a
     ∙ ap (λ zs. zs ++ map arguments (row_left words ts (i + 1))) (map-appended terms_lent made (x ∷ []))
-    ∙ append-more (map terms_lent made) (terms_lent x) (map arguments (row_left words ts (i + 1)))
+    ∙ push-joined (map terms_lent made) (terms_lent x) (map arguments (row_left words ts (i + 1)))
     ∙ ap (λ z. map terms_lent made ++ z ∷ map arguments (row_left words ts (i + 1))) f
     ∙ ap (λ us. map terms_lent made ++ map arguments us) (sym (row-then words ts i t true h e o)) ∙ w
 
@@ -209,7 +209,7 @@ all-more {X = X} item ts i t x made new all h e o a w =
   where
     by : (o : Option (List X)) → joined (made ++ x ∷ []) o ≡ joined made (option_map (λ ys. x ∷ ys) o)
     by None = refl
-    by (Some ys) = ap (λ zs. Some zs) (append-more made x ys)
+    by (Some ys) = ap (λ zs. Some zs) (push-joined made x ys)
 
 pub all-none :
     {X : Type 0} (item : GeneralTree → Option X) (ts : List GeneralTerm) (i : ℕ) (t : GeneralTerm) (made : List X) (all : Option (List X))
@@ -222,7 +222,7 @@ pub all-end :
     {X : Type 0} (item : GeneralTree → Option X) (ts : List GeneralTerm) (i : ℕ) (made : List X) (all : Option (List X))
     → length ts ≤ i → joined made (all_left item ts i) ≡ all → Some made ≡ all
 all-end item ts i made all h w =
-    ap (λ ys. Some ys) (sym (append-nil made)) ∙ ap (λ us. joined made (all_there (map item (map tree_of us)))) (sym (drop-end ts i h)) ∙ w
+    ap (λ ys. Some ys) (sym (append-nil made)) ∙ ap (λ us. joined made (all_there (map item (map tree_of us)))) (sym (drop-all ts i h)) ∙ w
 
 all-begin : {X : Type 0} (o : Option (List X)) → joined [] o ≡ o
 all-begin None = refl

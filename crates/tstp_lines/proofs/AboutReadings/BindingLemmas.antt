@@ -15,7 +15,6 @@ use Rattle.signature.specs.declared.symbol.SymbolKind.TheVariants.{Function}
 use Rattle.signature.specs.Symbol.{number_of}
 use Rattle.signature.specs.Occurrences.{terms_count, term_symbols, terms_symbols}
 use Rattle.signature.specs.Environment.{term_names, terms_names, terms_under}
-use Rattle.signature.proofs.OccurrenceLemmas.{drop-item, drop-end}
 use Rattle.clausal_form.specs.DerivationClause.{numbered_from, term_by}
 use Rattle.clausal_form.specs.DerivationItems.{arguments, has_word, items_with, only_one, list_in}
 use Rattle.tptp_source.specs.Items.{term_in, term_before, terms_in}
@@ -23,9 +22,10 @@ use Rattle.tstp_lines.specs.declared.numbers.LineNumbers.{LineNumbers}
 use Rattle.tstp_lines.specs.Tables.{with_name, place_of_name}
 use Rattle.tstp_lines.specs.Numbers.{symbol_for, Meets, numbering_of}
 use Rattle.tstp_lines.specs.Bindings.{is_term, are_terms, as_term, as_terms, symbols_of, names_of, by_numbers, IsGeneralTerm, AreGeneralTerms, list_at, list_of_item, binding_in, symbols_of_item, names_of_item, binding_by, symbols_bound, names_bound, AreBindings, IsBinding}
-use Rattle.tstp_lines.proofs.AboutReadings.TableLemmas.{length-mapped}
 use Rattle.tstp_lines.proofs.AboutReadings.NumberLemmas.{meets-nothing, meets-then, head-tree, variable-tree}
 use Rattle.tstp_lines.proofs.AboutReadings.WalkLemmas.{Walks, walks-begin, walks-go, walks-met, walks-made}
+use Rattle.list_lemmas.proofs.Lists.{length-mapped}
+use Rattle.list_lemmas.proofs.Places.{drop-item, drop-all}
 
 -- ---- sizes
 
@@ -278,12 +278,12 @@ generals-go first now next ts i t made new u h e met value n walk =
 pub generals-met :
     (first now : LineNumbers) (ts : List GeneralTerm) (i : ℕ) (made : List Tree)
     → length ts ≤ i → GeneralWalk first now ts i made → Meets first now (flat_map symbols_of (map general_of ts)) (flat_map names_of (map general_of ts))
-generals-met first now ts i made h walk = walks-met _ _ _ _ _ _ _ _ (ap (map general_of) (drop-end ts i h)) walk.walk
+generals-met first now ts i made h walk = walks-met _ _ _ _ _ _ _ _ (ap (map general_of) (drop-all ts i h)) walk.walk
 
 pub generals-made :
     (first now : LineNumbers) (ts : List GeneralTerm) (i : ℕ) (made : List Tree)
     → length ts ≤ i → GeneralWalk first now ts i made → AreGeneralTerms now (map general_of ts) made
-generals-made first now ts i made h walk = walks-made _ _ _ _ _ _ _ _ (ap (map general_of) (drop-end ts i h)) walk.walk
+generals-made first now ts i made h walk = walks-made _ _ _ _ _ _ _ _ (ap (map general_of) (drop-all ts i h)) walk.walk
 
 -- ---- a walk over items
 
@@ -320,11 +320,11 @@ pub binds-met :
 binds-met first now ts i made h walk =
     subst (λ ss. Meets first now ss (names_bound (map general_of ts))) (flat-twice term_symbols binding_in (binds_left ts 0))
     (subst (λ xs. Meets first now (flat_map symbols_of_item (binds_left ts 0)) xs) (flat-twice term_names binding_in (binds_left ts 0))
-    (walks-met _ _ _ _ _ _ _ _ (ap (λ us. items_with (codes "bind" ∷ []) (map general_of us)) (drop-end ts i h)) walk))
+    (walks-met _ _ _ _ _ _ _ _ (ap (λ us. items_with (codes "bind" ∷ []) (map general_of us)) (drop-all ts i h)) walk))
 
 pub binds-made :
     (first now : LineNumbers) (ts : List GeneralTerm) (i : ℕ) (made : List (Option (List Tree)))
     → length ts ≤ i → BindWalk first now ts i made → AreBindings now (map general_of ts) made
 binds-made first now ts i made h walk m g =
-    walks-made _ _ _ _ _ _ _ _ (ap (λ us. items_with (codes "bind" ∷ []) (map general_of us)) (drop-end ts i h)) walk m g
+    walks-made _ _ _ _ _ _ _ _ (ap (λ us. items_with (codes "bind" ∷ []) (map general_of us)) (drop-all ts i h)) walk m g
     ∙ map-twice (option_map (map (term_by (numbering_of m)))) binding_in (binds_left ts 0)

@@ -16,14 +16,15 @@ use Rattle.signature.specs.declared.symbol.SymbolKind.TheVariants.{Predicate}
 use Rattle.signature.specs.Symbol.{number_of}
 use Rattle.signature.specs.Occurrences.{term_symbols, terms_symbols, formula_symbols}
 use Rattle.signature.specs.Environment.{term_names, terms_names, free_names}
-use Rattle.signature.proofs.OccurrenceLemmas.{drop-item, drop-end}
 use Rattle.clausal_form.specs.DerivationClause.{literal_name, is_literal, literal_by}
 use Rattle.tstp_lines.specs.declared.numbers.LineNumbers.{LineNumbers}
 use Rattle.tstp_lines.specs.Numbers.{symbol_for, Meets, IsTerm, AreTerms, numbering_of}
 use Rattle.tstp_lines.specs.LineClause.{IsAtom, IsLiteral, AreLiterals, ordinary}
 use Rattle.tstp_lines.proofs.AboutReadings.TableLemmas.{map-appended}
-use Rattle.tstp_lines.proofs.AboutReadings.NumberLemmas.{goes-after, applied-tree, append-more}
+use Rattle.tstp_lines.proofs.AboutReadings.NumberLemmas.{goes-after, applied-tree}
 use Rattle.tstp_lines.proofs.AboutReadings.WalkLemmas.{Walks, walks-begin, walks-skip, walks-go, walks-met, walks-made}
+use Rattle.list_lemmas.proofs.Places.{drop-item, drop-all}
+use Rattle.list_lemmas.proofs.Lists.{push-joined}
 
 abbrev literal-with : Bool → Tree → Tree → TreeLiteral
 literal-with p a c = record { positive = p; left = a; right = c }
@@ -65,7 +66,7 @@ pub name-added :
     → made ++ names_left names fs i ≡ all → new ++ names_left names fs (i + 1) ≡ all
 name-added names fs i f made new all n h e o a w =
     ap (λ ns. ns ++ names_left names fs (i + 1)) a
-    ∙ append-more made n (names_left names fs (i + 1))
+    ∙ push-joined made n (names_left names fs (i + 1))
     ∙ ap (λ x. made ++ cons_option x (names_left names fs (i + 1))) o
     ∙ ap (λ ns. made ++ ns) (sym (names-then names fs i f h e)) ∙ w
 
@@ -78,7 +79,7 @@ no-name-added names fs i f made all h e o w =
 
 pub names-done : (names : List (List ℕ)) (fs : List Formula) (i : ℕ) (made all : List NameLit) → length fs ≤ i → made ++ names_left names fs i ≡ all → made ≡ all
 names-done names fs i made all h w =
-    sym (append-nil made) ∙ ap (λ gs. made ++ filter_map (literal_name names) (map formula_of gs)) (sym (drop-end fs i h)) ∙ w
+    sym (append-nil made) ∙ ap (λ gs. made ++ filter_map (literal_name names) (map formula_of gs)) (sym (drop-all fs i h)) ∙ w
 
 -- ---- the ordinary literals
 
@@ -150,10 +151,10 @@ pub literals-met :
     → length fs ≤ i → LiteralWalk names first now fs i made
     → Meets first now (flat_map formula_symbols (ordinary names (map formula_of fs))) (flat_map free_names (ordinary names (map formula_of fs)))
 literals-met names first now fs i made h walk =
-    walks-met _ _ _ _ _ _ _ _ (ap (λ gs. ordinary names (map formula_of gs)) (drop-end fs i h)) walk.walk
+    walks-met _ _ _ _ _ _ _ _ (ap (λ gs. ordinary names (map formula_of gs)) (drop-all fs i h)) walk.walk
 
 pub literals-made :
     (names : List (List ℕ)) (first now : LineNumbers) (fs : List Formula) (i : ℕ) (made : List TreeLiteral)
     → length fs ≤ i → LiteralWalk names first now fs i made → AreLiterals now (ordinary names (map formula_of fs)) made
 literals-made names first now fs i made h walk =
-    walks-made _ _ _ _ _ _ _ _ (ap (λ gs. ordinary names (map formula_of gs)) (drop-end fs i h)) walk.walk
+    walks-made _ _ _ _ _ _ _ _ (ap (λ gs. ordinary names (map formula_of gs)) (drop-all fs i h)) walk.walk

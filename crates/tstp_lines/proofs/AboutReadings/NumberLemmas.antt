@@ -15,12 +15,15 @@ use Rattle.signature.specs.Symbol.{same_symbol, has_symbol, with_symbol, number_
 use Rattle.signature.specs.SymbolLaws.{same_symbols}
 use Rattle.signature.specs.Occurrences.{terms_count, term_symbols, terms_symbols}
 use Rattle.signature.specs.Environment.{term_names, terms_names, term_in_force, terms_under}
-use Rattle.signature.proofs.OccurrenceLemmas.{drop-item, drop-end, count_length}
+use Rattle.signature.proofs.OccurrenceLemmas.{count_length}
 use Rattle.clausal_form.specs.DerivationClause.{numbered_from}
 use Rattle.tstp_lines.specs.declared.numbers.LineNumbers.{LineNumbers}
 use Rattle.tstp_lines.specs.Tables.{with_name, place_of_name}
 use Rattle.tstp_lines.specs.Numbers.{symbol_for, Meets, GoesOn, IsTerm, AreTerms}
 use Rattle.tstp_lines.proofs.AboutReadings.TableLemmas.{place-stays, any-stays, any-met}
+use Rattle.list_lemmas.proofs.Places.{drop-item, drop-all}
+use Rattle.list_lemmas.proofs.Lists.{push-joined}
+use Rattle.fol_base.proofs.AboutTerms.TreeLemmas.{trees_of-list_of}
 
 pub fold-appended : {X Y : Type 0} (f : Y → X → Y) (y : Y) (xs zs : List X) → fold f y (xs ++ zs) ≡ fold f (fold f y xs) zs
 fold-appended f y [] zs = refl
@@ -165,10 +168,6 @@ variable-term known names t x name number n e same met p v =
 
 -- ---- a walk over terms
 
-listed : (ts : Trees) → trees_of (list_of ts) ≡ ts
-listed no_trees = refl
-listed (tree_then t ts) = ap (tree_then t) (listed ts)
-
 abbrev pub terms_left : LineNumbers → List TreeTerm → ℕ → List Tree
 terms_left n ts i = list_of (terms_under n.symbols (numbered_from 0 n.variables) (terms_of (map term_of (drop i ts))))
 
@@ -186,11 +185,7 @@ pub record Walk (first now : LineNumbers) (ts : List TreeTerm) (i : ℕ) (made :
 
 pub walk-begins : (n : LineNumbers) (ts : List TreeTerm) (made : List Tree) → made ≡ [] → Walk n n ts 0 made
 walk-begins n ts made e =
-    record { symbols = refl; variables = refl; trees = λ m g. ap (λ us. trees_of (us ++ terms_left m ts 0)) e ∙ listed _ }
-
-pub append-more : {X : Type 0} (xs : List X) (y : X) (ys : List X) → (xs ++ y ∷ []) ++ ys ≡ xs ++ y ∷ ys
-append-more [] y ys = refl
-append-more (x ∷ xs) y ys = ap (λ zs. x ∷ zs) (append-more xs y ys)
+    record { symbols = refl; variables = refl; trees = λ m g. ap (λ us. trees_of (us ++ terms_left m ts 0)) e ∙ trees_of-list_of _ }
 
 pub walk-goes :
     (first now next : LineNumbers) (ts : List TreeTerm) (i : ℕ) (made new : List Tree) (t : TreeTerm) (u : Tree)
@@ -208,7 +203,7 @@ walk-goes first now next ts i made new t u h e met tree n walk =
           ∙ ap (λ us. fold with_name now.variables (terms_names (terms_of (map term_of us)))) (sym (drop-item ts i t h e)) ∙ walk.variables;
       trees = λ m g.
           ap (λ us. trees_of (us ++ terms_left m ts (i + 1))) n
-          ∙ ap trees_of (append-more made u (terms_left m ts (i + 1)))
+          ∙ ap trees_of (push-joined made u (terms_left m ts (i + 1)))
           ∙ ap (λ x. trees_of (made ++ x ∷ terms_left m ts (i + 1))) (tree m g)
           ∙ ap (λ us. trees_of (made ++ list_of (terms_under m.symbols (numbered_from 0 m.variables) (terms_of (map term_of us)))))
           (sym (drop-item ts i t h e))
@@ -224,9 +219,9 @@ pub walk-met :
 walk-met first now ts i made h walk =
     record {
       symbols =
-          ap (λ us. fold with_symbol now.symbols (terms_symbols (terms_of (map term_of us)))) (sym (drop-end ts i h)) ∙ walk.symbols;
+          ap (λ us. fold with_symbol now.symbols (terms_symbols (terms_of (map term_of us)))) (sym (drop-all ts i h)) ∙ walk.symbols;
       variables =
-          ap (λ us. fold with_name now.variables (terms_names (terms_of (map term_of us)))) (sym (drop-end ts i h)) ∙ walk.variables;
+          ap (λ us. fold with_name now.variables (terms_names (terms_of (map term_of us)))) (sym (drop-all ts i h)) ∙ walk.variables;
     }
 
 pub walk-trees :
@@ -235,5 +230,5 @@ pub walk-trees :
 walk-trees first now ts i made h walk m g =
     ap trees_of
     (sym (append-nil made)
-    ∙ ap (λ us. made ++ list_of (terms_under m.symbols (numbered_from 0 m.variables) (terms_of (map term_of us)))) (sym (drop-end ts i h)))
+    ∙ ap (λ us. made ++ list_of (terms_under m.symbols (numbered_from 0 m.variables) (terms_of (map term_of us)))) (sym (drop-all ts i h)))
     ∙ walk.trees m g

@@ -1,5 +1,5 @@
 -- The numbers of a whole line, by the definition of its numbering.
-use Rattle.std.proofs.Common.{◌≡◌, ℕ, ◌+◌, ◌≤◌, Bool, true, false, not, ◌&&◌, ◌||◌, List, [], ◌∷◌, ◌++◌, length, map, take, fold, cond, refl, ap, sym, ◌∙◌, append-nil, arith}
+use Rattle.std.proofs.Common.{◌≡◌, ℕ, ◌≤◌, Bool, true, false, not, ◌&&◌, ◌||◌, List, [], ◌∷◌, ◌++◌, length, map, take, fold, cond, refl, ap, sym, ◌∙◌, append-nil, arith}
 use Rattle.std.specs.Prelude.{Option, Some, bytes_eq, flat_map, option_map, nat_lt, slice_get, if◌then◌else◌}
 use Rattle.std.specs.List.{list_all, list_any}
 use Rattle.std.proofs.lemmas.Bool.{lt-ltb}
@@ -23,7 +23,8 @@ use Rattle.tstp_lines.specs.Numbers.{Meets, numbering_of}
 use Rattle.tstp_lines.specs.LineClause.{IsClause}
 use Rattle.tstp_lines.specs.Bindings.{all_bound, symbols_bound, names_bound, AreBindings}
 use Rattle.tstp_lines.specs.Parts.{parts_numbering}
-use Rattle.tstp_lines.proofs.AboutReadings.NumberLemmas.{goes-on, meets-then, append-more}
+use Rattle.tstp_lines.proofs.AboutReadings.NumberLemmas.{goes-on, meets-then}
+use Rattle.list_lemmas.proofs.Lists.{length-last, push-joined}
 
 -- ---- names by first occurrence
 
@@ -82,7 +83,7 @@ names-folded known (x ∷ xs) = by (list_any (bytes_eq x) known) refl (λ ks. na
     by true e r = r known ∙ ap (λ zs. known ++ zs) (sym (without-known known x (different_names xs) e))
     by false e r =
         r (known ++ x ∷ [])
-        ∙ append-more known x (without_names (known ++ x ∷ []) (different_names xs))
+        ∙ push-joined known x (without_names (known ++ x ∷ []) (different_names xs))
         ∙ ap (λ zs. known ++ x ∷ zs) (without-both known x (different_names xs))
 
 without-none : (xs : List (List ℕ)) → without_names [] xs ≡ xs
@@ -104,7 +105,7 @@ behind known (s ∷ ss) = by (has_symbol s known) (λ ks. behind ks ss)
     by true r = r known
     by false r =
         let later : (more : List Symbol) × (fold with_symbol (known ++ s ∷ []) ss ≡ (known ++ s ∷ []) ++ more) = r (known ++ s ∷ []) in
-        (s ∷ later.0, later.1 ∙ append-more known s later.0)
+        (s ∷ later.0, later.1 ∙ push-joined known s later.0)
 
 front : (known ss : List Symbol) → take (length known) (fold with_symbol known ss) ≡ known
 front known ss = ap (take (length known)) (behind known ss).1 ∙ take-append_seam known (behind known ss).0
@@ -112,10 +113,6 @@ front known ss = ap (take (length known)) (behind known ss).1 ∙ take-append_se
 length-more : {X : Type 0} (xs ys : List X) → length xs ≤ length (xs ++ ys)
 length-more [] ys = omega arith
 length-more (x ∷ xs) ys = omega (arith, length-more xs ys)
-
-length-last : {X : Type 0} (xs : List X) (y : X) → length (xs ++ y ∷ []) ≡ 1 + length xs
-length-last [] y = omega arith
-length-last (x ∷ xs) y = omega (arith, length-last xs y)
 
 new-symbol : (known ss : List Symbol) → nat_lt (length known) (length (fold with_symbol known ss)) ≡ not (list_all (λ x. has_symbol x known) ss)
 new-symbol known [] = none (length known)
@@ -137,10 +134,6 @@ new-symbol known (s ∷ ss) = by (has_symbol s known) (new-symbol known ss)
           length-more (known ++ s ∷ []) (behind (known ++ s ∷ []) ss).0,
           ap length (behind (known ++ s ∷ []) ss).1,
         ))
-
-pub some-symbol : (symbols : List Symbol) → IsSignature symbols → 1 ≤ length symbols
-some-symbol [] h = let e : slice_get [] 0 ≡ Some true_symbol = h.truth in cc
-some-symbol (s ∷ ss) h = omega arith
 
 -- ---- the parts
 

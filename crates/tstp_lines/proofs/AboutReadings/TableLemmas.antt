@@ -5,16 +5,14 @@ use Rattle.std.specs.Global.{Vec}
 use Rattle.std.specs.List.{list_any, position_or_len}
 use Rattle.std.specs.declared.result.Result.TheVariants.{Ok, Err}
 use Rattle.tstp_lines.specs.Tables.{texts_of}
+use Rattle.list_lemmas.proofs.Tests.{position-past, any-kept, position-kept}
+use Rattle.list_lemmas.proofs.Lists.{length-mapped}
 
 -- ---- places
 
 place-mapped : {X Y : Type 0} (h : X → Y) (p : Y → Bool) (xs : List X) → position_or_len (λ x. p (h x)) xs ≡ position_or_len p (map h xs)
 place-mapped h p [] = refl
 place-mapped h p (x ∷ xs) = ap (λ n. cond (not (p (h x))) (1 + n) 0) (place-mapped h p xs)
-
-pub length-mapped : {X Y : Type 0} (h : X → Y) (xs : List X) → length (map h xs) ≡ length xs
-length-mapped h [] = refl
-length-mapped h (x ∷ xs) = ap suc (length-mapped h xs)
 
 any-mapped : {X Y : Type 0} (h : X → Y) (p : Y → Bool) (xs : List X) → list_any (λ x. p (h x)) xs ≡ list_any p (map h xs)
 any-mapped h p [] = refl
@@ -23,16 +21,6 @@ any-mapped h p (x ∷ xs) = ap (λ b. p (h x) || b) (any-mapped h p xs)
 pub map-appended : {X Y : Type 0} (h : X → Y) (xs ys : List X) → map h (xs ++ ys) ≡ map h xs ++ map h ys
 map-appended h [] ys = refl
 map-appended h (x ∷ xs) ys = ap (λ zs. h x ∷ zs) (map-appended h xs ys)
-
-pub absent-place : {X : Type 0} (p : X → Bool) (xs : List X) → list_any p xs ≡ false → position_or_len p xs ≡ length xs
-absent-place p [] h = refl
-absent-place p (x ∷ xs) h = by (p x) h (absent-place p xs)
-  where
-    by :
-        (b : Bool) → (b || list_any p xs) ≡ false → (list_any p xs ≡ false → position_or_len p xs ≡ length xs)
-        → cond (not b) (1 + position_or_len p xs) 0 ≡ suc (length xs)
-    by true g f = cc
-    by false g f = omega (arith, f g)
 
 -- one that is new comes last
 pub last-place :
@@ -45,25 +33,6 @@ last-place p x (k ∷ known) h f = by (p k) f (last-place p x known h)
         → cond (not b) (1 + position_or_len p (known ++ x ∷ [])) 0 ≡ suc (length known)
     by true g r = cc
     by false g r = omega (arith, r g)
-
--- what is there keeps its place, whatever comes behind
-kept-place : {X : Type 0} (p : X → Bool) (known ys : List X) → list_any p known ≡ true → position_or_len p (known ++ ys) ≡ position_or_len p known
-kept-place p [] ys h = cc
-kept-place p (k ∷ known) ys h = by (p k) h (kept-place p known ys)
-  where
-    by :
-        (b : Bool) → (b || list_any p known) ≡ true → (list_any p known ≡ true → position_or_len p (known ++ ys) ≡ position_or_len p known)
-        → cond (not b) (1 + position_or_len p (known ++ ys)) 0 ≡ cond (not b) (1 + position_or_len p known) 0
-    by true g r = refl
-    by false g r = ap (λ n. 1 + n) (r g)
-
-any-kept : {X : Type 0} (p : X → Bool) (known ys : List X) → list_any p known ≡ true → list_any p (known ++ ys) ≡ true
-any-kept p [] ys h = cc
-any-kept p (k ∷ known) ys h = by (p k) h (any-kept p known ys)
-  where
-    by : (b : Bool) → (b || list_any p known) ≡ true → (list_any p known ≡ true → list_any p (known ++ ys) ≡ true) → (b || list_any p (known ++ ys)) ≡ true
-    by true g r = refl
-    by false g r = r g
 
 any-last : {X : Type 0} (p : X → Bool) (x : X) (known : List X) → p x ≡ true → list_any p (known ++ x ∷ []) ≡ true
 any-last p x [] h = ap (λ b. b || false) h
@@ -83,7 +52,7 @@ place-with eq p known x h = by (list_any (eq x) known)
   where
     by : (b : Bool) → position_or_len p (if b then known else known ++ x ∷ []) ≡ position_or_len p known
     by true = refl
-    by false = kept-place p known (x ∷ []) h
+    by false = position-kept p known (x ∷ []) h
 
 any-with : {X : Type 0} (eq : X → X → Bool) (p : X → Bool) (known : List X) (x : X) → list_any p known ≡ true → list_any p (with_new eq known x) ≡ true
 any-with eq p known x h = by (list_any (eq x) known)
@@ -166,5 +135,5 @@ pub text-numbered :
     → place ≡ position_or_len (λ (w : Vec ℕ). bytes_eq v.items w.items) vs
     → place ≡ length names
 text-numbered v vs names text place e t f p =
-    p ∙ absent-place _ vs (no-text v vs names e (ap (λ u. list_any (bytes_eq u) names) t ∙ f))
+    p ∙ position-past _ vs (no-text v vs names e (ap (λ u. list_any (bytes_eq u) names) t ∙ f))
     ∙ sym (length-mapped (λ (w : Vec ℕ). w.items) vs) ∙ ap length e

@@ -6,7 +6,8 @@ use Rattle.signature.specs.Symbol.{with_symbol}
 use Rattle.tstp_lines.specs.declared.numbers.LineNumbers.{LineNumbers}
 use Rattle.tstp_lines.specs.Tables.{with_name}
 use Rattle.tstp_lines.specs.Numbers.{Meets, GoesOn}
-use Rattle.tstp_lines.proofs.AboutReadings.NumberLemmas.{goes-after, fold-appended, append-more}
+use Rattle.tstp_lines.proofs.AboutReadings.NumberLemmas.{goes-after, fold-appended}
+use Rattle.list_lemmas.proofs.Lists.{push-joined}
 
 -- From the first numbers to those that there are now the parts before the rest were walked over, and their values were made.
 pub record Walks {X Y : Type 0} (S : X → List Symbol) (N : X → List (List ℕ)) (V : LineNumbers → X → Y) (first now : LineNumbers) (whole rest : List X) (made : List Y) : Type 0 where
@@ -47,7 +48,7 @@ walks-go S N V first now next whole rest left made new x y e met value n walk =
           ∙ ap (λ xs. fold with_name now.variables (flat_map N xs)) (sym e) ∙ walk.variables;
       values = λ m g.
           ap (λ ys. ys ++ map (V m) left) n
-          ∙ append-more made y (map (V m) left)
+          ∙ push-joined made y (map (V m) left)
           ∙ ap (λ z. made ++ z ∷ map (V m) left) (value m g)
           ∙ ap (λ xs. made ++ map (V m) xs) (sym e)
           ∙ walk.values m (goes-after now next m (S x) (N x) met g);

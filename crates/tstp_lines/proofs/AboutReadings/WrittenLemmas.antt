@@ -10,8 +10,8 @@ use Rattle.tptp_tree.specs.Shape.{formula_of}
 use Rattle.tptp_tree.specs.declared.formula.Formula.{Formula}
 use Rattle.kernel_steps.specs.Names.{name_before, are_sorted}
 use Rattle.clausal_form.specs.DerivationClause.{literals_of, is_literal, atom_name, literal_name, names_come_last, is_written_clause}
-use Rattle.signature.proofs.OccurrenceLemmas.{drop-item, drop-end}
 use Rattle.tstp_lines.specs.Written.{may_follow}
+use Rattle.list_lemmas.proofs.Places.{drop-item, drop-all}
 
 pub listed-formulas : (fs : List FormulaTree) → list_of_formulas (formulas_of fs) ≡ fs
 listed-formulas [] = refl
@@ -88,7 +88,7 @@ pub written-ends :
     (names : List (List ℕ)) (last : Option NameLit) (fs : List Formula) (i : ℕ) (whole : Bool)
     → length fs ≤ i → written_from names last fs i ≡ whole → true ≡ whole
 written-ends names last fs i whole h w =
-    nothing-left names last ∙ ap (λ gs. rest_written names last (map formula_of gs)) (sym (drop-end fs i h)) ∙ w
+    nothing-left names last ∙ ap (λ gs. rest_written names last (map formula_of gs)) (sym (drop-all fs i h)) ∙ w
 
 first-is :
     (names : List (List ℕ)) (last next : Option NameLit) (fs : List Formula) (i : ℕ) (f : Formula) (whole : Bool)

@@ -28,7 +28,7 @@ use Rattle.tstp_writer.specs.WrittenTexts.{AreShownSymbols}
 use Rattle.tstp_writer.proofs.ReadAgain.LiteralKinds.{IsTermOver, AreTermsOver, first-term, more-terms, IsHeadOver, function-head, IsEquationOver, by-kind}
 use Rattle.tstp_writer.proofs.AboutPrinted.TermTexts.{well}
 use Rattle.tstp_writer.proofs.AboutPrinted.PieceTexts.{variable_name-word}
-use Rattle.tstp_writer.proofs.ReadAgain.ProblemLevels.{parentheses-some}
+use Rattle.tstp_writer.proofs.ReadAgain.Parentheses.{parentheses-some}
 
 -- ---- names
 

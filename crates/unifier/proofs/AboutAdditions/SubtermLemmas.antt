@@ -13,6 +13,7 @@ use Rattle.unifier.specs.Bindings.{occurs}
 use Rattle.unifier.specs.Matching.{variables_of, by_pairs, HasPairs, with_further}
 use Rattle.unifier.specs.Additions.{stands, stands_in_any, IsSubtermOf, MatchersPutSubterms, FurtherTermsAreSubterms, SubtermsAddNothing}
 use Rattle.unifier.proofs.AboutMatching.MatchLemmas.{Pairs, all-back, variables-append, HasPairs-own}
+use Rattle.list_lemmas.proofs.Lists.{same-rest}
 
 -- ---- a variable has a place
 
@@ -71,10 +72,6 @@ further-of : (vs ws : List ℕ) → Further vs ws
 further-of vs [] = ([], sym (append-nil vs), (λ test h. refl))
 further-of vs (w ∷ ws) = further-then vs ws w (list_any (λ v. w == v) vs) refl (further-of vs ws) (further-of (vs ++ w ∷ []) ws)
 
-cancelled : (vs xs ys : List ℕ) → vs ++ xs ≡ vs ++ ys → xs ≡ ys
-cancelled [] xs ys e = e
-cancelled (v ∷ vs) xs ys e = let later : vs ++ xs ≡ vs ++ ys = cc in cancelled vs xs ys later
-
 -- each number of a list is in it
 listed : (vs before : List ℕ) → list_all (λ v. list_any (λ w. w == v) (before ++ vs)) vs ≡ true
 listed [] before = refl
@@ -102,7 +99,7 @@ further_terms_are_subterms so_far pattern target found matched once =
     let has : HasPairs found σ = HasPairs-own found once in
     let more : Further (variables_of so_far) (tree_variables pattern) = further-of (variables_of so_far) (tree_variables pattern) in
     let same : variables_of matched.further ≡ more.0 =
-    cancelled (variables_of so_far) (variables_of matched.further) more.0
+    same-rest (variables_of so_far) (variables_of matched.further) more.0
     (sym (variables-append so_far matched.further) ∙ ap variables_of (sym matched.extends) ∙ matched.covers ∙ more.1) in
     subterms pattern target σ ((matched.exact σ).0 has).1 matched.further
     (ap (list_all (λ v. occurs v pattern)) same ∙ more.2 (λ v. occurs v pattern) (listed (tree_variables pattern) []))

@@ -29,6 +29,7 @@ use Rattle.unifier.proofs.AboutEquations.SolutionLemmas.{pairs-term, variables-p
 use Rattle.unifier.proofs.AboutEquations.UnifyLemmas.{joint_of, joint_of-left, joint_of-right, instance-same, unified-by}
 use Rattle.unifier.proofs.AboutEquations.EquationLemmas.{bound-passes, codes-pass}
 use Rattle.unifier.proofs.AboutEquations.ResolveLemmas.{still-all-placed}
+use Rattle.list_lemmas.proofs.Bools.{tests-agree}
 
 -- ---- no equations yet
 
@@ -87,11 +88,6 @@ general-together :
 general-together s t σ unifies general = record { unifies = unifies; is_general = λ ρ e. (ρ, general ρ e) }
 
 -- ---- the cells and places
-
-same-test : (a b : Bool) → (a ≡ true → b ≡ true) → (b ≡ true → a ≡ true) → a ≡ b
-same-test true b there back = sym (there refl)
-same-test false true there back = back refl
-same-test false false there back = refl
 
 placed-pass :
     (test : ℕ → Bool) (ps : List Place) (ws : List ℕ) → all_pass test ps ≡ true → list_all (has_place ps) ws ≡ true → list_all test ws ≡ true
@@ -178,7 +174,7 @@ module _ (apart : Bool) (es : Equations) (s t : Tree) (start mid last : Layout)
       let rs : List ℕ = tree_variables t in
       let lefts : List ℕ = map (code_of apart Left) ls in
       let rights : List ℕ = map (code_of apart Right) rs in
-      same-test (all_pass test last.places.items) (list_all test (codes_of apart s t))
+      tests-agree (all_pass test last.places.items) (list_all test (codes_of apart s t))
       (λ all.
       list_all-append test lefts rights
       ∙ and_from (list_all test lefts) (list_all test rights)

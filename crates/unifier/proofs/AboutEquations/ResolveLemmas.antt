@@ -149,11 +149,6 @@ place-passes :
     → qs ≡ ps ++ p ∷ [] → all_pass test ps ≡ true → test p.code ≡ true → all_pass test qs ≡ true
 place-passes test ps qs p is all here = ap (all_pass test) is ∙ all_pass-push test ps p ∙ and_from (all_pass test ps) (test p.code) all here
 
--- as the code has it
-pub not-some : (o : Option ℕ) → is_some o ≡ false → o ≡ None
-not-some None e = refl
-not-some (Some k) e = cc
-
 -- ---- a variable that has its place
 
 pub already-resolved :

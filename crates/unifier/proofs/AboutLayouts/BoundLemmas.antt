@@ -18,9 +18,10 @@ use Rattle.unifier.specs.Bindings.{occurs, IsUnified, LeavesOthers, IsFound}
 use Rattle.unifier.specs.Renaming.{is_within, fits, CountsVariables, FitLeavesOthers, FitLeavesOthersApart, FitsAbove}
 use Rattle.unifier.specs.Solving.{relocated, IsRelocated}
 use Rattle.plain_types.proofs.Parity.{even-half, odd-half}
-use Rattle.unifier.proofs.AboutLayouts.PlaceLemmas.{ltb-is, ltb-less, ltb-not}
+use Rattle.unifier.proofs.AboutLayouts.PlaceLemmas.{ltb-is}
 use Rattle.unifier.proofs.AboutEquations.SolutionLemmas.{unbound}
 use Rattle.unifier.proofs.AboutLayouts.RankLemmas.{code-within, within-left, within-right}
+use Rattle.list_lemmas.proofs.Numbers.{not-less, less-says}
 
 -- ---- places and tests
 
@@ -114,15 +115,15 @@ pub fit-leaves-others-apart : FitLeavesOthersApart
 fit-leaves-others-apart b l r is h = (
   (λ v past.
       ap (λ a. joint b (code_of a Left v)) is
-      ∙ itself b (is_within true l r) (2 * v) (counted b true l r is h) (within-left l r v ∙ ltb-not v l past)),
+      ∙ itself b (is_within true l r) (2 * v) (counted b true l r is h) (within-left l r v ∙ not-less v l past)),
   (λ v past.
       ap (λ a. joint b (code_of a Right v)) is
-      ∙ itself b (is_within true l r) (2 * v + 1) (counted b true l r is h) (within-right l r v ∙ ltb-not v r past)),
+      ∙ itself b (is_within true l r) (2 * v + 1) (counted b true l r is h) (within-right l r v ∙ not-less v r past)),
 )
 
 pub fit-leaves-others : FitLeavesOthers
 fit-leaves-others b l r is h v past =
-    let free : joint b v ≡ variable v = itself b (is_within false l r) v (counted b false l r is h) (ltb-not v (max l r) past) in (
+    let free : joint b v ≡ variable v = itself b (is_within false l r) v (counted b false l r is h) (not-less v (max l r) past) in (
       ap (λ a. joint b (code_of a Left v)) is ∙ free,
       ap (λ a. joint b (code_of a Right v)) is ∙ free,
     )
@@ -134,7 +135,7 @@ all-weaker p q h (w ∷ ws) all =
     let both = and_parts (p w) (list_all p ws) all in and_from (q w) (list_all q ws) (h w both.0) (all-weaker p q h ws both.1)
 
 below-above : (w l m : ℕ) → l ≤ m → nat_lt w l ≡ true → nat_lt w m ≡ true
-below-above w l m more h = ltb-is w m (omega (arith, ltb-less w l h, more))
+below-above w l m more h = ltb-is w m (omega (arith, less-says w l h, more))
 
 within-above : (apart : Bool) (l r m n w : ℕ) → l ≤ m → r ≤ n → is_within apart l r w ≡ true → is_within apart m n w ≡ true
 within-above false l r m n w left right h = below-above w (max l r) (max m n) (omega (arith, left, right)) h

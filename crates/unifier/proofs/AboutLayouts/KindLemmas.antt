@@ -13,10 +13,7 @@ use Rattle.unifier.specs.Matching.{term_for, by_pairs}
 use Rattle.unifier.specs.Walk.{met, walk, walk_all}
 use Rattle.unifier.specs.Laws.{are_of_one_kind, AreFunctionPairs, UnifiersPutFunctionTerms, UnifiersApartPutFunctionTerms, MatchersPutFunctionTerms}
 use Rattle.unifier.proofs.AboutMatching.MatchLemmas.{listed-at}
-
-and-both : (a b : Bool) → a ≡ true → b ≡ true → (a && b) ≡ true
-and-both true b h k = k
-and-both false b h k = cc
+use Rattle.list_lemmas.proofs.Bools.{both-true}
 
 -- a symbol that is no predicate and not `$true`'s
 is_function : (ℕ → Bool) → ℕ → Bool
@@ -50,14 +47,14 @@ mutual
       (λ yes_.
       ap (is_function_term p) (cond-true (is_function p f) (application f (all_cleaned p ts)) (variable 0) yes_)
       ∙ head-and-arguments p f (all_cleaned p ts)
-      ∙ and-both (is_function p f) (are_function_terms p (all_cleaned p ts)) yes_ (all-cleaned-function p ts))
+      ∙ both-true (is_function p f) (are_function_terms p (all_cleaned p ts)) yes_ (all-cleaned-function p ts))
       (λ no_. ap (is_function_term p) (cond-false (is_function p f) (application f (all_cleaned p ts)) (variable 0) no_))
       (cases_Bool (is_function p f))
 
   all-cleaned-function : (p : ℕ → Bool) (ts : Trees) → are_function_terms p (all_cleaned p ts) ≡ true
   all-cleaned-function p no_trees = refl
   all-cleaned-function p (tree_then t ts) =
-      and-both (is_function_term p (cleaned p t)) (are_function_terms p (all_cleaned p ts)) (cleaned-function p t) (all-cleaned-function p ts)
+      both-true (is_function_term p (cleaned p t)) (are_function_terms p (all_cleaned p ts)) (cleaned-function p t) (all-cleaned-function p ts)
 
 -- what is put into a function term is cleaned with the instance
 mutual
@@ -89,14 +86,14 @@ mutual
   instance-function p σ (application f ts) h =
       let parts = sym (head-and-arguments p f (instances σ ts)) ∙ h in
       head-and-arguments p f ts
-      ∙ and-both (is_function p f) (are_function_terms p ts)
+      ∙ both-true (is_function p f) (are_function_terms p ts)
       (and_left (is_function p f) (are_function_terms p (instances σ ts)) parts)
       (instances-function p σ ts (and_right (is_function p f) (are_function_terms p (instances σ ts)) parts))
 
   instances-function : (p : ℕ → Bool) (σ : Substitution) (ts : Trees) → are_function_terms p (instances σ ts) ≡ true → are_function_terms p ts ≡ true
   instances-function p σ no_trees h = refl
   instances-function p σ (tree_then t ts) h =
-      and-both (is_function_term p t) (are_function_terms p ts)
+      both-true (is_function_term p t) (are_function_terms p ts)
       (instance-function p σ t (and_left (is_function_term p (instance σ t)) (are_function_terms p (instances σ ts)) h))
       (instances-function p σ ts (and_right (is_function_term p (instance σ t)) (are_function_terms p (instances σ ts)) h))
 

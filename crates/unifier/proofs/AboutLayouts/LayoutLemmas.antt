@@ -1,5 +1,5 @@
 -- Layouts, as cells are added.
-use Rattle.std.proofs.Common.{◌≡◌, ◌⊎◌, inl, inr, ℕ, suc, ◌+◌, ◌-◌, ◌<◌, ◌≤◌, drop-cons, Bool, true, false, ◌&&◌, ◌==◌, Option, None, Some, List, [], ◌∷◌, ◌++◌, length, map, drop, get_or, refl, ap, ap₂, sym, ◌∙◌, subst, ⊎_elim, arith, eq-eqb, append_assoc}
+use Rattle.std.proofs.Common.{◌≡◌, ℕ, suc, ◌+◌, ◌-◌, ◌<◌, ◌≤◌, drop-cons, Bool, true, false, ◌&&◌, ◌==◌, Option, None, Some, List, [], ◌∷◌, ◌++◌, length, map, drop, get_or, refl, ap, ap₂, sym, ◌∙◌, subst, ⊎_elim, arith, eq-eqb, append_assoc}
 use Rattle.std.specs.Prelude.{Result, Ok, Err, IfOk, All, nat_lt}
 use Rattle.std.proofs.lemmas.Bool.{cases_lt, cond-true, cond-false, cases_Bool, eqb-true, true≢false}
 use Rattle.std.proofs.Math.ListN.{get_or-append}
@@ -17,7 +17,8 @@ use Rattle.unifier.specs.declared.layout.Layout.{Layout}
 use Rattle.unifier.specs.Cells.{Value, tree, trees, as_tree, as_trees, cell_at, value_of, is_list, is_variable, IsAfterParts, AreOrdered, HasKinds, AreKinded, IsValuation}
 use Rattle.unifier.specs.SolvedForm.{code_of, of_side}
 use Rattle.unifier.specs.Layout.{cell_of, all_pass, AreRising, IsLayout, Grows, IsWithVariable, TermLaidOut, TermsLaidOut, IsPushed}
-use Rattle.unifier.proofs.AboutLayouts.PlaceLemmas.{ltb-not, cell_of-front, cell_of-back, not-found, all_pass-push, rising-push}
+use Rattle.unifier.proofs.AboutLayouts.PlaceLemmas.{cell_of-front, cell_of-back, not-found, all_pass-push, rising-push}
+use Rattle.list_lemmas.proofs.Numbers.{not-less, below-or-same}
 
 -- ---- cells
 
@@ -30,11 +31,8 @@ cell_at-front cs more i h = get_or-append cs more (Variable 0) i h
 pub cell_at-last : (cs : List Cell) (c : Cell) → cell_at (cs ++ c ∷ []) (length cs) ≡ c
 cell_at-last cs c = get_or-append_seam cs c [] (Variable 0)
 
-split : (i n : ℕ) → i < n + 1 → (i < n) ⊎ (i ≡ n)
-split i n h = ⊎_elim inl (λ ge. inr (omega arith)) (cases_lt i n)
-
 pub last_or_front : (cs : List Cell) (c : Cell) (i : ℕ) (P : Type 0) → i < length (cs ++ c ∷ []) → (i < length cs → P) → (i ≡ length cs → P) → P
-last_or_front cs c i P h front last = ⊎_elim front last (split i (length cs) (omega (arith, h, length-push cs c)))
+last_or_front cs c i P h front last = ⊎_elim front last (below-or-same i (length cs) (omega (arith, h, length-push cs c)))
 
 -- what holds of the cells and of one more holds of all
 pub at-push :
@@ -138,7 +136,7 @@ pub layout-variable :
     → new.cells.items ≡ old.cells.items ++ Variable w ∷ [] → new.places.items ≡ old.places.items ++ p ∷ [] → IsLayout new
 layout-variable old new w p h below code cell e places_e =
     let none : cell_of w old.places.items ≡ None =
-    not-found (λ v. nat_lt v w) w old.places.items (cell_of w old.places.items) below (ltb-not w w (omega arith)) refl in
+    not-found (λ v. nat_lt v w) w old.places.items (cell_of w old.places.items) below (not-less w w (omega arith)) refl in
     let cs : List Cell = old.cells.items in
     let c : Cell = Variable w in
     let ps : List Place = old.places.items in

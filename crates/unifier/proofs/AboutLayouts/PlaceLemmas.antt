@@ -12,17 +12,12 @@ use Rattle.std.proofs.Math.ListN.{get_or-append}
 use Rattle.std.proofs.Math.Seq.{get_or-append_seam}
 use Rattle.unifier.specs.declared.layout.Place.{Place}
 use Rattle.unifier.specs.Layout.{cell_of, has_place, all_pass, AreRising}
+use Rattle.list_lemmas.proofs.Numbers.{less-says}
 
 -- ---- tests of numbers
 
 pub ltb-is : (a b : ℕ) → a < b → nat_lt a b ≡ true
 ltb-is a b h = grind (arith, nat_tests)
-
-pub ltb-less : (a b : ℕ) → nat_lt a b ≡ true → a < b
-ltb-less a b h = grind (arith, nat_tests)
-
-pub ltb-not : (a b : ℕ) → b ≤ a → nat_lt a b ≡ false
-ltb-not a b h = grind (arith, nat_tests)
 
 -- ---- which place is found
 
@@ -110,7 +105,7 @@ rising-push ps p rising below i j d less inside =
     let last : j ≡ length ps = omega (arith, inside, length-append ps (p ∷ [])) in
     let right : get_or (ps ++ p ∷ []) j d ≡ p = ap (λ k. get_or (ps ++ p ∷ []) k d) last ∙ get_or-append_seam ps p [] d in
     subst (λ (q : Place). (get_or ps i d).code < q.code) (sym right)
-    (ltb-less (get_or ps i d).code p.code (passes-at (λ w. nat_lt w p.code) ps i d one below)))
+    (less-says (get_or ps i d).code p.code (passes-at (λ w. nat_lt w p.code) ps i d one below)))
     (cases_lt j (length ps)))
 
 -- ---- a search by halving

@@ -14,7 +14,8 @@ use Rattle.unifier.specs.Layout.{cell_of, all_pass}
 use Rattle.unifier.specs.Solution.{solved_form}
 use Rattle.unifier.specs.Renaming.{code_count, is_within, is_shared, rank, AreNames, HasNames}
 use Rattle.plain_types.proofs.Parity.{halves, even-half, odd-half}
-use Rattle.unifier.proofs.AboutLayouts.PlaceLemmas.{found-passes, ltb-is, ltb-less}
+use Rattle.unifier.proofs.AboutLayouts.PlaceLemmas.{found-passes, ltb-is}
+use Rattle.list_lemmas.proofs.Numbers.{less-says as ltb-less}
 
 abbrev pub side_count : ℕ → ℕ → Side → ℕ
 side_count l r Left = l

@@ -1,5 +1,5 @@
 -- The renaming can be undone, and its names have no gaps.
-use Rattle.std.proofs.Common.{◌≡◌, ◌⊎◌, inl, inr, ℕ, zero, suc, ◌<◌, ◌≤◌, Bool, true, false, ◌&&◌, Option, None, Some, List, length, slice_index, refl, ap, ap₂, sym, ◌∙◌, subst, arith}
+use Rattle.std.proofs.Common.{◌≡◌, ◌⊎◌, inl, inr, ℕ, zero, suc, ◌<◌, ◌≤◌, true, Option, None, Some, List, length, slice_index, refl, ap, ap₂, sym, ◌∙◌, subst, arith}
 use Rattle.std.proofs.lemmas.Bool.{cases_lt}
 use Rattle.fol_base.specs.Tree.{Tree, variable, application, tree_then, tree_eq, VariablesBelow, AllVariablesBelow}
 use Rattle.fol_base.proofs.AboutTerms.TreeLemmas.{tree_eq-refl, tree_eq-true, and_left, and_right}
@@ -17,6 +17,7 @@ use Rattle.unifier.specs.Renaming.{renamed, renamed_trees, side_terms, AreRename
 use Rattle.unifier.proofs.AboutEquations.SolutionLemmas.{joint-is, joint-found}
 use Rattle.unifier.proofs.AboutLayouts.RankLemmas.{side_count, rank-below, rank-same, rank-of, code-within, code-inside, within-side, bound-within}
 use Rattle.unifier.proofs.AboutLayouts.RenameLemmas.{own, itself-free, own-is}
+use Rattle.list_lemmas.proofs.Bools.{both-true}
 
 -- ---- the renaming can be undone
 
@@ -57,10 +58,6 @@ shared-name b l r names w h inside shared =
       omega (arith, e, rank-below (is_shared (solved_form b) l r) w (code_count b.apart l r) inside shared),
     )
 
-and-true : (a b : Bool) → a ≡ true → b ≡ true → (a && b) ≡ true
-and-true true b h k = k
-and-true false b h k = cc
-
 cell-shared :
     (b : Solution) (l r : ℕ) (names : List ℕ) (k w : ℕ)
     → Naming b l r names → k < length b.cells.items → Variable w ≡ cell_at b.cells.items k
@@ -70,7 +67,7 @@ cell-shared b l r names k w h inside is =
     let within = bound-within b l r w k h.counts found in
     let itself : joint (solved_form b) w ≡ variable w =
     joint-found b w k found ∙ ap as_tree (own-is b.cells.items k (Variable w) h.order.ordered inside is) in (
-      and-true (is_within b.apart l r w) (tree_eq (joint (solved_form b) w) (variable w)) within.0 (ap (λ t. tree_eq t (variable w)) itself ∙ tree_eq-refl (variable w)),
+      both-true (is_within b.apart l r w) (tree_eq (joint (solved_form b) w) (variable w)) within.0 (ap (λ t. tree_eq t (variable w)) itself ∙ tree_eq-refl (variable w)),
       within.1,
     )
 
@@ -117,7 +114,7 @@ undone-joint :
     × VariablesBelow (count_of b l r) (renamed (slice_index names) (bound b.cells.items o w))
 undone-joint b l r names w None h e within inside =
     let shared : is_shared (solved_form b) l r w ≡ true =
-    and-true (is_within b.apart l r w) (tree_eq (joint (solved_form b) w) (variable w)) within (sym (itself-free b w e)) in
+    both-true (is_within b.apart l r w) (tree_eq (joint (solved_form b) w) (variable w)) within (sym (itself-free b w e)) in
     let name = shared-name b l r names w h inside shared in
     (ap variable name.0, name.1)
 undone-joint b l r names w (Some k) h e within inside =

@@ -1,6 +1,5 @@
 -- The walk finds exactly the matchers that have the pairs handed in.
 use Rattle.std.proofs.Common.{◌≡◌, ◌↔◌, ℕ, zero, suc, ◌+◌, ◌<◌, ◌≤◌, get_or, Bool, true, false, ◌&&◌, ◌||◌, ◌==◌, cond, Option, None, Some, List, [], ◌∷◌, ◌++◌, length, map, take, append-nil, append_assoc, refl, ap, ap₂, sym, ◌∙◌, subst, ⊎_elim, arith, eq-eqb}
-use Rattle.std.proofs.lemmas.Bool.Decides.{nat_tests}
 use Rattle.std.specs.Prelude.{nat_lt, option_and_then, unwrap_or, if◌then◌else◌}
 use Rattle.std.specs.List.{list_any, list_all}
 use Rattle.std.proofs.lemmas.List.{map-append, length-take}
@@ -17,6 +16,7 @@ use Rattle.unifier.specs.declared.matched.Pair.{Pair}
 use Rattle.unifier.specs.Walk.{pair_of, met, walk, walk_all}
 use Rattle.unifier.proofs.AboutLayouts.PlaceLemmas.{ltb-is}
 use Rattle.unifier.proofs.AboutLayouts.BoundLemmas.{below-pass}
+use Rattle.list_lemmas.proofs.Numbers.{less-says, differs-turned}
 
 abbrev pub Pairs : Type 0
 Pairs = List (ℕ × Tree)
@@ -92,13 +92,6 @@ term_for-push v w u (p ∷ ps) n e =
     ∙ term_for-push v w u ps n (sym (cond-false (v == p.0) (Some p.1) (term_for v ps) other) ∙ e))
     (cases_Bool (v == p.0))
 
-differs : (v w : ℕ) → (v == w) ≡ false → (w == v) ≡ false
-differs v w n =
-    ⊎_elim
-    (λ same. absurd (true≢false (sym (eq-eqb v w (sym (eqb-true w v same))) ∙ n)))
-    (λ other. other)
-    (cases_Bool (w == v))
-
 pub NoVariableTwice-push :
     (v : ℕ) (u : Tree) (ps : Pairs) → NoVariableTwice ps → term_for v ps ≡ None → NoVariableTwice (ps ++ (v, u) ∷ [])
 NoVariableTwice-push v u [] h e = (refl, tt)
@@ -106,7 +99,7 @@ NoVariableTwice-push v u (p ∷ ps) h e =
     ⊎_elim
     (λ same. let wrong : Some p.1 ≡ None = sym (cond-true (v == p.0) (Some p.1) (term_for v ps) same) ∙ e in absurd cc)
     (λ other. (
-      term_for-push p.0 v u ps (differs v p.0 other) h.0,
+      term_for-push p.0 v u ps (differs-turned v p.0 other) h.0,
       NoVariableTwice-push v u ps h.1 (sym (cond-false (v == p.0) (Some p.1) (term_for v ps) other) ∙ e),
     ))
     (cases_Bool (v == p.0))
@@ -426,16 +419,13 @@ listed-at terms count v σ h less =
     let plus : 0 + v ≡ v = omega arith in
     ap (λ (ts : List Tree). get_or ts v (variable v)) h ∙ terms_from-at 0 count v σ (variable v) less ∙ ap σ plus
 
-ltb-less : (a b : ℕ) → nat_lt a b ≡ true → a < b
-ltb-less a b h = grind (arith, nat_tests)
-
 below : (n : ℕ) (ps : Pairs) (v : ℕ) (t : Tree) → are_below n ps ≡ true → term_for v ps ≡ Some t → v < n
 below n [] v t h e = cc
 below n (p ∷ ps) v t h e =
     ⊎_elim
     (λ same.
     let P : ℕ → Type 0 = λ u. u < n in
-    subst P (sym (eqb-true v p.0 same)) (ltb-less p.0 n (and_left (nat_lt p.0 n) (are_below n ps) h)))
+    subst P (sym (eqb-true v p.0 same)) (less-says p.0 n (and_left (nat_lt p.0 n) (are_below n ps) h)))
     (λ other.
     below n ps v t (and_right (nat_lt p.0 n) (are_below n ps) h) (sym (cond-false (v == p.0) (Some p.1) (term_for v ps) other) ∙ e))
     (cases_Bool (v == p.0))

@@ -100,7 +100,7 @@ module _ (c : TreeClause) (i count : ℕ) (terms : List Tree) (t : Tree) (within
 
 -- ---- the literal without solution
 
-set_there : (ls : List TreeLiteral) (j : ℕ) (l new : TreeLiteral) → slice_get ls j ≡ Some l → slice_get (slice_set ls j new) j ≡ Some new
+pub set_there : (ls : List TreeLiteral) (j : ℕ) (l new : TreeLiteral) → slice_get ls j ≡ Some l → slice_get (slice_set ls j new) j ≡ Some new
 set_there [] j l new h = absurd (none-some l h)
 set_there (k ∷ ls) zero l new h = refl
 set_there (k ∷ ls) (suc j) l new h = set_there ls j l new h

@@ -23,10 +23,11 @@ use Rattle.fol_base.proofs.AboutCanonical.NumberingLemmas.{all_met, with_variabl
 use Rattle.fol_base.proofs.WorkedExamples.TestLemmas.{list_all-item, list_all-set, list_all-remove}
 use Rattle.kernel_steps.specs.Lines.{has_small_sides, is_small_term}
 use Rattle.kernel_steps.specs.Symbols.{literal_symbols_pass}
-use Rattle.eq_rules.proofs.AboutConclusions.WideLemmas.{Has, Has-front}
+use Rattle.eq_rules.proofs.AboutConclusions.WideLemmas.{Has, Has-front, Has-back}
 use Rattle.unit_cutting.specs.Cutting.{before_last, last_index, open_side, unsolvable}
 use Rattle.unit_cutting.proofs.AboutLeaving.CanonLemmas.{canonical-renamed}
 use Rattle.unit_cutting.proofs.AboutLeaving.MoveLemmas.{small_sides}
+use Rattle.eq_rules.proofs.AboutConclusions.PremiseLemmas.{has-append}
 
 -- ---- names
 
@@ -117,22 +118,14 @@ left-before false ls j t = set_removed ls j
     set_removed (k ∷ ks) zero = refl
     set_removed (k ∷ ks) (suc i) = ap (λ xs. k ∷ xs) (set_removed ks i)
 
-has-back : (order vs ws : List ℕ) → Has order (vs ++ ws) → Has order ws
-has-back order [] ws h = h
-has-back order (v ∷ vs) ws h = has-back order vs ws h.1
-
-has-joined : (order vs ws : List ℕ) → Has order vs → Has order ws → Has order (vs ++ ws)
-has-joined order [] ws h k = k
-has-joined order (v ∷ vs) ws h k = (h.0, has-joined order vs ws h.1 k)
-
 pub has-remove :
     (order : List ℕ) (ls : List TreeLiteral) (k : ℕ) → Has order (flat_map literal_variables ls) → Has order (flat_map literal_variables (remove ls k))
 has-remove order [] zero h = tt
 has-remove order [] (suc k) h = tt
-has-remove order (l ∷ ls) zero h = has-back order (literal_variables l) (flat_map literal_variables ls) h
+has-remove order (l ∷ ls) zero h = Has-back order (literal_variables l) (flat_map literal_variables ls) h
 has-remove order (l ∷ ls) (suc k) h =
-    has-joined order (literal_variables l) (flat_map literal_variables (remove ls k)) (Has-front order (literal_variables l) (flat_map literal_variables ls) h)
-    (has-remove order ls k (has-back order (literal_variables l) (flat_map literal_variables ls) h))
+    has-append order (literal_variables l) (flat_map literal_variables (remove ls k)) (Has-front order (literal_variables l) (flat_map literal_variables ls) h)
+    (has-remove order ls k (Has-back order (literal_variables l) (flat_map literal_variables ls) h))
 
 -- the canonical form of what is left of renamed literals is that of what is left
 pub canonical-left :

@@ -53,6 +53,7 @@ use Rattle.unit_cutting.proofs.AboutCuts.UnitLemmas.{own-terms, unit-are, unit-s
 use Rattle.unit_cutting.proofs.AboutCuts.CutLineLemmas.{literal-passes, negative-there, sides-before}
 use Rattle.unit_cutting.proofs.AboutLeaving.LeavingLemmas.{FirstShape, bounded-first, first-shape, left-canonical, left-small, on-last}
 use Rattle.unit_cutting.proofs.AboutCuts.OwnLemmas.{own-at}
+use Rattle.list_lemmas.proofs.Bools.{or-absorbed}
 
 -- ---- names
 
@@ -66,10 +67,6 @@ asserted-there (x ∷ ns) ms h k e =
     (λ later. asserted-there ns ms both.1 k later)
     (or_cases (same_name k (negative_of x)) (has_name k (map negative_of ns)) e)
 
-absorbed : (b d : Bool) → (b ≡ true → d ≡ true) → (b || d) ≡ d
-absorbed true d h = sym (h refl)
-absorbed false d h = refl
-
 absorbed_behind : (b d : Bool) → (d ≡ true → b ≡ true) → (b || d) ≡ b
 absorbed_behind true d h = refl
 absorbed_behind false true h = absurd (true≢false (sym (h refl)))
@@ -80,7 +77,7 @@ names-before :
 names-before ns ms h =
     sorted_names-same (map negative_of ns ++ ms) ms λ k.
     list_any-append (same_name k) (map negative_of ns) ms
-    ∙ absorbed (has_name k (map negative_of ns)) (has_name k ms) (asserted-there ns ms h k)
+    ∙ or-absorbed (has_name k (map negative_of ns)) (has_name k ms) (asserted-there ns ms h k)
 
 names-behind :
     (ns : List ℕ) (ms : List NameLit) → is_among ns (assertions ms) ≡ true → sorted_names (ms ++ map negative_of ns) ≡ sorted_names ms

@@ -16,27 +16,22 @@ use Rattle.fol_base.proofs.AboutClauses.InferenceLemmas.{superpositions_in_insta
 use Rattle.fol_base.proofs.AboutInstances.InstanceLemmas.{Agree, instance-agree}
 use Rattle.fol_base.proofs.AboutCanonical.WalkLemmas.{renaming-kept}
 use Rattle.eq_rules.proofs.AboutConclusions.RenumberedLemmas.{met_onward}
-use Rattle.eq_rules.proofs.AboutConclusions.StepLemmas.{some_there, renaming-no_truth}
+use Rattle.eq_rules.proofs.AboutConclusions.StepLemmas.{renaming-no_truth}
 use Rattle.eq_rules.proofs.AboutConclusions.WideLemmas.{renamed-literals}
 use Rattle.unit_cutting.specs.Superposing.{superposed_under}
+use Rattle.list_lemmas.proofs.Results.{some-there}
+use Rattle.list_lemmas.proofs.Members.{all-front, all-back}
+use Rattle.eq_rules.proofs.AboutConclusions.ConclusionLemmas.{appended_variables}
 
 -- ---- variables that have numbers keep them
-
-front : {X : Type 0} (P : X → Type 0) (xs ys : List X) → AllByRecursion P (xs ++ ys) → AllByRecursion P xs
-front P [] ys h = tt
-front P (x ∷ xs) ys h = (h.0, front P xs ys h.1)
-
-back : {X : Type 0} (P : X → Type 0) (xs ys : List X) → AllByRecursion P (xs ++ ys) → AllByRecursion P ys
-back P [] ys h = h
-back P (x ∷ xs) ys h = back P xs ys h.1
 
 terms-agree :
     (σ τ : Substitution) (ts : List Tree) → Agree σ τ (trees_variables (trees_of ts)) → map (instance σ) ts ≡ map (instance τ) ts
 terms-agree σ τ [] h = refl
 terms-agree σ τ (t ∷ ts) h =
     ap₂ ◌∷◌
-    (instance-agree σ τ t (front (λ v. σ v ≡ τ v) (tree_variables t) (trees_variables (trees_of ts)) h))
-    (terms-agree σ τ ts (back (λ v. σ v ≡ τ v) (tree_variables t) (trees_variables (trees_of ts)) h))
+    (instance-agree σ τ t (all-front (λ v. σ v ≡ τ v) (tree_variables t) (trees_variables (trees_of ts)) h))
+    (terms-agree σ τ ts (all-back (λ v. σ v ≡ τ v) (tree_variables t) (trees_variables (trees_of ts)) h))
 
 -- the terms of the first premise by the numbers after both
 pub renamed-onward :
@@ -53,19 +48,13 @@ renamed-onward met first second left ws bind first_met second_met renamed =
     vs : List ℕ
     vs = trees_variables (trees_of left)
 
-pub trees-append : (xs ys : List Tree) → trees_variables (trees_of (xs ++ ys)) ≡ trees_variables (trees_of xs) ++ trees_variables (trees_of ys)
-trees-append [] ys = refl
-trees-append (x ∷ xs) ys =
-    ap (λ vs. tree_variables x ++ vs) (trees-append xs ys)
-    ∙ sym (append_assoc (tree_variables x) (trees_variables (trees_of xs)) (trees_variables (trees_of ys)))
-
 pub both-met :
     (met first second : List ℕ) (left right : List Tree)
     → first ≡ with_variables met (trees_variables (trees_of left)) → second ≡ with_variables first (trees_variables (trees_of right))
     → second ≡ with_variables met (trees_variables (trees_of (left ++ right)))
 both-met met first second left right first_met second_met =
     met_onward met first second (trees_variables (trees_of left)) (trees_variables (trees_of right)) first_met second_met
-    ∙ ap (with_variables met) (sym (trees-append left right))
+    ∙ ap (with_variables met) (sym (appended_variables left right))
 
 -- ---- the rule under them
 
@@ -88,5 +77,5 @@ module _
   pub superposition-applies :
       is_some (superposed_under left ls i s right ks j z) ≡ true → None ≡ superposed_under first_bind ls i s second_bind ks j z → ⊥
   superposition-applies applies h =
-      let found = some_there (superposed_under left ls i s right ks j z) applies in
+      let found = some-there (superposed_under left ls i s right ks j z) applies in
       true≢false (sym (ap is_some (h ∙ under-renamed found.0 found.1)))

@@ -27,11 +27,11 @@ use Rattle.kernel_steps.specs.Symbols.{symbols_pass}
 use Rattle.kernel_steps.specs.declared.step.Line.{Line}
 use Rattle.kernel_steps.specs.declared.step.Step.{Step}
 use Rattle.eq_rules.proofs.AboutConclusions.BindingLemmas.{bound_functions, bound_small, bound_symbols}
-use Rattle.eq_rules.proofs.AboutConclusions.ConclusionLemmas.{binds_renamed, bindings_numbered, conclusion_numbered}
+use Rattle.eq_rules.proofs.AboutConclusions.ConclusionLemmas.{binds_renamed, bindings_numbered, conclusion_numbered, appended_variables}
 use Rattle.eq_rules.proofs.AboutConclusions.WideLemmas.{renamed-size}
 use Rattle.unit_cutting.specs.Superposing.{IsSuperposed, superposed_under}
 use Rattle.unit_cutting.proofs.AboutLeaving.MoveLemmas.{IsGood}
-use Rattle.unit_cutting.proofs.AboutCuts.SuperposingLemmas.{trees-append, under-renamed}
+use Rattle.unit_cutting.proofs.AboutCuts.SuperposingLemmas.{under-renamed}
 
 -- terms for a clause's variables, as a step may bind them
 pub record AreTerms (p : ℕ → Bool) (c : TreeClause) (terms : List Tree) : Type 0 where
@@ -116,7 +116,7 @@ module _
       bound-order =
           ap (λ (st : Step). flat_map (λ b. trees_variables (trees_of b)) (bindings_of st)) it.of_step
           ∙ ap (λ vs. trees_variables (trees_of it.first_bind) ++ vs) (append-nil (trees_variables (trees_of it.second_bind)))
-          ∙ sym (trees-append it.first_bind it.second_bind)
+          ∙ sym (appended_variables it.first_bind it.second_bind)
 
   pub two-verdict :
       (parents : Parents) → parents first ≡ Some (record { clause = a; introduces = false }) → parents second ≡ Some (record { clause = b; introduces = false })

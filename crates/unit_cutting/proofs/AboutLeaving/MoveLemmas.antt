@@ -33,7 +33,7 @@ use Rattle.kernel_steps.specs.declared.step.Line.{Line}
 use Rattle.kernel_steps.proofs.AboutNames.NameRanks.{sorted-same}
 use Rattle.eq_rules.specs.Concluding.{GivesNumbered}
 use Rattle.eq_rules.proofs.AboutConclusions.BindingLemmas.{bound_functions, bound_small, bound_symbols}
-use Rattle.eq_rules.proofs.AboutConclusions.ConclusionLemmas.{conclusion_numbered, bindings_numbered, binds_renamed, verdict_by_one, numbered_literals}
+use Rattle.eq_rules.proofs.AboutConclusions.ConclusionLemmas.{conclusion_numbered, bindings_numbered, binds_renamed, verdict_by_one, numbered_literals, numbered_first}
 use Rattle.eq_rules.proofs.AboutConclusions.WideLemmas.{renamed-literals_size}
 use Rattle.reduced_clause.specs.Extending.{AreLinesOfMove, parents_with}
 use Rattle.unit_cutting.specs.Fit.{IsFit}
@@ -41,17 +41,6 @@ use Rattle.unit_cutting.proofs.AboutCuts.OwnLemmas.{own-many, own-below, own-lit
 use Rattle.unit_cutting.proofs.AboutLeaving.RemovalLemmas.{Rule, Removes}
 
 -- ---- canonical forms and sizes
-
--- what comes behind the literals changes their numbers nothing
-pub canonical-literals :
-    (plain : List TreeLiteral) (ws order : List ℕ)
-    → order ≡ with_variables (with_variables [] (flat_map literal_variables plain)) ws
-    → literals_instance (renaming order) plain ≡ literals_instance (renaming (distinct (flat_map literal_variables plain))) plain
-canonical-literals plain ws order met =
-    let vs : List ℕ = flat_map literal_variables plain in
-    ap (λ o. literals_instance (renaming o) plain) met
-    ∙ sym (literals-agree (renaming (with_variables [] vs)) (renaming (with_variables (with_variables [] vs) ws)) plain (renaming-kept [] vs ws))
-    ∙ ap (λ o. literals_instance (renaming o) plain) (all_met vs)
 
 -- no side of a clause that isn't too large is
 pub small_sides : (ls : List TreeLiteral) (most : ℕ) → sum_by literal_size ls ≤ most → most ≤ MOST_SYMBOLS → list_all has_small_sides ls ≡ true
@@ -130,7 +119,7 @@ module _
 
   pub d-canonical : d.literals ≡ (canonical_clause (record { literals = remove c.literals i; names = c.names })).literals
   d-canonical =
-      d-literals ∙ canonical-literals g.plain (trees_variables (trees_of (own_terms c))) g.order g.met
+      d-literals ∙ numbered_first g.plain (trees_variables (trees_of (own_terms c))) g.order g.met
       ∙ ap (λ ls. literals_instance (renaming (distinct (flat_map literal_variables ls))) ls) (sym plain-left)
 
   d-small : clause_size d ≤ MOST_SYMBOLS

@@ -14,11 +14,12 @@ use Rattle.fol_base.proofs.AboutClauses.RuleLemmas.{resolved-parts, merged-parts
 use Rattle.kernel_steps.specs.Names.{sorted_names}
 use Rattle.eq_rules.specs.Concluding.{GivesNumbered}
 use Rattle.eq_rules.proofs.AboutConclusions.RenumberedLemmas.{met_onward, variables_between}
-use Rattle.eq_rules.proofs.AboutConclusions.StepLemmas.{others-variables, some_there}
+use Rattle.eq_rules.proofs.AboutConclusions.StepLemmas.{others-variables}
 use Rattle.eq_rules.proofs.AboutConclusions.WideLemmas.{renamed-literals}
 use Rattle.unit_cutting.specs.Removing.{AreRenumbered, plain_without}
 use Rattle.kernel_steps.specs.Lines.{own_terms}
 use Rattle.unit_cutting.proofs.AboutCuts.OwnLemmas.{own-literals, own-below}
+use Rattle.list_lemmas.proofs.Results.{some-there}
 
 abbrev pub Rule : Type 0
 Rule = List TreeLiteral → Option (List TreeLiteral)
@@ -72,7 +73,7 @@ module _
 
   given : rule own_literals ≡ Some (plain_without c i)
   given =
-      let found = some_there (rule own_literals) (ap (λ ls. is_some (rule ls)) (own-literals c) ∙ applies) in
+      let found = some-there (rule own_literals) (ap (λ ls. is_some (rule ls)) (own-literals c) ∙ applies) in
       found.1 ∙ ap (λ ls. let o : Option (List TreeLiteral) = Some ls in o) (sym (removes.parts own_literals found.0 found.1))
 
   under : rule (literals_instance (substitution bind) c.literals) ≡ Some (literals_instance (renaming own.order) (plain_without c i))

@@ -1,5 +1,5 @@
-use Rattle.std.proofs.Common.{◌≡◌, ◌<◌, ◌≤◌, ◌++◌, ◌∷◌, [], ℕ, List, map, length, ap, sym, subst, ◌∙◌, arith, rules, Result, Ok, Err}
-use Rattle.std.specs.Prelude.{slice_set, OnErr}
+use Rattle.std.proofs.Common.{◌≡◌, ◌<◌, ◌≤◌, ◌++◌, ◌∷◌, [], ℕ, List, map, length, ap, sym, subst, ◌∙◌, arith, rules}
+use Rattle.std.specs.Prelude.{slice_set}
 use Rattle.fol_base.specs.Tree.{Tree}
 use Rattle.fol_base.specs.Term.{tree_of}
 use Rattle.disc_tree.specs.declared.label.Label.{Label}
@@ -15,6 +15,7 @@ use Rattle.disc_tree.proofs.AboutPaths.SlotLemmas.{child-get, children-length, s
 use Rattle.disc_tree.proofs.AboutPaths.ChildLemmas.{child-lighter}
 use Rattle.disc_tree.proofs.AboutChanges.EditLemmas.{path-step, with-some, sound-edited, children-kept, rows-with-more, sound-inserted, rows-inserted, rows-with-entry}
 use Rattle.disc_tree.proofs.AboutQueries.FoundLemmas.{if_ok-map}
+use Rattle.list_lemmas.proofs.Results.{on-err}
 use Rattle.disc_tree.proofs.node.+insert.Goals as goal
 
 abbrev Content : Type 0
@@ -58,10 +59,6 @@ Node::insert-invariant_of-self-in-Ok t c =
     c.index_mut.ensures.value c.self.invariant
     (with-some (path_of_all (trees_left c.of-next.result), c.args.entry) (rows_below c.index_mut.result.now.below) (rows_below c.add.new.self)
     c.in_ok-add-in-Ok.ensures.ok)
-
-on-err : {X E A : Type 0} (r : Result X E) → A → OnErr r A
-on-err (Ok x) h = tt
-on-err (Err e) h = h
 
 pub Node::insert-invariant_of-self-in_err-add-in-Ok : goal.Node::insert-invariant_of-self-in_err-add-in-Ok
 Node::insert-invariant_of-self-in_err-add-in-Ok t c =

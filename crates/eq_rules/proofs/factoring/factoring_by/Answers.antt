@@ -18,13 +18,14 @@ use Rattle.bank_clause.specs.Clause.{clause_at}
 use Rattle.unifier.specs.Renaming.{AreNamedTerms}
 use Rattle.unifier.proofs.AboutLayouts.BoundLemmas.{fits-above}
 use Rattle.eq_rules.specs.Inferences.{alone}
-use Rattle.eq_rules.proofs.AboutFactoring.FactorAnswers.{lent_there, part_size, sides_size, total_size, told_size}
+use Rattle.eq_rules.proofs.AboutFactoring.FactorAnswers.{lent_there, sides_size, total_size, told_size}
 use Rattle.eq_rules.proofs.AboutFactoring.FactoringLemmas.{factor_terms, factoring_not_eligible, factoring_not_ordered, factoring_applies, plain_size, factoring_heavy, factoring_concluded}
 use Rattle.eq_rules.proofs.AboutConclusions.SideLemmas.{alike-kinds}
 use Rattle.eq_rules.proofs.AboutConclusions.MadeLemmas.{size_above, size_within, alone_there, made_by_factoring}
 use Rattle.eq_rules.proofs.AboutConclusions.PremiseLemmas.{own_terms, literal-kind}
 use Rattle.eq_rules.proofs.factoring.factoring_by.Goals as goal
 use Rattle.unifier.specs.SolvedForm.{substitution_of}
+use Rattle.kbo_order.proofs.AboutMultisets.ClauseLoops.{mapped-size}
 
 pub terms-requires-clause-fits : goal.terms-requires-clause-fits
 terms-requires-clause-fits c =
@@ -49,7 +50,7 @@ is_not_below-requires c =
     let total = total_size c.in_ok-size.size (clause_size (clause_instance σ d)) size (omega (arith, c.if-size-ge-SIZE_LIMIT.false)) in
     let t = factor_terms (λ f. false) select_nothing (alone m) m.number d place (alone_there m) b r terms [] h in
     let here = ap (λ l. literal_size (literal_instance (substitution terms) l)) lent_is in
-    let low = part_size (substitution terms) d.literals place.becomes.literal r.literal_i r.i_there in
+    let low = mapped-size (substitution terms) d.literals place.becomes.literal r.literal_i r.i_there in
     omega (arith, here, low, t.size, total, c.if-size-ge-SIZE_LIMIT.false)
 
 pub returns-then-not-is_not_below : goal.returns-then-not-is_not_below
@@ -157,8 +158,8 @@ overflow_sub-size c =
     let comes : c.instance_size-comes.result ≡ min (tree_size (instance (substitution terms) v)) (2 ^ 64 - 1) =
     c.instance_size-comes.ensures ∙ ap (λ x. min (tree_size (instance (substitution terms) x)) (2 ^ 64 - 1)) (c.other_side.ensures ∙ ap (other_side_of place.other.side) other_is) in
     let whole_is : sum_by literal_size (literals_instance (substitution terms) d.literals) ≡ c.in_ok-size.size = t.size ∙ total in
-    let first = part_size (substitution terms) d.literals place.becomes.literal r.literal_i r.i_there in
-    let second = part_size (substitution terms) d.literals place.other.literal r.literal_j r.j_there in
+    let first = mapped-size (substitution terms) d.literals place.becomes.literal r.literal_i r.i_there in
+    let second = mapped-size (substitution terms) d.literals place.other.literal r.literal_j r.j_there in
     let told =
     told_size _ (tree_size (instance (substitution terms) s)) (tree_size (instance (substitution terms) v))
     (sum_by literal_size (literals_instance (substitution terms) d.literals)) c.in_ok-size.size c.instance_size-goes.result c.instance_size-comes.result
@@ -192,8 +193,8 @@ overflow_add-size c =
     let comes : c.instance_size-comes.result ≡ min (tree_size (instance (substitution terms) v)) (2 ^ 64 - 1) =
     c.instance_size-comes.ensures ∙ ap (λ x. min (tree_size (instance (substitution terms) x)) (2 ^ 64 - 1)) (c.other_side.ensures ∙ ap (other_side_of place.other.side) other_is) in
     let whole_is : sum_by literal_size (literals_instance (substitution terms) d.literals) ≡ c.in_ok-size.size = t.size ∙ total in
-    let first = part_size (substitution terms) d.literals place.becomes.literal r.literal_i r.i_there in
-    let second = part_size (substitution terms) d.literals place.other.literal r.literal_j r.j_there in
+    let first = mapped-size (substitution terms) d.literals place.becomes.literal r.literal_i r.i_there in
+    let second = mapped-size (substitution terms) d.literals place.other.literal r.literal_j r.j_there in
     let told =
     told_size _ (tree_size (instance (substitution terms) s)) (tree_size (instance (substitution terms) v))
     (sum_by literal_size (literals_instance (substitution terms) d.literals)) c.in_ok-size.size c.instance_size-goes.result c.instance_size-comes.result
@@ -227,8 +228,8 @@ returns-then-size-goes-gt-MOST_SYMBOLS c mode none usage used =
     let comes : c.instance_size-comes.result ≡ min (tree_size (instance (substitution terms) v)) (2 ^ 64 - 1) =
     c.instance_size-comes.ensures ∙ ap (λ x. min (tree_size (instance (substitution terms) x)) (2 ^ 64 - 1)) (c.other_side.ensures ∙ ap (other_side_of place.other.side) other_is) in
     let whole_is : sum_by literal_size (literals_instance (substitution terms) d.literals) ≡ c.in_ok-size.size = t.size ∙ total in
-    let first = part_size (substitution terms) d.literals place.becomes.literal r.literal_i r.i_there in
-    let second = part_size (substitution terms) d.literals place.other.literal r.literal_j r.j_there in
+    let first = mapped-size (substitution terms) d.literals place.becomes.literal r.literal_i r.i_there in
+    let second = mapped-size (substitution terms) d.literals place.other.literal r.literal_j r.j_there in
     let told =
     told_size _ (tree_size (instance (substitution terms) s)) (tree_size (instance (substitution terms) v))
     (sum_by literal_size (literals_instance (substitution terms) d.literals)) c.in_ok-size.size c.instance_size-goes.result c.instance_size-comes.result
@@ -304,8 +305,8 @@ returns c mode none usage used =
     let comes : c.instance_size-comes.result ≡ min (tree_size (instance (substitution terms) v)) (2 ^ 64 - 1) =
     c.instance_size-comes.ensures ∙ ap (λ x. min (tree_size (instance (substitution terms) x)) (2 ^ 64 - 1)) (c.other_side.ensures ∙ ap (other_side_of place.other.side) other_is) in
     let whole_is : sum_by literal_size (literals_instance (substitution terms) d.literals) ≡ c.in_ok-size.size = t.size ∙ total in
-    let first = part_size (substitution terms) d.literals place.becomes.literal r.literal_i r.i_there in
-    let second = part_size (substitution terms) d.literals place.other.literal r.literal_j r.j_there in
+    let first = mapped-size (substitution terms) d.literals place.becomes.literal r.literal_i r.i_there in
+    let second = mapped-size (substitution terms) d.literals place.other.literal r.literal_j r.j_there in
     let told =
     told_size _ (tree_size (instance (substitution terms) s)) (tree_size (instance (substitution terms) v))
     (sum_by literal_size (literals_instance (substitution terms) d.literals)) c.in_ok-size.size c.instance_size-goes.result c.instance_size-comes.result

@@ -1,9 +1,19 @@
 use Rattle.std.proofs.Common.{◌≡◌, ℕ, List, [], ◌∷◌, None, Some, inl, inr, refl, arith}
 use Rattle.std.proofs.lemmas.Option.{none-some}
 use Rattle.std.specs.Prelude.{codes}
-use Rattle.prover_main.specs.Words.{prove}
-use Rattle.prover_main.specs.Examples.{counting}
+use Rattle.outside.specs.Faults.{Rose}
+use Rattle.prover_main.specs.Words.{Command, prove, check, command_of}
+use Rattle.prover_main.specs.Rows.{IsDerivationLost, PrintedLoadFault}
+use Rattle.prover_main.specs.Examples.{counting, holding_nothing, taking, proving_row}
 use Rattle.prover_main.proofs.laws.row_examples.Goals as goal
+
+not-risen : Rose 3 3 → ⊥
+not-risen (inl more) = omega (arith, more)
+not-risen (inr end) = omega (arith, end)
+
+nothing-lost : (command : Command) → command_of proving_row ≡ Some command → (name : List ℕ) → IsDerivationLost (holding_nothing 3 3) command name → ⊥
+nothing-lost (prove file root options) e name lost = lost
+nothing-lost (check file derivation root) e name lost = not-risen lost.says.rose
 
 nothing-begins : (x : ℕ) (xs : List ℕ) → Some [] ≡ Some (x ∷ xs) → ⊥
 nothing-begins x xs e = cc
@@ -27,7 +37,30 @@ pub returns-clause-nothing_told : goal.returns-clause-nothing_told
 returns-clause-nothing_told c row = nothing-begins _ _ (row refl).says
 
 pub returns-clause-no_fault : goal.returns-clause-no_fault
-returns-clause-no_fault c row = elim ((row refl).says.rose) [
-  | inl more ↦ omega (arith, more)
-  | inr end ↦ omega (arith, end)
-]
+returns-clause-no_fault c row = by (row refl).command (row refl).is_command (row refl).says
+  where
+    by :
+        (command : Command) → command_of proving_row ≡ Some command
+        → PrintedLoadFault (holding_nothing 3 3) (taking []) command → ⊥
+    by command e f = elim f.lost [
+      | inl unread ↦ not-risen ((unread.1).load refl).0
+      | inr lost ↦ nothing-lost command e f.name lost
+    ]
+
+pub returns-clause-no_saturation : goal.returns-clause-no_saturation
+returns-clause-no_saturation c row = none-some _ (row refl).is_prove
+
+pub returns-clause-nothing_given_up : goal.returns-clause-nothing_given_up
+returns-clause-nothing_given_up c row = none-some _ (row refl).is_prove
+
+pub returns-clause-no_form_fault : goal.returns-clause-no_form_fault
+returns-clause-no_form_fault c row = none-some _ (row.only refl).is_command
+
+pub returns-clause-nothing_lost : goal.returns-clause-nothing_lost
+returns-clause-nothing_lost c row = not-risen (row.only refl).rose
+
+pub returns-clause-no_read_fault : goal.returns-clause-no_read_fault
+returns-clause-no_read_fault c row = none-some _ (row.only refl).is_command
+
+pub returns-clause-nothing_refused : goal.returns-clause-nothing_refused
+returns-clause-nothing_refused c row = none-some _ (row.refused refl).is_check

@@ -7,8 +7,9 @@ use Rattle.signature.specs.Occurrences.{term_symbols}
 use Rattle.skolem.specs.BoundTerm.{bound_tree}
 use Rattle.skolem.specs.Skolemized.{AreKnown}
 use Rattle.skolem.specs.Literal.{filled}
-use Rattle.skolem.proofs.AboutBindings.TermLemmas.{listed, known-then, head-known}
+use Rattle.skolem.proofs.AboutBindings.TermLemmas.{known-then, head-known}
 use Rattle.skolem.proofs.AboutFormulas.LiteralLemmas.{fills_left, head-filled}
+use Rattle.fol_base.proofs.AboutTerms.TreeLemmas.{trees_of-list_of}
 use Rattle.skolem.proofs.filling.+filled.Goals as goal
 
 pub filled-number_in-requires : goal.filled-number_in-requires
@@ -21,7 +22,7 @@ filled-number_in-requires t c =
 
 pub filled_terms-loop-term-init : goal.filled_terms-loop-term-init
 filled_terms-loop-term-init t c = (
-  ap (λ us. trees_of (us ++ fills_left c.args.signature.now c.args.terms.now 0 (map bound_tree c.args.bound.now))) c.new-trees.ensures ∙ listed _,
+  ap (λ us. trees_of (us ++ fills_left c.args.signature.now c.args.terms.now 0 (map bound_tree c.args.bound.now))) c.new-trees.ensures ∙ trees_of-list_of _,
   refl,
   c.requires.known,
 )

@@ -2,7 +2,8 @@ use Rattle.std.proofs.Common.{sym, ◌∙◌, ap, subst}
 use Rattle.std.specs.List.Sorted.{IsNonDecreasingBy}
 use Rattle.std.proofs.lemmas.List.Sorted.{IsNonDecreasingBy-from_sort}
 use Rattle.signature.specs.Clausal.{made_in_order}
-use Rattle.skolem.proofs.AboutBindings.OrderLemmas.{order-of-sorted, if-ok}
+use Rattle.skolem.proofs.AboutBindings.OrderLemmas.{order-of-sorted}
+use Rattle.list_lemmas.proofs.Results.{ok-then}
 use Rattle.skolem.proofs.progress.made_in_order.Goals as goal
 
 pub once_each-requires : goal.once_each-requires
@@ -15,6 +16,6 @@ once_each-requires c =
 
 pub returns : goal.returns
 returns c =
-    if-ok c.once_each.result _ _
+    ok-then c.once_each.result _ _
     (λ found h. order-of-sorted c.args.variables c.args.occurring.now.items c.sort.new.self.items found.items c.sort.ensures.permutation
     (h ∙ ap (made_in_order c.args.variables) c.as_slice.ensures.value)) c.once_each.ensures

@@ -2,9 +2,10 @@ use Rattle.std.proofs.Common.{◌≡◌, true, false, Some, map, get_or, sym, �
 use Rattle.std.specs.Prelude.{slice_get}
 use Rattle.std.proofs.lemmas.Bool.{true≢false}
 use Rattle.fol_base.specs.Lent.{lent_of}
-use Rattle.subsume.proofs.AboutSearch.PlacingLemmas.{item, taken-marked}
+use Rattle.subsume.proofs.AboutSearch.PlacingLemmas.{taken-marked}
 use Rattle.subsume.proofs.AboutSearch.ChoosingLemmas.{no-partner-more, no-partner-taken}
 use Rattle.subsume.proofs.choosing.partners.Goals.{then-not-used-at+in_ok-stands+then-stands+else-count-limit, then-not-used-at+in_ok-stands+else-stands, else-not-used-at}
+use Rattle.list_lemmas.proofs.Places.{get-mapped}
 use Rattle.subsume.proofs.choosing.partners.Goals as goal
 
 pub loop-at-preserved : goal.loop-at-preserved
@@ -16,7 +17,7 @@ loop-at-preserved c =
       | then-not-used-at+in_ok-stands+then-stands+else-count-limit w ↦ (omega (arith, w.count-is, c.loop-at.invariant.0), λ e. absurd (omega (arith, w.count-is, e)))
       | then-not-used-at+in_ok-stands+else-stands w ↦
           let there : slice_get ds at ≡ Some (lent_of w.index-targets-at.result) =
-          item lent_of c.args.targets.now at w.index-targets-at.result c.loop-at-test.true w.index-targets-at.is in (
+          get-mapped lent_of c.args.targets.now at w.index-targets-at.result c.loop-at-test.true w.index-targets-at.is in (
             omega (arith, w.count-is, c.loop-at.invariant.0),
             λ e.
                 no-partner-more c.args.so_far.now c.args.used.now l ds at (lent_of w.index-targets-at.result) there

@@ -5,15 +5,16 @@ use Rattle.fol_base.proofs.ListLemmas.{map-take_more_item}
 use Rattle.subsume.specs.declared.entry.Entry.{Entry}
 use Rattle.subsume.specs.Searching.{AddsSubsumed}
 use Rattle.subsume.specs.Tree.{members_of}
-use Rattle.subsume.proofs.AboutSearch.PlacingLemmas.{item, below-item}
+use Rattle.subsume.proofs.AboutSearch.PlacingLemmas.{below-item}
 use Rattle.subsume.proofs.AboutSearch.SearchLemmas.{adds-answered}
 use Rattle.subsume.proofs.collecting.collect_entries.Goals.{then-branch+in_ok-push, else-branch}
+use Rattle.list_lemmas.proofs.Places.{get-mapped}
 use Rattle.subsume.proofs.collecting.collect_entries.Goals as goal
 
 pub does_subsume-requires-clause-member : goal.does_subsume-requires-clause-member
 does_subsume-requires-clause-member c =
     below-item (IsMemberOf c.args.bank.now) (members_of c.args.entries.now) c.loop-entry.entry-index c.entry-item.result.member
-    (item (λ (e : Entry). e.member) c.args.entries.now c.loop-entry.entry-index c.entry-item.result c.loop-entry-test.true c.entry-item.is)
+    (get-mapped (λ (e : Entry). e.member) c.args.entries.now c.loop-entry.entry-index c.entry-item.result c.loop-entry-test.true c.entry-item.is)
     c.requires.members
 
 pub loop-entry-preserved : goal.loop-entry-preserved

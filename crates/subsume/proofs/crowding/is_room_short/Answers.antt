@@ -3,9 +3,10 @@ use Rattle.std.specs.Prelude.{slice_get}
 use Rattle.std.proofs.lemmas.Bool.{ltb-true}
 use Rattle.fol_base.specs.Lent.{lent_of}
 use Rattle.subsume.specs.Choosing.{HasNoPartner}
-use Rattle.subsume.proofs.AboutSearch.PlacingLemmas.{item, length-mapped}
 use Rattle.subsume.proofs.AboutSearch.CrowdingLemmas.{AreWithin, within-other, within-more, crowded-none}
 use Rattle.subsume.proofs.crowding.is_room_short.Goals.{then-others-eq0, else-others-eq0}
+use Rattle.list_lemmas.proofs.Lists.{length-mapped}
+use Rattle.list_lemmas.proofs.Places.{get-mapped}
 use Rattle.subsume.proofs.crowding.is_room_short.Goals as goal
 
 pub loop-one-preserved : goal.loop-one-preserved
@@ -17,7 +18,7 @@ loop-one-preserved c =
     let room = c.in_ok-room.room.items in
     let i = c.loop-one.one-index in
     let l = lent_of c.one-item.result in
-    let at : slice_get ls i ≡ Some l = item lent_of c.args.patterns.now i c.one-item.result c.loop-one-test.true c.one-item.is in
+    let at : slice_get ls i ≡ Some l = get-mapped lent_of c.args.patterns.now i c.one-item.result c.loop-one-test.true c.one-item.is in
     let before : AreWithin ls ds c.args.marks.now so_far room c.loop-one.crowd i = c.loop-one.invariant.1 in
     elim c.if-others-eq0.branch [
       | then-others-eq0 w ↦

@@ -6,10 +6,11 @@ use Rattle.subsume.specs.declared.entry.Entry.{Entry}
 use Rattle.subsume.specs.Tree.{members_of}
 use Rattle.subsume.specs.Searching.{IsSubsumer}
 use Rattle.subsume.specs.Query.{IsLowestSubsumer}
-use Rattle.subsume.proofs.AboutSearch.PlacingLemmas.{item, below-item}
+use Rattle.subsume.proofs.AboutSearch.PlacingLemmas.{below-item}
 use Rattle.subsume.proofs.AboutSearch.SearchLemmas.{lowest-stays, lowest-answered, nobody}
 use Rattle.std.proofs.lemmas.Bool.{true≢false}
 use Rattle.subsume.proofs.lowest.lowest_entry.Goals.{then-branch, else-branch}
+use Rattle.list_lemmas.proofs.Places.{get-mapped}
 use Rattle.subsume.proofs.lowest.lowest_entry.Goals as goal
 
 pub loop-entry-init : goal.loop-entry-init
@@ -19,7 +20,7 @@ loop-entry-init c = λ usage d q all.
 pub does_lower-requires-clause-member : goal.does_lower-requires-clause-member
 does_lower-requires-clause-member c =
     below-item (IsMemberOf c.args.bank.now) (members_of c.args.entries.now) c.loop-entry.entry-index c.entry-item.result.member
-    (item (λ (e : Entry). e.member) c.args.entries.now c.loop-entry.entry-index c.entry-item.result c.loop-entry-test.true c.entry-item.is)
+    (get-mapped (λ (e : Entry). e.member) c.args.entries.now c.loop-entry.entry-index c.entry-item.result c.loop-entry-test.true c.entry-item.is)
     c.requires.members
 
 pub loop-entry-preserved : goal.loop-entry-preserved

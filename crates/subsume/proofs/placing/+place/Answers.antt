@@ -14,8 +14,10 @@ use Rattle.unifier.specs.Laws.{are_of_one_kind}
 use Rattle.subsume.specs.Kinds.{TurnsInto, are_alike}
 use Rattle.subsume.specs.Placing.{IsFoundFor, Places}
 use Rattle.subsume.proofs.AboutSearch.ChoosingLemmas.{found-in-order, literals-permutation, taken-out}
-use Rattle.subsume.proofs.AboutSearch.PlacingLemmas.{StandsAtNone, sides-then, onto-first, onto-second, one_kind, place-target, none-found, none-alike, none-free, nowhere, item, set-back, free-unmarked, taken-marked, marks-kept, length-mapped}
+use Rattle.subsume.proofs.AboutSearch.PlacingLemmas.{StandsAtNone, sides-then, onto-first, onto-second, one_kind, place-target, none-found, none-alike, none-free, nowhere, set-back, free-unmarked, taken-marked, marks-kept}
 use Rattle.subsume.proofs.placing.+place.Goals.{place-then-not-used-at+then-are_alike+in_ok-found+else-is_some, place-else-not-used-at, place-else-not-used-at-via-then-not-used-at+else-are_alike, place-else-not-used-at-via-else-not-used-at, place_onto-then-is_some-via-then-is_some, place_onto-then-is_some-via-else-is_some+then-is_truth}
+use Rattle.list_lemmas.proofs.Lists.{length-mapped}
+use Rattle.list_lemmas.proofs.Places.{get-mapped}
 use Rattle.subsume.proofs.placing.+place.Goals as goal
 
 pub place-returns-then-is_some-clause-found : goal.place-returns-then-is_some-clause-found
@@ -33,7 +35,7 @@ place-returns-then-is_some-clause-found t c =
     found-in-order ls (l ∷ rest) ds c.args.used.now c.args.so_far c.in_ok-found.found perm
     (subst (λ us. IsFoundFor (l ∷ rest) ds (Places us (l ∷ rest) ds c.args.so_far) c.in_ok-found.found) used
     (place-target rest ds c.loop-at.at c.loop-at.used c.args.so_far l (lent_of c.index-targets-at.result) c.in_ok-found.found
-    (item lent_of c.args.targets.now c.loop-at.at c.index-targets-at.result c.loop-at-test.true c.index-targets-at.is)
+    (get-mapped lent_of c.args.targets.now c.loop-at.at c.index-targets-at.result c.loop-at-test.true c.index-targets-at.is)
     (free-unmarked c.loop-at.used c.loop-at.at (omega arith) free) some c.in_ok-found.ensures.found))
 
 pub place-returns-then-is_some-clause-below : goal.place-returns-then-is_some-clause-below
@@ -59,7 +61,7 @@ place-returns-then-is_some-clause-function_terms t c = λ p wl wd so.
     let both = and_parts (is_literal p l) (list_all (is_literal p) rest) (literals-permutation p ls (l ∷ rest) perm wl) in
     c.in_ok-found.ensures.function_terms p both.1 wd both.0
     (list_all-item (is_literal p) ds c.loop-at.at (lent_of c.index-targets-at.result)
-    (item lent_of c.args.targets.now c.loop-at.at c.index-targets-at.result c.loop-at-test.true c.index-targets-at.is) wd)
+    (get-mapped lent_of c.args.targets.now c.loop-at.at c.index-targets-at.result c.loop-at-test.true c.index-targets-at.is) wd)
     so
 
 pub place-loop-at-preserved : goal.place-loop-at-preserved
@@ -68,7 +70,7 @@ place-loop-at-preserved t c =
     let rest : List TreeLiteral = map lent_of c.as_slice-rest.result.now in
     let ds = map lent_of c.args.targets.now in
     let there : slice_get ds c.loop-at.at ≡ Some (lent_of c.index-targets-at.result) =
-    item lent_of c.args.targets.now c.loop-at.at c.index-targets-at.result c.loop-at-test.true c.index-targets-at.is in
+    get-mapped lent_of c.args.targets.now c.loop-at.at c.index-targets-at.result c.loop-at-test.true c.index-targets-at.is in
     let before : StandsAtNone l rest ds c.loop-at.used c.args.so_far c.loop-at.at = c.loop-at.invariant.1 in
     let used = c.loop-at.invariant.0 in
     let m = lent_of c.index-targets-at.result in

@@ -1,8 +1,8 @@
 use Rattle.std.proofs.Common.{map, length, sym, ◌∙◌}
 use Rattle.std.proofs.lemmas.Result.{IfOk-weaker}
 use Rattle.fol_base.specs.Lent.{lent_of}
-use Rattle.subsume.proofs.AboutSearch.PlacingLemmas.{length-mapped}
 use Rattle.subsume.proofs.AboutSearch.ChoosingLemmas.{start-found}
+use Rattle.list_lemmas.proofs.Lists.{length-mapped}
 use Rattle.subsume.proofs.subsuming.find_places.Goals as goal
 
 pub returns-clause-found : goal.returns-clause-found

@@ -1,19 +1,18 @@
 use Rattle.std.proofs.Common.{true, false, refl, sym, ◌∙◌, arith}
 use Rattle.fol_base.specs.Lent.{lent_of}
-use Rattle.kbo_order.proofs.AboutMultisets.ClauseLoops.{greater-is}
-use Rattle.eq_rules.proofs.AboutFactoring.FactorAnswers.{item_size}
+use Rattle.kbo_order.proofs.AboutMultisets.ClauseLoops.{greater-is, item-size}
 use Rattle.superpose.proofs.AboutSites.SettledLemmas.{greatest-itself, greatest-more, greatest-done, greatest-fails}
 use Rattle.superpose.proofs.settled.is_greatest.Goals as goal
 use Rattle.superpose.proofs.settled.is_greatest.Goals.{else-other-index-via-then-other-index+else-not-is_greater, else-other-index-via-else-other-index}
 
 pub compare_literals-requires-clause-left_size : goal.compare_literals-requires-clause-left_size
 compare_literals-requires-clause-left_size c =
-    let low = item_size c.args.literals.now c.args.index (lent_of c.literal-literal.result) c.literal-literal.ensures in
+    let low = item-size c.args.literals.now c.args.index (lent_of c.literal-literal.result) c.literal-literal.ensures in
     omega (arith, low, c.requires.size)
 
 pub compare_literals-requires-clause-right_size : goal.compare_literals-requires-clause-right_size
 compare_literals-requires-clause-right_size c =
-    let low = item_size c.args.literals.now c.loop-other.other (lent_of c.literal.result) c.literal.ensures in
+    let low = item-size c.args.literals.now c.loop-other.other (lent_of c.literal.result) c.literal.ensures in
     omega (arith, low, c.requires.size)
 
 pub returns-then-not-is_greater : goal.returns-then-not-is_greater

@@ -7,9 +7,9 @@ use Rattle.fol_base.specs.Lent.{lent_of}
 use Rattle.fol_base.specs.Order.{tree_greater}
 use Rattle.kbo_order.proofs.AboutReading.HeadLemmas.{greater-answer}
 use Rattle.bank_clause.specs.Clause.{clause_at}
-use Rattle.eq_rules.proofs.AboutFactoring.FactorAnswers.{item_size}
 use Rattle.eq_rules.proofs.AboutConclusions.SideLemmas.{sides-size}
 use Rattle.superpose.proofs.AboutSites.SettledLemmas.{is-settled-no}
+use Rattle.kbo_order.proofs.AboutMultisets.ClauseLoops.{item-size}
 use Rattle.superpose.proofs.settled.is_settled.Goals as goal
 
 pub compare-requires-clause-left_size : goal.compare-requires-clause-left_size
@@ -17,7 +17,7 @@ compare-requires-clause-left_size c =
     let d = clause_at c.args.member.now.clause in
     let l = lent_of c.literal-literal.result in
     let at = ap (λ (ls : List TreeLiteral). slice_get ls c.args.at.literal) (sym c.lend-literals.ensures) ∙ c.literal-literal.ensures in
-    let low = item_size d.literals c.args.at.literal l at in
+    let low = item-size d.literals c.args.at.literal l at in
     let side_is = ap tree_size c.side.ensures in
     omega (arith, low, sides-size c.args.at.side l, side_is, c.size.ensures.size, c.size.ensures.limit)
 
@@ -26,7 +26,7 @@ compare-requires-clause-right_size c =
     let d = clause_at c.args.member.now.clause in
     let l = lent_of c.literal-literal.result in
     let at = ap (λ (ls : List TreeLiteral). slice_get ls c.args.at.literal) (sym c.lend-literals.ensures) ∙ c.literal-literal.ensures in
-    let low = item_size d.literals c.args.at.literal l at in
+    let low = item-size d.literals c.args.at.literal l at in
     let side_is = ap tree_size c.other_side.ensures in
     omega (arith, low, sides-size c.args.at.side l, side_is, c.size.ensures.size, c.size.ensures.limit)
 

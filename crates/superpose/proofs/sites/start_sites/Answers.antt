@@ -1,5 +1,4 @@
-use Rattle.std.proofs.Common.{◌≡◌, ◌++◌, ◌∷◌, [], ℕ, false, Option, None, Some, List, length, ap, refl, sym, ◌∙◌, arith}
-use Rattle.std.proofs.lemmas.Bool.{true≢false}
+use Rattle.std.proofs.Common.{◌≡◌, ◌++◌, ◌∷◌, [], List, length, ap, sym, ◌∙◌, arith}
 use Rattle.std.specs.Prelude.{filter}
 use Rattle.std.specs.Option.{is_some}
 use Rattle.std.proofs.lemmas.List.{length-map}
@@ -9,6 +8,7 @@ use Rattle.bank_clause.specs.Clause.{clause_at}
 use Rattle.superpose.specs.Sites.{all_sides, can_start}
 use Rattle.eq_rules.specs.declared.concluding.LiteralSide.{LiteralSide}
 use Rattle.superpose.proofs.AboutSites.SiteLemmas.{no_starts, starts_more}
+use Rattle.list_lemmas.proofs.Results.{not-some}
 use Rattle.superpose.proofs.sites.start_sites.Goals as goal
 
 pub returns-then-is_some : goal.returns-then-is_some
@@ -27,10 +27,6 @@ loop-literal-preserved c mode none =
     (c.in_ok-push_start-2.ensures mode none
     ∙ ap (λ (s : LiteralSide). c.push_start.new.from.items ++ filter (can_start mode ls) (s ∷ [])) c.right_of.ensures)
 
-none_there : (o : Option ℕ) → is_some o ≡ false → o ≡ None
-none_there None h = refl
-none_there (Some x) h = absurd (true≢false h)
-
 pub returns : goal.returns
 returns c mode choice_is =
     let m = c.args.member.now in
@@ -38,5 +34,5 @@ returns c mode choice_is =
     let read : length c.literals-count.result.now ≡ length m.clause.literals = ap (λ (xs : List BankLit). length xs) c.literals-count.ensures.literals in
     let many : c.loop-literal.literal ≡ length ls =
     omega (arith, read, length-map m.clause.literals literal_at, c.loop-literal-test.false, c.loop-literal.auto.literal-end) in
-    c.loop-literal.invariant mode (sym choice_is ∙ none_there c.args.choice (sym c.if-is_some.ensures))
+    c.loop-literal.invariant mode (sym choice_is ∙ not-some c.args.choice (sym c.if-is_some.ensures))
     ∙ ap (λ n. filter (can_start mode ls) (all_sides n)) many

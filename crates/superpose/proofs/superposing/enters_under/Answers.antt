@@ -1,8 +1,8 @@
 use Rattle.std.proofs.Common.{sym, arith}
 use Rattle.fol_base.specs.Instance.{substitution}
 use Rattle.fol_base.specs.Lent.{lent_of}
-use Rattle.eq_rules.proofs.AboutFactoring.FactorAnswers.{part_size}
 use Rattle.superpose.proofs.AboutSites.SettledLemmas.{settled-enters}
+use Rattle.kbo_order.proofs.AboutMultisets.ClauseLoops.{mapped-size}
 use Rattle.superpose.proofs.superposing.enters_under.Goals as goal
 
 pub is_settled-requires : goal.is_settled-requires
@@ -18,5 +18,5 @@ returns-then-is_settled c =
 pub is_not_below-requires : goal.is_not_below-requires
 is_not_below-requires c =
     let low =
-    part_size (substitution c.args.second_terms.now) c.args.second.now c.args.into.now.at.literal (lent_of c.literal-target.result) c.literal-target.ensures in
+    mapped-size (substitution c.args.second_terms.now) c.args.second.now c.args.into.now.at.literal (lent_of c.literal-target.result) c.literal-target.ensures in
     omega (arith, low, c.requires.size)

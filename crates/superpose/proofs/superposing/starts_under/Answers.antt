@@ -1,8 +1,8 @@
 use Rattle.std.proofs.Common.{sym, arith}
 use Rattle.fol_base.specs.Instance.{substitution}
 use Rattle.fol_base.specs.Lent.{lent_of}
-use Rattle.eq_rules.proofs.AboutFactoring.FactorAnswers.{part_size}
 use Rattle.superpose.proofs.AboutSites.SettledLemmas.{settled-starts}
+use Rattle.kbo_order.proofs.AboutMultisets.ClauseLoops.{mapped-size}
 use Rattle.superpose.proofs.superposing.starts_under.Goals as goal
 
 pub starts_settled-requires : goal.starts_settled-requires
@@ -15,5 +15,5 @@ returns-then-starts_settled c =
 
 pub is_not_below-requires : goal.is_not_below-requires
 is_not_below-requires c =
-    let low = part_size (substitution c.args.terms.now) c.args.literals.now c.args.from.literal (lent_of c.literal-equation.result) c.literal-equation.ensures in
+    let low = mapped-size (substitution c.args.terms.now) c.args.literals.now c.args.from.literal (lent_of c.literal-equation.result) c.literal-equation.ensures in
     omega (arith, low, c.requires.size)

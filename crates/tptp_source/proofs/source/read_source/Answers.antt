@@ -1,5 +1,6 @@
 use Rattle.tptp_source.specs.Shape.{tree_of}
-use Rattle.tptp_source.proofs.AboutWholes.SourceReads.{some-holds, none-holds, answer-spelled, answer-none, no_term-none}
+use Rattle.tptp_source.proofs.AboutWholes.SourceReads.{answer-spelled, answer-none, no_term-none}
+use Rattle.list_lemmas.proofs.Results.{some-holds, none-holds}
 use Rattle.tptp_source.proofs.source.read_source.Goals as goal
 
 pub returns-in-Some-clause-spelled : goal.returns-in-Some-clause-spelled

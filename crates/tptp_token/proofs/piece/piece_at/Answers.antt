@@ -3,9 +3,9 @@ use Rattle.std.proofs.lemmas.Bool.{and_left, and_right}
 use Rattle.tptp_token.specs.Pieces.{StaysWithin}
 use Rattle.tptp_token.specs.declared.piece.Piece.TheVariants.{Space}
 use Rattle.tptp_token.proofs.AboutTexts.PieceLemmas.{blank-piece, line-piece, comment-piece, other-piece-of, piece-within}
-use Rattle.tptp_token.proofs.AboutLexemes.WordLemmas.{suffix}
-use Rattle.tptp_token.proofs.piece.piece_at.Goals as goal
 use Rattle.tptp_token.proofs.piece.piece_at.Goals.{else-first-eq47-via-then-first-eq47+else-starts_with, else-first-eq47-via-else-first-eq47}
+use Rattle.list_lemmas.proofs.Places.{take-rest}
+use Rattle.tptp_token.proofs.piece.piece_at.Goals as goal
 
 pub returns-then-is_blank-clause-piece : goal.returns-then-is_blank-clause-piece
 returns-then-is_blank-clause-piece c = blank-piece _ _ (sym c.is_blank.ensures ∙ c.if-is_blank.true)
@@ -19,7 +19,7 @@ pub returns-then-starts_with-clause-piece : goal.returns-then-starts_with-clause
 returns-then-starts_with-clause-piece c =
     c.block_at.ensures
     ∙ comment-piece _ _ _ (sym c.is_blank.ensures ∙ c.if-is_blank.false) c.if-first-eq37.false c.if-first-eq47.true
-    (sym c.starts_with.ensures ∙ c.if-starts_with.true) (suffix c.args.rest.now 1)
+    (sym c.starts_with.ensures ∙ c.if-starts_with.true) (take-rest c.args.rest.now 1)
 
 pub returns-then-starts_with-clause-within : goal.returns-then-starts_with-clause-within
 returns-then-starts_with-clause-within c =

@@ -1,7 +1,8 @@
 use Rattle.std.proofs.Common.{◌≡◌, ◌-◌, length, sym, ap, ◌∙◌, arith}
 use Rattle.tptp_token.specs.Lexing.{lexed_from}
 use Rattle.tptp_token.proofs.AboutTexts.PieceLemmas.{after, start, token-next, space-next, bad-last, unclosed-last, end-last}
-use Rattle.tptp_token.proofs.AboutLexemes.WordLemmas.{suffix, length-suffix}
+use Rattle.tptp_token.proofs.AboutLexemes.WordLemmas.{length-suffix}
+use Rattle.list_lemmas.proofs.Places.{take-rest}
 use Rattle.tptp_token.proofs.scan.tokens.Goals as goal
 
 pub loop-first-init : goal.loop-first-init
@@ -23,7 +24,7 @@ loop-first-preserved-in-Token c =
       whole =
           token-next _ _ _ _ _ _ _ _ _ c.in-Token.kind c.in-Token.length c.loop-first.invariant.whole c.in-Some.ensures.cases.0
           c.in-Token.ensures.piece c.in-Token.ensures.within.0 c.in-Token.ensures.within.1 c.in_ok-push-in-Token.ensures.ok
-          (suffix c.loop-first.rest.now c.in-Token.length)
+          (take-rest c.loop-first.rest.now c.in-Token.length)
           (omega (arith, long, size, c.loop-first.invariant.within, c.in-Token.ensures.within.1));
     }
 
@@ -36,7 +37,7 @@ loop-first-preserved c =
       whole =
           space-next _ _ _ _ _ _ _ _ c.in-Space.length c.loop-first.invariant.whole c.in-Some.ensures.cases.0
           c.in-Space.ensures.piece c.in-Space.ensures.within.0 c.in-Space.ensures.within.1
-          (suffix c.loop-first.rest.now c.in-Space.length)
+          (take-rest c.loop-first.rest.now c.in-Space.length)
           (omega (arith, long, size, c.loop-first.invariant.within, c.in-Space.ensures.within.1));
     }
 

@@ -2,7 +2,8 @@ use Rattle.std.proofs.Common.{rules, tests, ◌∙◌, ap, length, not, unwrap_o
 use Rattle.std.proofs.lemmas.Iterator.{YieldsList-from_slice}
 use Rattle.std.proofs.lemmas.Iterator.Search.{position_from_yields_List}
 use Rattle.tptp_token.specs.Spelling.{is_digit}
-use Rattle.tptp_token.proofs.AboutTexts.CountLemmas.{unwrap_or-position, not-not}
+use Rattle.tptp_token.proofs.AboutTexts.CountLemmas.{unwrap_or-position}
+use Rattle.list_lemmas.proofs.Bools.{not-not}
 use Rattle.tptp_token.proofs.word.digit_count.Goals as goal
 
 pub returns-clause-length : goal.returns-clause-length

@@ -2,14 +2,15 @@ use Rattle.std.proofs.Common.{◌≤◌, ◌∙◌, length, subst, arith, ap}
 use Rattle.tptp_token.specs.declared.token.Lexed.{Lexed}
 use Rattle.tstp_checker.specs.Lines.{setting_in, taken_in}
 use Rattle.tstp_checker.specs.Checking.{IsTakenAt}
-use Rattle.tstp_checker.proofs.AboutDerivations.CheckLemmas.{text-tokens-few, one-more, ended-accepted, ended-refused, fault-told, passed}
+use Rattle.tstp_checker.proofs.AboutDerivations.CheckLemmas.{text-tokens-few, one-more, ended-accepted, ended-refused, fault-told}
+use Rattle.list_lemmas.proofs.Results.{err-passed}
 use Rattle.tstp_checker.proofs.derivation.check_lines.Goals as goal
 
 pub returns-in_err-next-clause-refused : goal.returns-in_err-next-clause-refused
 returns-in_err-next-clause-refused c =
     let before = c.loop-next.lines in
     let many = ap (λ (x : Lexed). length x.tokens) c.requires.lexed in
-    passed _ _ _ c.from_residual.ensures.1
+    err-passed _ _ _ c.from_residual.ensures.1
     (fault-told c.args.text.now (setting_in c.args.lines.now) (setting_in before) c.loop-next.next (taken_in before) _ c.requires.form
     c.loop-next.invariant.setting (omega (arith, many, c.loop-next-test.true, c.len.ensures)) c.loop-next.invariant.taken c.in_err-next.ensures.refused)
 

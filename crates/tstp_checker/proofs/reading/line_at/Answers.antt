@@ -3,7 +3,8 @@ use Rattle.tptp_token.specs.declared.token.Token.{Token}
 use Rattle.tptp_tree.specs.declared.limits.TheConstants.{MOST_DERIVATION_NESTING}
 use Rattle.tptp_reader.specs.Annotating.{IsFaultOf}
 use Rattle.tptp_reader.specs.declared.cause.ReadFault.{ReadFault}
-use Rattle.tstp_checker.proofs.AboutDerivations.ReadingLemmas.{some-holds, none-holds, fault-no-line, notes-within, line-read, source-no-line}
+use Rattle.tstp_checker.proofs.AboutDerivations.ReadingLemmas.{fault-no-line, notes-within, line-read, source-no-line}
+use Rattle.list_lemmas.proofs.Results.{some-holds, none-holds}
 use Rattle.tstp_checker.proofs.reading.line_at.Goals as goal
 
 pub returns-in-Err-At-clause-none : goal.returns-in-Err-At-clause-none

@@ -1,7 +1,8 @@
 use Rattle.std.proofs.Common.{ℕ, ◌<◌, ◌-◌, not, get_or, ap, sym, ◌∙◌, ⊎_elim, arith}
 use Rattle.std.proofs.lemmas.Bool.{cases_lt}
-use Rattle.unifier.proofs.AboutLayouts.PlaceLemmas.{ltb-is, ltb-not}
+use Rattle.unifier.proofs.AboutLayouts.PlaceLemmas.{ltb-is}
 use Rattle.unifier.proofs.AboutClasses.CodeLemmas.{first-above, first-equal}
+use Rattle.list_lemmas.proofs.Numbers.{not-less}
 use Rattle.unifier.proofs.layout.is_first.Goals as goal
 
 pub returns : goal.returns
@@ -14,6 +15,6 @@ returns c =
     ltb-is (get_or codes (i - 1) 0) (get_or codes i 0) above
     ∙ sym (ap not (first-above codes c.requires.order i c.requires.inside some above)))
     (λ le.
-    ltb-not (get_or codes (i - 1) 0) (get_or codes i 0) le
+    not-less (get_or codes (i - 1) 0) (get_or codes i 0) le
     ∙ sym (ap not (first-equal codes c.requires.order i c.requires.inside some le)))
     (cases_lt (get_or codes (i - 1) 0) (get_or codes i 0))

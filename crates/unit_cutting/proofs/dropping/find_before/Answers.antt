@@ -3,8 +3,8 @@ use Rattle.std.specs.Prelude.{slice_get}
 use Rattle.std.proofs.lemmas.List.{length-map}
 use Rattle.fol_base.specs.Literal.{clause_of, literal_of}
 use Rattle.fol_base.specs.Order.{equivalent_literals}
-use Rattle.subsume.proofs.AboutSearch.PlacingLemmas.{item}
 use Rattle.unit_cutting.proofs.AboutLeaving.DroppingLemmas.{before-more, equal-there}
+use Rattle.list_lemmas.proofs.Places.{get-mapped}
 use Rattle.unit_cutting.proofs.dropping.find_before.Goals as goal
 
 pub returns-then-equivalent_literals : goal.returns-then-equivalent_literals
@@ -15,10 +15,10 @@ returns-then-equivalent_literals c =
     let stays_less : c.loop-stays.stays < length c.as_slice-literals.result.now = omega (arith, goes_less, c.loop-stays-test.true) in
     let stays_there : slice_get (map literal_of ls) c.loop-stays.stays ≡ Some (literal_of c.index-literals-stays.result) =
     ap (λ xs. slice_get (map literal_of xs) c.loop-stays.stays) (sym c.as_slice-literals.ensures)
-    ∙ item literal_of c.as_slice-literals.result.now c.loop-stays.stays c.index-literals-stays.result stays_less c.index-literals-stays.is in
+    ∙ get-mapped literal_of c.as_slice-literals.result.now c.loop-stays.stays c.index-literals-stays.result stays_less c.index-literals-stays.is in
     let goes_there : slice_get (map literal_of ls) c.args.goes ≡ Some (literal_of c.index-literals-goes.result) =
     ap (λ xs. slice_get (map literal_of xs) c.args.goes) (sym c.as_slice-literals.ensures)
-    ∙ item literal_of c.as_slice-literals.result.now c.args.goes c.index-literals-goes.result goes_less c.index-literals-goes.is in
+    ∙ get-mapped literal_of c.as_slice-literals.result.now c.args.goes c.index-literals-goes.result goes_less c.index-literals-goes.is in
     record {
       goes_inside = c.requires;
       applies =
@@ -35,10 +35,10 @@ loop-stays-preserved c =
     let stays_less : c.loop-stays.stays < length c.as_slice-literals.result.now = omega (arith, goes_less, c.loop-stays-test.true) in
     let stays_there : slice_get (map literal_of ls) c.loop-stays.stays ≡ Some (literal_of c.index-literals-stays.result) =
     ap (λ xs. slice_get (map literal_of xs) c.loop-stays.stays) (sym c.as_slice-literals.ensures)
-    ∙ item literal_of c.as_slice-literals.result.now c.loop-stays.stays c.index-literals-stays.result stays_less c.index-literals-stays.is in
+    ∙ get-mapped literal_of c.as_slice-literals.result.now c.loop-stays.stays c.index-literals-stays.result stays_less c.index-literals-stays.is in
     let goes_there : slice_get (map literal_of ls) c.args.goes ≡ Some (literal_of c.index-literals-goes.result) =
     ap (λ xs. slice_get (map literal_of xs) c.args.goes) (sym c.as_slice-literals.ensures)
-    ∙ item literal_of c.as_slice-literals.result.now c.args.goes c.index-literals-goes.result goes_less c.index-literals-goes.is in
+    ∙ get-mapped literal_of c.as_slice-literals.result.now c.args.goes c.index-literals-goes.result goes_less c.index-literals-goes.is in
     before-more (clause_of c.args.clause.now) c.loop-stays.stays c.args.goes (literal_of c.index-literals-stays.result)
     (literal_of c.index-literals-goes.result) stays_there goes_there
     (ap₂ equivalent_literals (sym c.lend.ensures) (sym c.lend-literal.ensures) ∙ sym c.equivalent_literals.ensures ∙ c.if-equivalent_literals.false)

@@ -3,8 +3,8 @@ use Rattle.std.specs.Prelude.{slice_get}
 use Rattle.std.proofs.lemmas.List.{length-map}
 use Rattle.std.proofs.lemmas.Option.{slice_get_within}
 use Rattle.fol_base.specs.Literal.{literal_of}
-use Rattle.subsume.proofs.AboutSearch.PlacingLemmas.{item}
 use Rattle.unit_cutting.proofs.AboutLeaving.DroppingLemmas.{trivial-all, trivial-more, trivial-not, trivial-there}
+use Rattle.list_lemmas.proofs.Places.{get-mapped}
 use Rattle.unit_cutting.proofs.dropping.find_trivial.Goals as goal
 
 pub loop-index-preserved : goal.loop-index-preserved
@@ -14,7 +14,7 @@ loop-index-preserved c =
     let l = c.index-literals-index.result in
     let at : slice_get (map literal_of ls) i ≡ Some (literal_of l) =
     ap (λ xs. slice_get (map literal_of xs) i) (sym c.as_slice-literals.ensures)
-    ∙ item literal_of c.as_slice-literals.result.now i l c.loop-index-test.true c.index-literals-index.is in
+    ∙ get-mapped literal_of c.as_slice-literals.result.now i l c.loop-index-test.true c.index-literals-index.is in
     trivial-more (map literal_of ls) i c.loop-index.invariant
     (trivial-not (map literal_of ls) i (literal_of l) at (sym c.is_trivial.ensures ∙ c.if-is_trivial.false))
 
@@ -32,7 +32,7 @@ returns-then-is_trivial c =
     let l = c.index-literals-index.result in
     let at : slice_get (map literal_of ls) i ≡ Some (literal_of l) =
     ap (λ xs. slice_get (map literal_of xs) i) (sym c.as_slice-literals.ensures)
-    ∙ item literal_of c.as_slice-literals.result.now i l c.loop-index-test.true c.index-literals-index.is in (
+    ∙ get-mapped literal_of c.as_slice-literals.result.now i l c.loop-index-test.true c.index-literals-index.is in (
       slice_get_within (map literal_of ls) i (literal_of l) at,
       trivial-there (map literal_of ls) i (literal_of l) at (sym c.is_trivial.ensures ∙ c.if-is_trivial.true),
     )

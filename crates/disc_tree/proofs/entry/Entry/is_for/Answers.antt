@@ -1,14 +1,11 @@
-use Rattle.std.proofs.Common.{◌≡◌, ℕ, List, [], ◌∷◌, Some, None, length, true, false, refl, ap, sym, ◌∙◌, eq-eqb}
+use Rattle.std.proofs.Common.{◌≡◌, ℕ, List, [], Some, None, length, true, false, ap, sym, ◌∙◌, eq-eqb}
 use Rattle.std.proofs.lemmas.Bool.{eqb-true}
 use Rattle.fol_base.specs.Tree.{Tree, tree_variables}
 use Rattle.fol_base.specs.Term.{tree_of}
 use Rattle.disc_tree.specs.Entries.{without_front}
 use Rattle.disc_tree.proofs.AboutQueries.FrontLemmas.{front-whole, front-itself}
+use Rattle.list_lemmas.proofs.Lists.{empty-by-length}
 use Rattle.disc_tree.proofs.entry.Entry.is_for.Goals as goal
-
-none-left : (xs : List ℕ) → length xs ≡ 0 → xs ≡ []
-none-left [] h = refl
-none-left (x ∷ xs) h = cc
 
 pub returns-in-Some : goal.returns-in-Some
 returns-in-Some c =
@@ -18,7 +15,7 @@ returns-in-Some c =
     let front : without_front vs c.self.inside.variables.items ≡ Some c.in-Some.others.now =
     ap (without_front vs) (sym c.deref.ensures.value) ∙ c.in-Some.ensures in (
       λ h.
-          let none : c.in-Some.others.now ≡ [] = none-left c.in-Some.others.now (eqb-true (length c.in-Some.others.now) 0 (sym c.is_empty.ensures ∙ h)) in (
+          let none : c.in-Some.others.now ≡ [] = empty-by-length c.in-Some.others.now (eqb-true (length c.in-Some.others.now) 0 (sym c.is_empty.ensures ∙ h)) in (
             sym own ∙ front-whole vs c.self.inside.variables.items (front ∙ ap (λ xs. Some xs) none),
             sym (ap (λ (e : Tree × ℕ). e.1) c.self.view_is) ∙ c.if-self-number.false,
           ),

@@ -7,7 +7,8 @@ use Rattle.bank_clause.specs.Clause.{clause_at}
 use Rattle.partners.specs.Partners.{HasAlso, PartnerSet, placed_numbered}
 use Rattle.partners.specs.declared.partners.Partner.{Partner}
 use Rattle.partners.proofs.FewLemmas.{few-sites}
-use Rattle.partners.proofs.KnownLemmas.{absent-kept, also-of-bank, made-known, on_ok-at, put-known, put-seen, seen}
+use Rattle.partners.proofs.KnownLemmas.{absent-kept, also-of-bank, made-known, put-known, put-seen, seen}
+use Rattle.list_lemmas.proofs.Results.{on-ok-at}
 use Rattle.partners.proofs.partners.Partners.insert.Goals as goal
 
 pub invariant_of-self : goal.invariant_of-self
@@ -32,7 +33,7 @@ invariant_of-self-2 c =
     let number = c.args.member.now.number in
     let small : clause_size (clause_at c.args.member.now.clause) < SIZE_LIMIT = omega arith in
     let q : Partner = record { position = c.args.position; member = record { number = number; clause = c.in_ok-clause.clause }; sites = c.in_ok-sites.sites } in
-    let updates = on_ok-at c.insert.result c.unwrap.result c.unwrap.ensures c.insert.ensures.updates in
+    let updates = on-ok-at c.insert.result c.unwrap.result c.unwrap.ensures c.insert.ensures.updates in
     put-known a.mode number a.starts a.places c.put_all.new.starts c.put_all.new.places a.known.entries c.insert.new.self.entries q
     (λ n. updates.0 n ∙ ap (λ es. cond (nat_eq number n) (Some q) (lookup (nat_eq n) es)) c.reserve.ensures.entries)
     c.put_all.ensures.starts_kept c.put_all.ensures.places_kept
@@ -47,7 +48,7 @@ returns-clause-ok c =
     let a = c.self.inside in
     let m = c.args.member.now in
     let q : Partner = record { position = c.args.position; member = record { number = m.number; clause = c.in_ok-clause.clause }; sites = c.in_ok-sites.sites } in
-    let updates = on_ok-at c.insert.result c.unwrap.result c.unwrap.ensures c.insert.ensures.updates in
+    let updates = on-ok-at c.insert.result c.unwrap.result c.unwrap.ensures c.insert.ensures.updates in
     subst (λ (s : PartnerSet). HasAlso (record { position = c.args.position; member = m }) s (seen a.mode c.insert.new.self.entries)) c.self.view_is
     (put-seen a.mode m.number a.known.entries c.insert.new.self.entries q m c.args.position refl refl c.in_ok-clause.ensures
     (λ n. updates.0 n ∙ ap (λ es. cond (nat_eq m.number n) (Some q) (lookup (nat_eq n) es)) c.reserve.ensures.entries))

@@ -4,8 +4,9 @@ use Rattle.std.specs.Map.{lookup}
 use Rattle.fol_base.specs.Lent.{lent_of}
 use Rattle.rewriting.specs.declared.units.Unit.{Unit}
 use Rattle.rewriting.proofs.AboutSearches.TryLemmas.{alone-lent}
-use Rattle.rewriting.proofs.AboutIndexes.NumberedLemmas.{put-numbered, put-of-bank, on_ok-at}
+use Rattle.rewriting.proofs.AboutIndexes.NumberedLemmas.{put-numbered, put-of-bank}
 use Rattle.rewriting.proofs.AboutIndexes.UnitLemmas.{absent-kept, clause_of_unit, made-unit, put-unit}
+use Rattle.list_lemmas.proofs.Results.{on-ok-at}
 use Rattle.rewriting.proofs.units.Units.insert.Goals as goal
 
 pub invariant_of-self : goal.invariant_of-self
@@ -26,7 +27,7 @@ invariant_of-self-2 c =
     let made =
     made-unit c.put_sides.new.sides c.args.member.now.number c.args.member.now.clause c.in_ok-clause.clause c.in_ok-by.by
     (lent_of c.literal-equation.result) c.requires.unit (omega arith) c.in_ok-clause.ensures equation c.in_ok-by.ensures c.in_ok-put_sides.ensures.put in
-    let updates = on_ok-at c.insert.result c.unwrap.result c.unwrap.ensures c.insert.ensures.updates in
+    let updates = on-ok-at c.insert.result c.unwrap.result c.unwrap.ensures c.insert.ensures.updates in
     put-unit c.args.member.now.number c.from.result c.self.inside.sides c.put_sides.new.sides c.self.inside.clauses.entries c.insert.new.self.entries unit
     c.from.ensures (λ n. updates.0 n ∙ ap (λ es. cond (nat_eq c.from.result n) (Some unit) (lookup (nat_eq n) es)) c.reserve.ensures.entries)
     c.put_sides.ensures.kept made c.self.invariant
@@ -34,7 +35,7 @@ invariant_of-self-2 c =
 pub returns-clause-ok : goal.returns-clause-ok
 returns-clause-ok c =
     let unit : Unit = record { clause = c.in_ok-clause.clause; by = c.in_ok-by.by } in
-    let updates = on_ok-at c.insert.result c.unwrap.result c.unwrap.ensures c.insert.ensures.updates in
+    let updates = on-ok-at c.insert.result c.unwrap.result c.unwrap.ensures c.insert.ensures.updates in
     rw (← c.self.view_is)
     (put-numbered clause_of_unit c.args.member.now.number c.from.result c.self.inside.clauses.entries c.insert.new.self.entries unit c.args.member.now.clause
     c.from.ensures c.in_ok-clause.ensures

@@ -1,6 +1,7 @@
 use Rattle.std.proofs.Common.{refl, ap, ◌∙◌, ◌++◌}
 use Rattle.std.specs.Option.{option_to_list}
-use Rattle.skolem.proofs.AboutBindings.BindingsLemmas.{chained-pop, present, ok-unless, when-ok}
+use Rattle.skolem.proofs.AboutBindings.BindingsLemmas.{chained-pop, present}
+use Rattle.list_lemmas.proofs.Results.{ok-unless, when-ok}
 use Rattle.skolem.proofs.bindings.Bindings.pop.Goals as goal
 
 pub unwrap-requires : goal.unwrap-requires

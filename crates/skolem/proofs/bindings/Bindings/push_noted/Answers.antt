@@ -6,7 +6,8 @@ use Rattle.skolem.specs.Name.{same_name}
 use Rattle.fol_base.specs.Tree.{tree_variables}
 use Rattle.skolem.specs.BoundTerm.{bound_tree}
 use Rattle.skolem.specs.Bindings.{place_in, HasVariables, Covers}
-use Rattle.skolem.proofs.AboutBindings.BindingsLemmas.{chained-push, when-ok}
+use Rattle.skolem.proofs.AboutBindings.BindingsLemmas.{chained-push}
+use Rattle.list_lemmas.proofs.Results.{when-ok}
 use Rattle.skolem.proofs.bindings.Bindings.push_noted.Goals as goal
 
 pub invariant_of-self-2 : goal.invariant_of-self-2

@@ -1,4 +1,4 @@
-use Rattle.std.proofs.Common.{true, not, map, ap, ap₂, sym, ◌∙◌}
+use Rattle.std.proofs.Common.{true, false, not, map, ap, ap₂, sym, ◌∙◌}
 use Rattle.fol_base.specs.Literal.{literal_of}
 use Rattle.split_parts.specs.PartTable.{PartTable}
 use Rattle.split_parts.specs.Tags.{has_part, with_part, tag_of}
@@ -23,15 +23,23 @@ returns-in-Some-clause-new c =
     (sym (told _ _ c.self.inside.parts.keys _ true (ap (map literal_of) c.as_slice-literals.ensures) (ap (λ (t : PartTable). t.parts) c.self.view_is)
     c.in-Some.ensures.found))
 
+pub push_new-requires-clause-new : goal.push_new-requires-clause-new
+push_new-requires-clause-new c =
+    ap₂ has_part (c.in_ok-key.ensures ∙ ap (map literal_of) c.as_slice-literals.ensures) c.reserve.ensures.parts
+    ∙ told _ (map literal_of c.args.part.now.literals) c.self.inside.parts.keys c.args.self.now.parts false
+    (ap (map literal_of) c.as_slice-literals.ensures) (ap (λ (t : PartTable). t.parts) c.self.view_is) c.in_default.ensures.found
+
 pub returns-clause-added : goal.returns-clause-added
 returns-clause-added c =
-    c.put.ensures.added ∙ ap₂ with_part c.reserve.ensures.parts (c.in_ok-key.ensures ∙ ap (map literal_of) c.as_slice-literals.ensures)
+    c.push_new.ensures.added
+    ∙ ap₂ with_part c.reserve.ensures.parts (c.in_ok-key.ensures ∙ ap (map literal_of) c.as_slice-literals.ensures)
 
 pub returns-clause-tag : goal.returns-clause-tag
 returns-clause-tag c =
-    c.put.ensures.tag ∙ ap₂ tag_of c.reserve.ensures.parts (c.in_ok-key.ensures ∙ ap (map literal_of) c.as_slice-literals.ensures)
+    c.push_new.ensures.tag ∙ ap₂ tag_of c.reserve.ensures.parts (c.in_ok-key.ensures ∙ ap (map literal_of) c.as_slice-literals.ensures)
 
 pub returns-clause-new : goal.returns-clause-new
 returns-clause-new c =
-    c.put.ensures.new
-    ∙ ap not (ap₂ has_part (c.in_ok-key.ensures ∙ ap (map literal_of) c.as_slice-literals.ensures) c.reserve.ensures.parts)
+    ap not
+    (sym (told _ (map literal_of c.args.part.now.literals) c.self.inside.parts.keys c.args.self.now.parts false
+    (ap (map literal_of) c.as_slice-literals.ensures) (ap (λ (t : PartTable). t.parts) c.self.view_is) c.in_default.ensures.found))

@@ -7,7 +7,7 @@ use Rattle.tptp_problem.specs.Formulas.{placed, missing, selected}
 use Rattle.tptp_problem.specs.Shape.{progress_of, selections}
 use Rattle.tptp_problem.proofs.AboutReading.FaultLemmas.{fault-then}
 use Rattle.tptp_problem.proofs.AboutFiles.FileLemmas.{missing-within, Included, one-less, included-fault, missing-fault, include-step, include-on, formula-on}
-use Rattle.tptp_problem.proofs.AboutReading.PassedLemmas.{passed}
+use Rattle.list_lemmas.proofs.Results.{err-passed}
 use Rattle.tptp_problem.proofs.reading.Reading.+reading.Goals as goal
 
 -- ---- include
@@ -29,7 +29,7 @@ include-returns-in_err-read-clause-fault g t c =
       name_is = c.as_str.ensures.value ∙ c.in_ok-name.ensures ∙ ap (loaded_name base) c.as_slice.ensures;
       around_is = ap selections c.as_slice-2.ensures.value ∙ c.in_ok-around.ensures ∙ ap (λ ns. selections s.around.now ++ ns ∷ []) c.as_slice-names.ensures;
     } in
-    passed _ _ _ c.from_residual-in_err-read.ensures.1
+    err-passed _ _ _ c.from_residual-in_err-read.ensures.1
     (fault-then _ _ _ (included-fault (g.L.Library.told c.args.library.now) base _ s c.args.first c.args.depth _ i _ _ (progress_of c.args.self.now) k)
     c.in_err-read.ensures.fault)
 

@@ -1,6 +1,7 @@
 use Rattle.std.proofs.Common.{◌++◌, ◌-◌, ap, ◌∙◌, arith}
 use Rattle.std.specs.Option.{option_to_list}
-use Rattle.tptp_reader.proofs.AboutReads.BoundLemmas.{counted-last, absent-not, counted-pop, ok-unless, when-ok}
+use Rattle.tptp_reader.proofs.AboutReads.BoundLemmas.{counted-last, absent-not, counted-pop}
+use Rattle.list_lemmas.proofs.Results.{ok-unless, when-ok}
 use Rattle.tptp_reader.proofs.bound.Bound.pop.Goals as goal
 
 pub overflow_sub-count : goal.overflow_sub-count

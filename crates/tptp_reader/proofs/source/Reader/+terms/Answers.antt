@@ -4,7 +4,8 @@ use Rattle.tptp_reader.specs.Telling.{one, Halts, ReadsBracketed}
 use Rattle.tptp_reader.specs.declared.cause.Halt.TheVariants.{At}
 use Rattle.tptp_reader.specs.declared.cause.Refusal.{Refusal as ToldRefusal}
 use Rattle.tptp_reader.proofs.AboutReads.TermReads.{no_arguments-read, arguments-read, arguments-halted, arguments-too_deep, terms-first, terms-more, terms-closed, terms-refused, terms-cut_off, terms-halted, word-read, word-halted, variable-read, variable-halted, other-halted}
-use Rattle.tptp_reader.proofs.AboutRuns.LoopLemmas.{passed, ok-then, err-then, first-halts}
+use Rattle.tptp_reader.proofs.AboutRuns.LoopLemmas.{passed, first-halts}
+use Rattle.list_lemmas.proofs.Results.{ok-then, err-then}
 use Rattle.tptp_reader.proofs.source.Reader.+terms.Goals as goal
 
 pub arguments-returns-then-not-is_mark-clause-read : goal.arguments-returns-then-not-is_mark-clause-read

@@ -2,8 +2,8 @@ use Rattle.std.proofs.Common.{Bool, true, false}
 use Rattle.tptp_token.specs.TextTokens.{lexeme_of}
 use Rattle.tptp_reader.specs.TellingNotes.{stack_of, GoesOn, EntersWith, EntersTooDeep, IsTooDeep}
 use Rattle.tptp_reader.specs.declared.cause.Halt.{Halt}
-use Rattle.tptp_reader.proofs.AboutRuns.LoopLemmas.{ok-then, err-then}
 use Rattle.tptp_reader.proofs.AboutReads.NotesReads.{entered-goes_on, entered-too_deep, popped-goes_on, nothing-popped, lent-closes}
+use Rattle.list_lemmas.proofs.Results.{ok-then, err-then}
 use Rattle.tptp_reader.proofs.source.Reader.note.Goals as goal
 
 pub returns-then-not-closes_innermost-clause-goes_on : goal.returns-then-not-closes_innermost-clause-goes_on

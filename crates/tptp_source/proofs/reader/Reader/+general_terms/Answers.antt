@@ -1,8 +1,9 @@
 use Rattle.std.proofs.Common.{sym, ◌∙◌, refl, arith}
 use Rattle.tptp_source.specs.Machine.{word_opens, dollar_opens}
-use Rattle.tptp_source.proofs.AboutWholes.RunLemmas.{passed, ok-then, err-then, leads-then, halts-after}
+use Rattle.tptp_source.proofs.AboutWholes.RunLemmas.{passed, leads-then, halts-after}
 use Rattle.tptp_source.proofs.AboutParts.PartReads.{part-out, variable-read, distinct-read, unsigned-read, word-leads, dollar-leads, sign-leads, tilde-leads, bracket-leads, nothing-halts}
 use Rattle.tptp_source.proofs.AboutParts.ItemReads.{alone-read, alone-halts, joined-read, joined-halts, parts-first, parts-more, parts-read, second-halts, further-halts, items-first, items-more, item-halts, first-halts, items-read, unclosed-halts, arguments-read, arguments-halt, no_arguments-read, empty_list-read, list-read, list-halts}
+use Rattle.list_lemmas.proofs.Results.{ok-then, err-then}
 use Rattle.tptp_source.proofs.reader.Reader.+general_terms.Goals as goal
 
 pub arguments-returns-then-has_mark-clause-read : goal.arguments-returns-then-has_mark-clause-read

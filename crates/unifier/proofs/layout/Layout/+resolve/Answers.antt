@@ -8,7 +8,8 @@ use Rattle.unifier.specs.Equations.{item_of}
 use Rattle.unifier.specs.Resolving.{IsTermResolved, AreTermsResolved}
 use Rattle.unifier.proofs.AboutLayouts.LayoutLemmas.{drop-before}
 use Rattle.unifier.proofs.AboutLayouts.WalkLemmas.{rest-none}
-use Rattle.unifier.proofs.AboutEquations.ResolveLemmas.{not-some, already-resolved, free-resolved, bound-resolved, application-resolved, no-terms-resolved, more-terms-resolved}
+use Rattle.unifier.proofs.AboutEquations.ResolveLemmas.{already-resolved, free-resolved, bound-resolved, application-resolved, no-terms-resolved, more-terms-resolved}
+use Rattle.list_lemmas.proofs.Results.{not-some}
 use Rattle.unifier.proofs.layout.Layout.+resolve.Goals as goal
 
 pub resolve_variable-returns-in-Some : goal.resolve_variable-returns-in-Some

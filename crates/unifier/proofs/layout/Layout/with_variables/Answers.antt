@@ -1,4 +1,4 @@
-use Rattle.std.proofs.Common.{◌≡◌, ◌==◌, Bool, refl, ℕ, ◌+◌, ◌∷◌, ◌++◌, [], List, true, false, not, take, get_or, sym, ◌∙◌, subst}
+use Rattle.std.proofs.Common.{◌≡◌, ◌==◌, ℕ, ◌+◌, ◌∷◌, ◌++◌, [], List, take, get_or, sym, ◌∙◌, subst}
 use Rattle.std.specs.Prelude.{nat_lt}
 use Rattle.std.specs.List.{list_any}
 use Rattle.std.proofs.lemmas.List.{take_more}
@@ -6,12 +6,9 @@ use Rattle.std.proofs.lemmas.Bool.{not-true}
 use Rattle.unifier.specs.declared.layout.Layout.{Layout}
 use Rattle.unifier.specs.Layout.{HasVariables}
 use Rattle.unifier.proofs.AboutClasses.CodeLemmas.{above-earlier, same-variables, more-variables}
-use Rattle.unifier.proofs.layout.Layout.with_variables.Goals as goal
 use Rattle.unifier.proofs.layout.Layout.with_variables.Goals.{then-is_first+in_ok-add_variable, else-is_first}
-
-not-false : (b : Bool) → not b ≡ false → b ≡ true
-not-false true h = refl
-not-false false h = cc
+use Rattle.list_lemmas.proofs.Bools.{not-false}
+use Rattle.unifier.proofs.layout.Layout.with_variables.Goals as goal
 
 pub add_variable-requires-clause-after : goal.add_variable-requires-clause-after
 add_variable-requires-clause-after c =

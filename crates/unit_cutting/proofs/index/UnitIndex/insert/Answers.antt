@@ -6,9 +6,10 @@ use Rattle.fol_base.specs.Term.{tree_of}
 use Rattle.bank_clause.specs.Clause.{clause_at}
 use Rattle.bank_clause.specs.declared.member.Member.{Member}
 use Rattle.disc_tree.proofs.AboutPaths.EntryLemmas.{in-with}
-use Rattle.rewriting.proofs.AboutIndexes.NumberedLemmas.{on_ok-at, put-known, put-numbered, put-of-bank}
+use Rattle.rewriting.proofs.AboutIndexes.NumberedLemmas.{put-known, put-numbered, put-of-bank}
 use Rattle.unit_cutting.specs.Indexed.{IsIndexedAt}
 use Rattle.unit_cutting.proofs.IndexedLemmas.{alone-lent, clause_of_member, kept-others, made-unit, more-keeps}
+use Rattle.list_lemmas.proofs.Results.{on-ok-at}
 use Rattle.unit_cutting.proofs.index.UnitIndex.insert.Goals as goal
 
 pub invariant_of-self : goal.invariant_of-self
@@ -25,7 +26,7 @@ invariant_of-self-2 c =
     let n = c.args.member.now.number in
     let t = tree_of c.literal.result.left.now in
     let unit : Member = record { number = n; clause = c.in_ok-clause.clause } in
-    let updates = on_ok-at c.insert-2.result c.unwrap.result c.unwrap.ensures c.insert-2.ensures.updates in
+    let updates = on-ok-at c.insert-2.result c.unwrap.result c.unwrap.ensures c.insert-2.ensures.updates in
     let alone = alone-lent (clause_at c.args.member.now.clause).literals c.lend-literals.result (lent_of c.literal.result) c.requires.one c.lend-literals.ensures c.literal.ensures in
     put-known (IsIndexedAt c.self.inside.lefts) (IsIndexedAt c.insert.new.self) n c.from-2.result c.self.inside.units.entries c.insert-2.new.self.entries
     unit c.from-2.ensures
@@ -39,7 +40,7 @@ invariant_of-self-2 c =
 pub returns-clause-ok : goal.returns-clause-ok
 returns-clause-ok c =
     let unit : Member = record { number = c.args.member.now.number; clause = c.in_ok-clause.clause } in
-    let updates = on_ok-at c.insert-2.result c.unwrap.result c.unwrap.ensures c.insert-2.ensures.updates in
+    let updates = on-ok-at c.insert-2.result c.unwrap.result c.unwrap.ensures c.insert-2.ensures.updates in
     rw (← c.self.view_is)
     (put-numbered clause_of_member c.args.member.now.number c.from-2.result c.self.inside.units.entries c.insert-2.new.self.entries unit
     c.args.member.now.clause c.from-2.ensures c.in_ok-clause.ensures

@@ -10,8 +10,8 @@ use Rattle.tptp_problem.specs.Formulas.{Placed, placed}
 use Rattle.tptp_problem.proofs.AboutReading.ClosedLemmas.{problem-closed}
 use Rattle.signature.specs.Environment.{free_names, closed, different_names, under_for_all}
 use Rattle.laws_meaning.specs.Meaning.{are_closed}
-use Rattle.laws_meaning.specs.Laws.{ReadProblemsAreClosed}
-use Rattle.laws_meaning.proofs.AboutReading.BoundLemmas.{among-none, closed-clause, formula-names}
+use Rattle.prover_main.specs.Laws.{ReadProblemsAreClosed}
+use Rattle.prover_main.proofs.AboutReading.BoundLemmas.{among-none, closed-clause, formula-names}
 
 none-free :
     (b : Bool) (f : FormulaTree) → (b ≡ false → closed_within [] f ≡ true)

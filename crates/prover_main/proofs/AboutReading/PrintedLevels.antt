@@ -9,6 +9,7 @@ use Rattle.tptp_tree.specs.Spelling.{TermPhrase, variable_word, word_with, TermP
 use Rattle.tptp_tree.specs.Entries.{atom_of, LiteralPhrase, positive_literal, negated_literal, negated_in_brackets, ClausePhrase, literals, clause_in_brackets, literal_meant, literals_meant, clause_meant, Body, formula_body, clause_body, body_meant}
 use Rattle.tptp_tree.specs.Causes.{Refusal, too_deep, Surroundings, deeper, binding, begun, term_causes, arguments_causes, more_arguments_causes, atom_causes, more_variables_causes, unit_causes, units_causes, phrase_causes, literal_causes, more_literals_causes, clause_causes, outermost, body_causes}
 use Rattle.tptp_reader.specs.Answers.{AreFaultless}
+use Rattle.tstp_writer.proofs.ReadAgain.Parentheses.{parentheses-one, parentheses-some}
 use Rattle.tptp_tree.specs.Levels.{term_levels, arguments_levels, terms_levels, with_parentheses, formula_levels, operands_levels}
 
 -- ---- levels that are left
@@ -101,19 +102,11 @@ unit_levels f = with_parentheses (is_joined f) (formula_levels f)
 abbrev negated_levels : FormulaTree → ℕ
 negated_levels f = with_parentheses (not (is_bare f)) (formula_levels f)
 
-pub parentheses-one : (b : Bool) (n : ℕ) → with_parentheses b n ≤ suc n
-parentheses-one true n = omega arith
-parentheses-one false n = omega arith
-
-pub parentheses-some : (b : Bool) (n : ℕ) → n ≤ with_parentheses b n
-parentheses-some true n = omega arith
-parentheses-some false n = omega arith
-
 negated-one : (f : FormulaTree) → negated_levels f ≤ suc (unit_levels f)
 negated-one f =
     omega (arith, parentheses-one (not (is_bare f)) (formula_levels f), parentheses-some (is_joined f) (formula_levels f))
 
--- ---- formulas: what is printed in parentheses was written in brackets, or stands behind `~`
+-- ---- formulas: what is printed in parentheses was written in brackets, or stands after `~`
 
 atom-fits :
     (s : Surroundings) (a : Atom) (rest : List (Option Refusal)) → IsInside s

@@ -1,5 +1,5 @@
 use Rattle.sat_core.specs.Solver.{IsBegun, left_to_try}
-use Rattle.sat_core.proofs.solver.solve_from.Given as goal
+use Rattle.sat_core.proofs.solver.search.Given as goal
 
 abbrev pub invariant-loop-solver : goal.invariant-loop-solver
 invariant-loop-solver l = IsBegun l.names l.clauses l.solver

@@ -1,3 +1,0 @@
--- Problems that are read have no free variables.
-pub mod BoundLemmas
-pub mod ClosedLemmas
