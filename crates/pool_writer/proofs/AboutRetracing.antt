@@ -6,4 +6,3 @@ pub mod StepLemmas
 pub mod NeededLemmas
 pub mod RetraceLemmas
 pub mod CarryLemmas
-pub mod ClauseLemmas

@@ -14,11 +14,11 @@ use Rattle.tstp_writer.specs.Written.{IsWritten}
 
 -- The text of those lines of a refutation that the last one needs, in order, each with its parents' places among them for their numbers;
 -- and of the formulas that they stand on.
-pub record IsRefutationText (file : List ℕ) (problem : List Annotated) (pool_lines : List Line) (text : List ℕ) : Type 0 where
+pub record IsRefutationText (file : List ℕ) (problem : List Annotated) (old : List Line) (text : List ℕ) : Type 0 where
   pub numbers : List ℕ
-  pub needed : let steps = steps_of pool_lines in IsStepCone steps (length steps - 1) numbers
+  pub needed : let steps = steps_of old in IsStepCone steps (length steps - 1) numbers
   pub lines : List Line
-  pub retraced : AreRetraced numbers pool_lines lines
+  pub retraced : AreRetraced numbers old lines
   pub written : IsWritten file problem lines (length lines - 1) text
 
 -- The text is that of each derivation that has these steps, and these bodies for its names.
