@@ -222,6 +222,37 @@ abbrev pub split_history : List Event
 split_history =
     both_denied ++ ClaimSolve 7 ∷ ReturnRefuted 7 (chain 0 (link (positive_of 0) 1 ∷ link (positive_of 1) 2 ∷ []) ∷ []) ∷ []
 
+-- two clauses that share a part: p(X0) or q(X1), and p(X0) or not q(X1)
+abbrev pub sharing : Origin
+sharing = pool_of (clause (p (x 0) ∷ q (x 1) ∷ []) ∷ clause (p (x 0) ∷ not_q (x 1) ∷ []) ∷ [])
+
+-- p(a), p(X0), q(a) and q(b), of which p(X0) removes p(a); q(a) is to go by a clause, to leave p(X0) or q(X1), and q(b), to leave r or not p(X0):
+-- the replay asks nothing of a batch
+abbrev pub four_units : Origin
+four_units = pool_of (clause (p a ∷ []) ∷ clause (p (x 0) ∷ []) ∷ clause (q a ∷ []) ∷ clause (q b ∷ []) ∷ [])
+
+abbrev pub leaves : TreeClause → Fate
+leaves c = kept (line_of (Refl 2 0 []) c ∷ []) c
+
+abbrev pub falling_by : ℕ → List Event
+falling_by justifier =
+    Claim 1
+    ∷ Claim 2
+    ∷ return 2
+    (Met []
+    (removal 0 (1 ∷ []) (Dropped (Subsumed 1))
+    ∷ removal 2 (justifier ∷ []) (leaves (clause (p (x 0) ∷ q (x 1) ∷ [])))
+    ∷ removal 3 (1 ∷ []) (leaves (clause (r ∷ not_p (x 0) ∷ [])))
+    ∷ []))
+    ∷ []
+
+-- p(X0) removes p(a) while the job on q(a) is out, whose batch is refused then; and the clause goes by p(X0)
+abbrev pub refused_split : List Event
+refused_split = Claim 1 ∷ Claim 2 ∷ Claim 3 ∷ return 2 (Met [] (removal 0 (1 ∷ []) (Dropped (Subsumed 1)) ∷ [])) ∷ Stale 3 0 ∷ []
+
+abbrev pub split_again : List Event
+split_again = refused_split ++ return 3 (Gone (removal 2 (1 ∷ []) (leaves (clause (p (x 0) ∷ q (x 1) ∷ []))))) ∷ []
+
 -- ---- signed names: the four clauses of two atoms
 
 abbrev pub signed : Origin

@@ -9,7 +9,7 @@ use Rattle.kernel_steps.specs.Sized.{IsSizedInference}
 use Rattle.kernel_steps.specs.Symbols.{clause_symbols_pass}
 use Rattle.kernel_steps.specs.declared.key.Key.{Key}
 use Rattle.literal_selection.specs.Mode.{mode_of}
-use Rattle.sat_core.specs.Clause.{Valuation, clauses_true}
+use Rattle.sat_core.specs.Clause.{Valuation, valuation_of, clauses_true}
 use Rattle.laws_calculus.specs.Symbols.{HasSymbolsOf}
 use Rattle.laws_calculus.specs.Lifting.{among}
 use Rattle.pool_history.specs.Record.{PoolRecord, clauses_of, lives, is_awake, propositional_clauses}
@@ -67,6 +67,14 @@ SaturatedIsSaturated =
     → All (HasSymbolsOf functions) origin.inputs → IsLawful usage.is_predicate origin history
     → outcome_of (replay origin history) ≡ Some Saturated
     → IsSaturated functions (mode_of origin.options.select) origin.inputs (members_of (replay origin history))
+
+-- The final model makes every propositional clause true.
+abbrev pub SaturatedHasModel : Type 0
+SaturatedHasModel =
+    (is_predicate : ℕ → Bool) (origin : Origin) (history : List Event)
+    → IsLawful is_predicate origin history
+    → let r = replay origin history in
+    outcome_of r ≡ Some Saturated → IsTrue (clauses_true (valuation_of r.model) (propositional_clauses r))
 
 -- And each inference that is named among the members was met: it was counted and not set aside, and the job of its last premise found it.
 abbrev pub MembersHaveMet : Type 0

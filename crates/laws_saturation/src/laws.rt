@@ -6,5 +6,6 @@ mod outcomes;
 
 pub use carried::{carried_through, inferences_keep_symbols};
 pub use outcomes::{
-    fixed_are_refuted_or_spent, heavy_is_named, members_have_met, saturated_is_saturated,
+    fixed_are_refuted_or_spent, heavy_is_named, members_have_met, saturated_has_model,
+    saturated_is_saturated,
 };

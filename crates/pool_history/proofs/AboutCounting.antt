@@ -3,6 +3,7 @@ pub mod CountLemmas
 pub mod CountedLemmas
 pub mod CountedRecords
 pub mod DeathLemmas
+pub mod FirstRemovalLemmas
 pub mod JustifiedLemmas
 pub mod KnownLemmas
 pub mod ReducedLemmas

@@ -6,6 +6,7 @@ pub mod FormedLemmas
 pub mod JoinedLemmas
 pub mod LogLemmas
 pub mod NamedStepLemmas
+pub mod NameBoundLemmas
 pub mod NameTableLemmas
 pub mod NewNameLemmas
 pub mod OnePartLemmas

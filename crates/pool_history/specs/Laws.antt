@@ -1,5 +1,6 @@
 -- Laws of lawful histories, for every list of events.
-use Rattle.std.specs.Prelude.{◌≡◌, ◌≢◌, ◌⊎◌, ℕ, ◌+◌, ◌*◌, ◌^◌, ◌<◌, ◌≤◌, Bool, true, false, not, ◌&&◌, ◌==◌, nat_lt, List, [], ◌∷◌, ◌++◌, map, length, take, Option, Some, is_some, slice_get, filter, All, AllPairs, Contains, IsTrue, IsFalse}
+use Rattle.std.specs.Prelude.{◌≡◌, ◌≢◌, ◌⊎◌, ℕ, ◌+◌, ◌*◌, ◌^◌, ◌<◌, ◌≤◌, Bool, true, false, not, ◌&&◌, ◌==◌, nat_lt, List, [], ◌∷◌, ◌++◌, map, length, take, Option, None, Some, is_some, slice_get, filter, find, All, AllPairs, Contains, IsTrue, IsFalse}
+use lib.Pointwise.{pointwise}
 use Rattle.std.specs.List.{list_any, list_all, range_with_len}
 use Rattle.fol_base.specs.Clause.{TreeClause, clause_size}
 use Rattle.fol_base.specs.Selection.{SelectionMode}
@@ -101,6 +102,14 @@ SolverJobsStayOut =
     → (replay origin history).solver ≡ Some s → IsFalse (list_any (ends_job s.job) later)
     → let r = replay origin (history ++ later) in (r.solver ≡ Some s) × (handed r s ≡ handed (replay origin history) s)
 
+-- A job that an event ended is out no more, and no later job has its number.
+abbrev pub EndedJobsAreGone : Type 0
+EndedJobsAreGone =
+    (is_predicate : ℕ → Bool) (origin : Origin) (history : List Event) (job : ℕ)
+    → IsLawful is_predicate origin history → IsTrue (list_any (ends_job job) history)
+    → let r = replay origin history in
+    (given_job r job ≡ None) × ((s : SolverJob) → r.solver ≡ Some s → s.job ≢ job)
+
 -- ---- positions
 
 -- A position that was given stays: so for every list of events, lawful or not.
@@ -125,6 +134,13 @@ OutcomesStay =
     → IsLawful is_predicate origin (history ++ later) → outcome_of (replay origin history) ≡ Some outcome
     → outcome_of (replay origin (history ++ later)) ≡ Some outcome
 
+-- An outcome that stands though no event fixed it comes by rest: nothing is to be done and no job is out. So no event follows it.
+abbrev pub NothingFollowsRest : Type 0
+NothingFollowsRest =
+    (is_predicate : ℕ → Bool) (origin : Origin) (history later : List Event) (outcome : Outcome)
+    → IsLawful is_predicate origin (history ++ later)
+    → (replay origin history).ended ≡ None → outcome_of (replay origin history) ≡ Some outcome → later ≡ []
+
 -- ---- the count
 
 -- Spent carries the length of the counted list, which has reached the limit: so for every list of events, lawful or not.
@@ -148,23 +164,27 @@ CountedOnce =
     → let r = replay origin history in
     AllPairs (λ k l. k ≢ l) r.counted × All (IsCounted is_predicate origin.options r) r.counted
 
--- the clause died in the return of a batch, by a removal that has a reduced result for its place
+-- the removal is of the clause that died, by those that justify the death
+abbrev pub is_removal_of : Death → Removal → Bool
+is_removal_of d m = (m.victim == d.victim) && pointwise ◌==◌ m.justifiers d.justifiers
+
+-- The clause died in the return of a batch, by a removal that has a reduced result for its place. Of two removals of that clause by those justifiers
+-- the first takes effect.
 pub record IsReducedDeath (history : List Event) (d : Death) : Type 0 where
   pub batch : Batch
   pub returned : slice_get history d.event ≡ Some (Return batch)
   pub removal : Removal
-  pub proposed : Contains (removals_of batch.work) removal
-  pub victim : removal.victim ≡ d.victim
-  pub justifiers : removal.justifiers ≡ d.justifiers
+  pub proposed : find (is_removal_of d) (removals_of batch.work) ≡ Some removal
   pub kept : IsTrue (is_some (lines_of_fate removal.fate))
 
--- A clause was counted as replaced only where it died so.
+-- A clause was counted as replaced exactly where it died so.
 abbrev pub ReplacedWereReduced : Type 0
 ReplacedWereReduced =
     (is_predicate : ℕ → Bool) (origin : Origin) (history : List Event) (n : ℕ)
     → IsLawful is_predicate origin history
     → let r = replay origin history in
-    Contains r.counted (Replaced n) → (d : Death) × Contains r.deaths d × (d.victim ≡ n) × IsReducedDeath history d
+    (Contains r.counted (Replaced n) → (d : Death) × Contains r.deaths d × (d.victim ≡ n) × IsReducedDeath history d)
+    × ((d : Death) → Contains r.deaths d → d.victim ≡ n → IsReducedDeath history d → Contains r.counted (Replaced n))
 
 -- ---- what is set aside
 

@@ -1,14 +1,17 @@
 -- Laws of propositional clauses and their models, for every list of events.
 use Rattle.std.specs.Prelude.{◌≡◌, ℕ, ◌≤◌, Bool, List, ◌++◌, length, take, Some, IsTrue}
 use Rattle.plain_types.specs.declared.sequence.NameLit.{NameLit}
-use Rattle.sat_core.specs.Clause.{valuation_of, clauses_true}
+use Rattle.fol_base.specs.WellFormed.{SymbolUse}
+use Rattle.sat_core.specs.Clause.{names_below, valuation_of, clauses_true}
 use Rattle.sat_core.specs.Answer.{IsRightAnswer}
 use Rattle.sat_core.specs.declared.answer.Answer.{Answer}
+use Rattle.pool_history.specs.Tags.{name_count}
 use Rattle.pool_history.specs.Record.{SolverJob, propositional_clauses}
 use Rattle.pool_history.specs.Outcomes.{is_at_rest}
 use Rattle.pool_history.specs.Solving.{handed}
 use Rattle.pool_history.specs.Replay.{Origin, replay}
 use Rattle.pool_history.specs.Lawful.{IsLawful}
+use Rattle.pool_history.specs.Inputs.{AreInputs, IsUseOf}
 use Rattle.pool_history.specs.declared.event.Event.{Event}
 
 -- Propositional clauses only come: so for every list of events, lawful or not.
@@ -40,3 +43,10 @@ RestingModels =
     → IsLawful is_predicate origin history
     → let r = replay origin history in
     IsTrue (is_at_rest r) → IsTrue (clauses_true (valuation_of r.model) (propositional_clauses r))
+
+-- The names in propositional clauses are those of parts that were met: they are below the count that the solver is told.
+abbrev pub NamesAreMet : Type 0
+NamesAreMet =
+    (usage : SymbolUse) (origin : Origin) (history : List Event)
+    → AreInputs origin.inputs → IsUseOf origin.inputs usage → IsLawful usage.is_predicate origin history
+    → let r = replay origin history in IsTrue (names_below (name_count r.parts) (propositional_clauses r))

@@ -1,5 +1,5 @@
 -- Laws of what is registered, for every list of events: whole clauses, and positions and jobs that hold their numbers.
-use Rattle.std.specs.Prelude.{◌≢◌, ℕ, ◌<◌, ◌≤◌, Bool, ◌&&◌, nat_lt, List, length, All, AllPairs, IsTrue, IsFalse}
+use Rattle.std.specs.Prelude.{◌≡◌, ◌≢◌, ℕ, ◌<◌, ◌≤◌, Bool, ◌&&◌, nat_lt, List, ◌++◌, length, All, AllPairs, IsTrue, IsFalse}
 use Rattle.std.specs.List.{list_all}
 use Rattle.fol_base.specs.Clause.{TreeClause, clause_size}
 use Rattle.fol_base.specs.Canonical.{IsCanonical}
@@ -8,7 +8,7 @@ use Rattle.fol_base.specs.declared.limits.TheConstants.{MOST_SYMBOLS}
 use Rattle.kernel_steps.specs.Split.{has_number}
 use Rattle.bank_clause.specs.Clause.{AreAssertions}
 use Rattle.pool_history.specs.Components.{is_to_split}
-use Rattle.pool_history.specs.Record.{Registered, GivenJob}
+use Rattle.pool_history.specs.Record.{Registered, Death, GivenJob}
 use Rattle.pool_history.specs.Replay.{Origin, replay}
 use Rattle.pool_history.specs.Lawful.{IsLawful}
 use Rattle.pool_history.specs.Inputs.{AreInputs, IsUseOf}
@@ -40,6 +40,14 @@ abbrev pub RegisteredAreOnePart : Type 0
 RegisteredAreOnePart =
     (origin : Origin) (history : List Event)
     → All (λ (c : Registered). IsFalse (is_to_split origin.options.split c.clause.literals)) (replay origin history).registered
+
+-- A registered clause keeps its number, and a dead one stays dead: both only come. So for every list of events, lawful or not.
+abbrev pub ClausesStay : Type 0
+ClausesStay =
+    (origin : Origin) (history later : List Event)
+    → let r = replay origin history in
+    let s = replay origin (history ++ later) in
+    ((more : List Registered) × (s.registered ≡ r.registered ++ more)) × ((more : List Death) × (s.deaths ≡ r.deaths ++ more))
 
 -- ---- positions and jobs
 

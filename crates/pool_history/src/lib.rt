@@ -21,14 +21,17 @@
 //!
 //! **What is proved** of every lawful history, in `laws`:
 //!
-//! - Jobs have the numbers 1, 2, 3 and so on. A job stays out until an event ends it, knows what was told at the event that it names,
-//!   and a batch that is right for it stays right through events of other jobs.
+//! - Jobs have the numbers 1, 2, 3 and so on. A job stays out until an event ends it, and then it is gone. It knows what was told at the
+//!   event that it names, and a batch that is right for it stays right through events of other jobs.
 //! - A clause that stays awake and alive, with m older ones, is claimed within 6(m + 1) claims, unless jobs are given up.
 //! - A clause dies once, by other clauses that lived then. So what was found redundant stays redundant, whatever dies later.
-//! - No inference is counted twice. What is counted is an inference of registered clauses, or a clause for which a reduced one came.
-//! - Once an outcome stands it stays. `Spent` tells the length of the counted list.
-//! - Where nothing is split, registered clauses are whole and small, the lines are a derivation from the inputs, and those of a refuted
-//!   pool a refutation.
+//! - No inference is counted twice. What is counted is an inference of registered clauses, or a clause for which a reduced one came, and
+//!   each of those is.
+//! - Once an outcome stands it stays. `Spent` tells the length of the counted list. No event follows an outcome that comes by rest.
+//! - Whether clauses are split or not, registered clauses are whole and small and assert parts that were met, the lines are a derivation
+//!   from the inputs, and those of a refuted pool a refutation.
+//! - Where clauses are split, no registered clause falls into two parts, and component lines introduce the names 0, 1, 2 and so on, each
+//!   once. Propositional clauses only come. The model makes those true that it is of, and at rest all of them.
 //! - The chains of the propositional solver's logs are steps of resolution on names.
 //!
 //! That an outcome `Saturated` names a saturated set (Bachmair and Ganzinger 1994) is proved on these laws, in a crate of its own. Worked

@@ -3,6 +3,8 @@
 pub mod AboutPages
 -- AboutOutcomes: what each outcome says of the problem.
 pub mod AboutOutcomes
+-- AboutMade: problems that no file spells.
+pub mod AboutMade
 -- AboutReading: problems that are read have no free variables, and can be printed.
 pub mod AboutReading
 -- AboutRuns: the whole run, and what each of its statuses says.

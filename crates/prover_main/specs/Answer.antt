@@ -54,6 +54,14 @@ pub record Source : Type 0 where
   pub file : List ℕ
   pub root : Option (List ℕ)
 
+abbrev pub source_at : List ℕ → Option (List ℕ) → Source
+source_at file root = record { file = file; root = root }
+
+-- of a command
+abbrev pub source_of : Command → Source
+source_of (prove file root options) = source_at file root
+source_of (check file derivation root) = source_at file root
+
 abbrev pub IsRead : Outside → Source → List Annotated → Type 0
 IsRead outside source formulas = IsProblem outside.told source.file source.root (map placed formulas)
 
@@ -232,5 +240,5 @@ IsReadCheckAnswer outside source derivation answer =
     IsCheckAnswer (IsRead outside source) (IsUnread outside source) outside derivation answer
 
 abbrev pub IsAnswer : Outside → Command → Answer → Type 0
-IsAnswer outside (prove file root options) answer = IsReadProveAnswer outside (record { file = file; root = root }) options answer
-IsAnswer outside (check file derivation root) answer = IsReadCheckAnswer outside (record { file = file; root = root }) derivation answer
+IsAnswer outside (prove file root options) answer = IsReadProveAnswer outside (source_at file root) options answer
+IsAnswer outside (check file derivation root) answer = IsReadCheckAnswer outside (source_at file root) derivation answer

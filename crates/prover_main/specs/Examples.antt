@@ -7,6 +7,7 @@ use Rattle.outside.specs.declared.fault.SinkFault.{SinkFault}
 use Rattle.tptp_tree.specs.declared.formula.Formula.TheVariants.{Pred}
 use Rattle.tptp_tree.specs.declared.problem.Annotated.{Annotated}
 use Rattle.tptp_tree.specs.declared.role.Role.{Role}
+use Rattle.tptp_tree.specs.declared.role.Role.TheVariants.{Axiom, Conjecture}
 use Rattle.fol_base.specs.Clause.{TreeClause}
 use Rattle.signature.specs.Form.{ClausalForm, clausal_form}
 use Rattle.laws_meaning.specs.Examples.{hiding_alone}
@@ -24,6 +25,10 @@ hiding_with clauses = record { symbols = (clausal_form hiding_alone).symbols; cl
 -- the proposition p in this role
 abbrev pub formula_in : Role → Annotated
 formula_in role = record { name = codes "a"; role = role; clause = false; formula = Pred (codes "p") []; file = codes "r"; place = 0 }
+
+-- the problem that p follows from p
+abbrev pub made_formulas : List Annotated
+made_formulas = formula_in Axiom ∷ formula_in Conjecture ∷ []
 
 -- a library that holds no file, with its count of faults before a run and after it
 abbrev pub holding_nothing : ℕ → ℕ → Outside

@@ -20,16 +20,11 @@ use Rattle.prover_main.specs.Outside.{Outside, IsTold}
 use Rattle.prover_main.specs.Meaning.{IsTheorem}
 use Rattle.prover_main.specs.Words.{Command, prove, check, command_of}
 use Rattle.prover_main.specs.declared.status.TheConstants.{SINK_FAILED, USAGE_SHOWN, MEMORY_OUT}
-use Rattle.prover_main.specs.Answer.{Source, IsUnread, IsUnformed, IsFormed, OfFormed, IsRefuted, IsSpent, IsHeavy, IsSaturation, IsLoaded, IsTooLong, IsUnloaded, IsRead}
+use Rattle.prover_main.specs.Answer.{Source, source_at, source_of, IsUnread, IsUnformed, IsFormed, OfFormed, IsRefuted, IsSpent, IsHeavy, IsSaturation, IsLoaded, IsTooLong, IsUnloaded, IsRead}
 use Rattle.prover_main.specs.Reports.{read_status, unread_report, unformed_report, lost_report, refuted_report, saturated_report, spent_report, heavy_report, accepted_line, refused_line, memory_out_report, usage_report}
 use Rattle.prover_main.specs.Run.{file_of, Taken, IsDue}
 
 -- ---- words and ends
-
--- the problem's file, and the folder of includes
-abbrev pub source_of : Command → Source
-source_of (prove file root options) = record { file = file; root = root }
-source_of (check file derivation root) = record { file = file; root = root }
 
 -- The words are a command, and this is said of it.
 pub record ForCommand (words : List (List ℕ)) (Says : Command → Type 0) : Type 0 where
@@ -130,16 +125,6 @@ pub record PrintedUnread (outside : Outside) (taken : Taken) (command : Command)
   pub unread : IsUnread outside (source_of command) cause name place
   pub report : Took taken (unread_report (file_of command) cause name place)
 
--- 8 comes only where the problem's first fault is a form left out. Where the library tells and nothing failed, the problem's first fault is
--- told always, with the status of its cause.
-pub record ReadFaultRow (words : List (List ℕ)) (outside : Outside) (taken : Taken) (status : ℕ) : Type 0 where
-  pub only :
-      status ≡ 8 → ForCommand words (λ command. (form : Form) × PrintedUnread outside taken command (Inappropriate form))
-  pub always :
-      (command : Command) (cause : ReadCause) (name : List ℕ) (place : ℕ) → IsTold outside → command_of words ≡ Some command
-      → IsUnread outside (source_of command) cause name place
-      → EndsWith taken status (read_status cause) (unread_report (file_of command) cause name place)
-
 -- The report of the first formula that passes a limit was taken.
 pub record PrintedUnformed (outside : Outside) (taken : Taken) (command : Command) : Type 0 where
   pub cause : FormCause
@@ -151,14 +136,23 @@ pub record PrintedUnformed (outside : Outside) (taken : Taken) (command : Comman
 abbrev pub PrintedInputFault : Outside → Taken → Command → Type 0
 PrintedInputFault outside taken command = (cause : ReadCause) × (read_status cause ≡ 3) × PrintedUnread outside taken command cause
 
--- 3 comes only where the problem isn't read, or a formula passes a limit. Where the library tells and nothing failed, that formula is told
--- always.
-pub record FormFaultRow (words : List (List ℕ)) (outside : Outside) (taken : Taken) (status : ℕ) : Type 0 where
-  pub only :
+-- 8 comes only where the problem's first fault is a form left out, and 3 only where it is another one that isn't a failed load, or a formula
+-- passes a limit. Where the library tells and nothing failed, the problem's first fault is told always, with the status of its cause.
+pub record ReadFaultRow (words : List (List ℕ)) (outside : Outside) (taken : Taken) (status : ℕ) : Type 0 where
+  pub only_inappropriate :
+      status ≡ 8 → ForCommand words (λ command. (form : Form) × PrintedUnread outside taken command (Inappropriate form))
+  pub only_input_error :
       status ≡ 3 → ForCommand words (λ command. PrintedInputFault outside taken command ⊎ PrintedUnformed outside taken command)
   pub always :
-      (command : Command) (cause : FormCause) (name : List ℕ) → IsTold outside → command_of words ≡ Some command
-      → IsUnformed (IsRead outside (source_of command)) cause name → EndsWith taken status 3 (unformed_report (file_of command) cause name)
+      (command : Command) (cause : ReadCause) (name : List ℕ) (place : ℕ) → IsTold outside → command_of words ≡ Some command
+      → IsUnread outside (source_of command) cause name place
+      → EndsWith taken status (read_status cause) (unread_report (file_of command) cause name place)
+
+-- Where the library tells and nothing failed, the first formula that passes a limit is told always, with 3.
+abbrev pub FormFaultRow : List (List ℕ) → Outside → Taken → ℕ → Type 0
+FormFaultRow words outside taken status =
+    (command : Command) (cause : FormCause) (name : List ℕ) → IsTold outside → command_of words ≡ Some command
+    → IsUnformed (IsRead outside (source_of command)) cause name → EndsWith taken status 3 (unformed_report (file_of command) cause name)
 
 -- ---- 4: a load failed
 
@@ -166,7 +160,7 @@ pub record FormFaultRow (words : List (List ℕ)) (outside : Outside) (taken : T
 abbrev pub IsDerivationLost : Outside → Command → List ℕ → Type 0
 IsDerivationLost outside (prove file root options) name = ⊥
 IsDerivationLost outside (check file derivation root) name =
-    OfFormed (IsRead outside (record { file = file; root = root })) (λ formulas. IsUnloaded outside derivation name)
+    OfFormed (IsRead outside (source_at file root)) (λ formulas. IsUnloaded outside derivation name)
 
 -- The library failed on a file of the problem, or on the derivation's, and the report of that was taken.
 pub record PrintedLoadFault (outside : Outside) (taken : Taken) (command : Command) : Type 0 where

@@ -3,7 +3,8 @@ use Rattle.std.specs.Prelude.{◌≡◌, ⊤, ℕ, IsTrue, false, List, [], ◌�
 use Rattle.std.specs.Borrow.{Bor}
 use Rattle.std.specs.Option.{option_map}
 use Rattle.pool_history.specs.Inputs.{IsLimit}
-use Rattle.prover_main.specs.Words.{Given as GivenOptions, Command as Commanded, prove, check, is_filled, prove_with, check_with}
+use Rattle.prover_main.specs.Words.{Given as GivenOptions, Command as Commanded, prove, check, is_filled, prove_with, check_with, command_with}
+use Rattle.prover_main.specs.declared.words.CommandName.{CommandName}
 use Rattle.prover_main.specs.declared.words.Command.{Command}
 use Rattle.prover_main.specs.declared.words.Command.TheVariants.{Prove, Check}
 use Rattle.prover_main.specs.declared.words.Given.{Given}
@@ -32,6 +33,10 @@ few_meant (One v) = one_word v.now
 few_meant (Two u v) = two_words u.now v.now
 few_meant More = more_words
 
+-- a name and a value
+abbrev pub setting_meant : Bor (List ℕ) × Bor (List ℕ) → List ℕ × List ℕ
+setting_meant s = (s.0.now, s.1.now)
+
 abbrev pub lent : Option (Bor (List ℕ)) → Option (List ℕ)
 lent o = option_map (λ x. x.now) o
 
@@ -55,6 +60,9 @@ prove_few words given = prove_with (few_listed words) given
 
 abbrev pub check_few : FewWords → Option GivenOptions → Option Commanded
 check_few words given = check_with (few_listed words) given
+
+abbrev pub command_few : CommandName → FewWords → Option GivenOptions → Option Commanded
+command_few name words given = command_with name (few_listed words) given
 
 -- the options are such as a pool takes without splitting, and the file has a name
 abbrev pub IsFit : Commanded → Type 0

@@ -1,11 +1,59 @@
 -- The rule on the words of the command line, and the values that it gives.
-use Rattle.std.specs.Prelude.{ℕ, Bool, true, false, not, ◌&&◌, ◌==◌, nat_le, List, [], ◌∷◌, length, take, drop, fold, Option, None, Some, option_and_then, unwrap_or, is_some, bytes_eq, if◌then◌else◌, codes}
-use Rattle.std.specs.List.{filter}
+use Rattle.std.specs.Prelude.{ℕ, Bool, true, false, not, ◌&&◌, ◌==◌, nat_le, List, [], ◌∷◌, ◌++◌, map, fold, Option, None, Some, option_and_then, unwrap_or, is_some, bytes_eq, if◌then◌else◌, codes}
+use Rattle.std.specs.List.{filter, before_first, after_first}
 use Rattle.plain_types.specs.declared.limits.TheConstants.{DEFAULT_INFERENCES, MOST_INFERENCES}
 use Rattle.literal_selection.specs.declared.choice.Selection.{Selection}
 use Rattle.literal_selection.specs.declared.choice.Selection.TheVariants.{Nothing, Negative}
 use Rattle.pool_history.specs.declared.options.Options.{Options}
 use Rattle.tptp_source.specs.Items.{decimal_in}
+use Rattle.prover_main.specs.declared.words.CommandName.{CommandName}
+use Rattle.prover_main.specs.declared.words.CommandName.TheVariants.{Prove, Check}
+use Rattle.prover_main.specs.declared.words.OptionName.{OptionName}
+use Rattle.prover_main.specs.declared.words.OptionName.TheVariants.{Inferences, Tptp, Select}
+
+-- ---- the tables: each command with its word, its files and its options, and each option with its name and its values
+
+abbrev pub commands : List CommandName
+commands = Prove ∷ Check ∷ []
+
+abbrev pub command_word : CommandName → List ℕ
+command_word Prove = codes "prove"
+command_word Check = codes "check"
+
+abbrev pub options_of : CommandName → List OptionName
+options_of Prove = Inferences ∷ Tptp ∷ Select ∷ []
+options_of Check = Tptp ∷ []
+
+abbrev pub option_word : OptionName → List ℕ
+option_word Inferences = codes "--inferences"
+option_word Tptp = codes "--tptp"
+option_word Select = codes "--select"
+
+-- the files of a command and the values of an option, as the usage text shows them
+abbrev pub files_shown : CommandName → List ℕ
+files_shown Prove = codes "FILE"
+files_shown Check = codes "FILE DERIVATION"
+
+abbrev pub values_shown : OptionName → List ℕ
+values_shown Inferences = codes "N"
+values_shown Tptp = codes "DIR"
+values_shown Select = codes "none|negative"
+
+-- ---- the usage text: a line for each command, the first one after `usage: `
+
+abbrev pub options_shown : List OptionName → List ℕ
+options_shown [] = codes "\n"
+options_shown (o ∷ os) = codes " [" ++ option_word o ++ codes "=" ++ values_shown o ++ codes "]" ++ options_shown os
+
+abbrev pub usage_lines : List ℕ → List CommandName → List ℕ
+usage_lines start [] = []
+usage_lines start (c ∷ cs) =
+    start ++ command_word c ++ codes " " ++ files_shown c ++ options_shown (options_of c) ++ usage_lines (codes "       ") cs
+
+abbrev pub usage_text : List ℕ
+usage_text = usage_lines (codes "usage: ") commands
+
+-- ---- what the words give
 
 -- what options give: how many inferences are counted, which literal of a clause is chosen, and the folder from which includes are loaded
 pub record Given : Type 0 where
@@ -35,12 +83,17 @@ is_filled (b ∷ bs) = true
 abbrev pub file_words : List (List ℕ) → List (List ℕ)
 file_words words = filter (λ w. not (is_option w)) words
 
--- ---- options: `--inferences=N`, `--tptp=DIR` and `--select=none|negative`, each at most once, with a value that isn't empty
+-- ---- options, each at most once
 
--- the value after an option's name and `=`
-abbrev pub value_behind : List ℕ → List ℕ → Option (List ℕ)
-value_behind name word =
-    if bytes_eq (take (length name) word) name && is_filled (drop (length name) word) then Some (drop (length name) word) else None
+-- An option is a name, `=` and a value that isn't empty.
+abbrev pub setting_in : List ℕ → Option (List ℕ × List ℕ)
+setting_in word =
+    if is_filled (after_first (λ b. b == 61) word) then Some (before_first (λ b. b == 61) word, after_first (λ b. b == 61) word) else None
+
+-- the option of a name, of those that a command has
+abbrev pub option_named : List OptionName → List ℕ → Option OptionName
+option_named [] name = None
+option_named (o ∷ os) name = if bytes_eq name (option_word o) then Some o else option_named os name
 
 abbrev pub no_options : Given
 no_options = record { inferences = None; select = None; root = None }
@@ -65,24 +118,20 @@ with_inferences given n = if is_some given.inferences then None else Some (recor
 abbrev pub with_selection : Given → Selection → Option Given
 with_selection given select = if is_some given.select then None else Some (record given { select = Some select })
 
--- and an option more, by its value after each name; None where it is no option, or stands twice
-abbrev pub with_selection_by : Given → Option (List ℕ) → Option Given
-with_selection_by given None = None
-with_selection_by given (Some value) = option_and_then (with_selection given) (selection_in value)
+-- and the value of an option more; None where the option can't have it, or has one already
+abbrev pub with_value : Given → OptionName → List ℕ → Option Given
+with_value given Inferences value = option_and_then (with_inferences given) (limit_in value)
+with_value given Tptp value = with_root given value
+with_value given Select value = option_and_then (with_selection given) (selection_in value)
 
-abbrev pub with_inferences_by : Given → List ℕ → Option (List ℕ) → Option Given
-with_inferences_by given word (Some value) = option_and_then (with_inferences given) (limit_in value)
-with_inferences_by given word None = with_selection_by given (value_behind (codes "--select=") word)
+-- and an option word more, of a command that has these options
+abbrev pub with_option : List OptionName → Given → List ℕ → Option Given
+with_option options given word =
+    option_and_then (λ (setting : List ℕ × List ℕ). option_and_then (λ option. with_value given option setting.1) (option_named options setting.0))
+    (setting_in word)
 
-abbrev pub with_option_by : Given → List ℕ → Option (List ℕ) → Option Given
-with_option_by given word (Some root) = with_root given root
-with_option_by given word None = with_inferences_by given word (value_behind (codes "--inferences=") word)
-
-abbrev pub with_option : Given → List ℕ → Option Given
-with_option given word = with_option_by given word (value_behind (codes "--tptp=") word)
-
-abbrev pub options_in : List (List ℕ) → Option Given
-options_in words = fold (λ given w. option_and_then (λ g. with_option g w) given) (Some no_options) (filter is_option words)
+abbrev pub options_in : List OptionName → List (List ℕ) → Option Given
+options_in options words = fold (λ given w. option_and_then (λ g. with_option options g w) given) (Some no_options) (filter is_option words)
 
 -- how a pool works by what is given; clauses aren't split
 abbrev pub options_by : Given → Options
@@ -91,23 +140,26 @@ options_by given =
 
 -- ---- commands; None where the words are usage
 
--- `prove FILE [--inferences=N] [--tptp=DIR] [--select=none|negative]`
 abbrev pub prove_with : List (List ℕ) → Option Given → Option Command
 prove_with (file ∷ []) (Some given) = if is_filled file then Some (prove file given.root (options_by given)) else None
 prove_with files given = None
 
--- `check FILE DERIVATION [--tptp=DIR]`
-abbrev pub is_root_alone : Given → Bool
-is_root_alone given = not (is_some given.inferences) && not (is_some given.select)
-
 abbrev pub check_with : List (List ℕ) → Option Given → Option Command
 check_with (file ∷ derivation ∷ []) (Some given) =
-    if is_filled file && (is_filled derivation && is_root_alone given) then Some (check file derivation given.root) else None
+    if is_filled file && is_filled derivation then Some (check file derivation given.root) else None
 check_with files given = None
+
+-- by its file words, and what its options give
+abbrev pub command_with : CommandName → List (List ℕ) → Option Given → Option Command
+command_with Prove files given = prove_with files given
+command_with Check files given = check_with files given
+
+-- the command of a word
+abbrev pub command_named : List CommandName → List ℕ → Option CommandName
+command_named [] word = None
+command_named (c ∷ cs) word = if bytes_eq word (command_word c) then Some c else command_named cs word
 
 abbrev pub command_of : List (List ℕ) → Option Command
 command_of [] = None
 command_of (word ∷ words) =
-    if bytes_eq word (codes "prove") then prove_with (file_words words) (options_in words)
-    else if bytes_eq word (codes "check") then check_with (file_words words) (options_in words)
-    else None
+    option_and_then (λ name. command_with name (file_words words) (options_in (options_of name) words)) (command_named commands word)

@@ -3,6 +3,7 @@
 ghost use Rattle.std.specs.Prelude.{◌≡◌};
 ghost use Rattle.prover_main.specs.Reports.{status_of, read_status};
 
+use crate::status::{GAVE_UP, INAPPROPRIATE, INPUT_ERROR, LOAD_FAILED, PROVED, REFUSED, SATURATED};
 use clausal_form::FormCause;
 use plain_types::Text;
 use tptp_reader::ReadCause;
@@ -53,13 +54,13 @@ impl Answer {
         ensures { result ≡ status_of self.now }
     {
         match self {
-            Answer::Refuted { .. } | Answer::Accepted(_) => 0,
-            Answer::Saturated { .. } => 1,
-            Answer::Spent { .. } | Answer::Heavy(_) => 2,
-            Answer::Unformed(_, _) => 3,
-            Answer::Unloaded(_) => 4,
+            Answer::Refuted { .. } | Answer::Accepted(_) => PROVED,
+            Answer::Saturated { .. } => SATURATED,
+            Answer::Spent { .. } | Answer::Heavy(_) => GAVE_UP,
+            Answer::Unformed(_, _) => INPUT_ERROR,
+            Answer::Unloaded(_) => LOAD_FAILED,
             Answer::Unread { cause, .. } => read_status(*cause),
-            Answer::Refused { .. } => 9,
+            Answer::Refused { .. } => REFUSED,
         }
     }
 }
@@ -69,8 +70,8 @@ fn read_status(cause: ReadCause) -> u8
     ensures { result ≡ read_status cause }
 {
     match cause {
-        ReadCause::Inappropriate(_) => 8,
-        ReadCause::Load => 4,
-        _ => 3,
+        ReadCause::Inappropriate(_) => INAPPROPRIATE,
+        ReadCause::Load => LOAD_FAILED,
+        _ => INPUT_ERROR,
     }
 }

@@ -6,7 +6,7 @@ ghost use Rattle.signature.specs.Form.{clausal_form};
 ghost use Rattle.clausal_form.specs.Form.{form_of};
 ghost use Rattle.laws_meaning.specs.Meaning.{are_closed};
 ghost use Rattle.prover_main.specs.Outside.{outside_by};
-ghost use Rattle.prover_main.specs.Answer.{IsReadCheckAnswer, IsJudgement};
+ghost use Rattle.prover_main.specs.Answer.{source_at, IsReadCheckAnswer, IsJudgement};
 
 use crate::answer::Answer;
 use crate::problem::{FormedProblem, formed_problem};
@@ -26,7 +26,7 @@ pub fn check_answer<L: Library>(
 ) -> Mem<Answer>
     ensures { IfOk result (λ answer. IsReadCheckAnswer
         (outside_by L.told L.faults L.found L.failed library.old library.new)
-        (record { file = file.now; root = option_copied root.entry })
+        (source_at file.now (option_copied root.entry))
         derivation.now answer) }
 {
     let formed = match formed_problem(alloc, library, file, root) {

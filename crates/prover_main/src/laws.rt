@@ -12,7 +12,7 @@ ghost use Rattle.tptp_reader.specs.declared.cause.ReadCause.TheVariants as read;
 ghost use Rattle.tstp_checker.specs.declared.cause.Cause.TheVariants as line;
 ghost use Rattle.prover_main.specs.declared.answer.Answer.TheVariants.{Refuted, Saturated, Spent, Heavy, Accepted, Refused, Unloaded, Unread, Unformed};
 ghost use Rattle.literal_selection.specs.declared.choice.Selection.TheVariants.{Nothing};
-ghost use Rattle.prover_main.specs.Words.{command_of, prove, check};
+ghost use Rattle.prover_main.specs.Words.{command_of, prove, check, usage_text};
 ghost use Rattle.prover_main.specs.Names.{shown, problem_name};
 ghost use Rattle.signature.specs.Examples.{clause, fof_axiom};
 ghost use Rattle.signature.specs.Form.{clausal_form};
@@ -23,7 +23,7 @@ ghost use Rattle.prover_main.specs.Reports.{status_of, read_status, read_status_
 ghost use Rattle.prover_main.specs.Outside.{IsTold};
 ghost use Rattle.prover_main.specs.Laws.{is_exact, ChecksHaveOneAnswer, FaultsAreTheOnlyAnswer, FormedIsValid, ReadProblemsAreClosed, ReadProblemsArePrintable};
 ghost use Rattle.prover_main.specs.Examples.{counting, formula_in, hiding_with, holding_nothing, taking, proving_row, AreWritesBy, DeliversInPiecesBy};
-ghost use Rattle.prover_main.specs.Rows.{UsageRow, TheoremRow, SaturatedRow, GaveUpRow, ReadFaultRow, FormFaultRow, LoadFaultRow, LostOutputRow, MemoryOutRow, CheckedRow};
+ghost use Rattle.prover_main.specs.Rows.{UsageRow, TheoremRow, SaturatedRow, GaveUpRow, ReadFaultRow, LoadFaultRow, LostOutputRow, MemoryOutRow, CheckedRow};
 ghost use Rattle.prover_main.specs.Run.{IsDue};
 ghost use Rattle.prover_main.specs.declared.status.TheConstants.{SINK_FAILED, USAGE_SHOWN, MEMORY_OUT};
 
@@ -92,6 +92,11 @@ pub fn usage_examples()
     ensures leading_zero { command_of (codes "prove" ∷ codes "a" ∷ codes "--inferences=01" ∷ []) ≡ None }
     ensures sign { command_of (codes "prove" ∷ codes "a" ∷ codes "--inferences=+1" ∷ []) ≡ None }
     ensures letter { command_of (codes "prove" ∷ codes "a" ∷ codes "--inferences=1x" ∷ []) ≡ None }
+{}
+
+/// The usage text has a line for each command of the table, with its files and its options.
+pub fn usage_text_follows_the_tables()
+    ensures { usage_report ≡ usage_text }
 {}
 
 /// The names that reports show: what stands after the file's last slash, without a final `.p`; bytes outside 32 to 126 as
@@ -214,7 +219,7 @@ pub fn fault_examples()
     ensures usage_after_a_fault { ¬ IsDue None (holding_nothing 3 4) 6 usage_report }
 {}
 
-/// Usage is told with its status and its text. No word is no theorem, and no sink that took nothing was told that memory was wanted.
+/// Usage is told with its status and its text. No word is no theorem, and no sink that took nothing was told that the program is out of memory.
 pub fn row_examples()
     ensures usage { UsageRow [] (taking usage_report) 6 }
     ensures other_status { ¬ UsageRow [] (taking usage_report) 0 }
@@ -224,9 +229,9 @@ pub fn row_examples()
     ensures no_fault { ¬ LoadFaultRow proving_row (holding_nothing 3 3) (taking []) 4 }
     ensures no_saturation { ¬ SaturatedRow [] (holding_nothing 3 3) (taking []) 1 }
     ensures nothing_given_up { ¬ GaveUpRow [] (holding_nothing 3 3) (taking []) 2 }
-    ensures no_form_fault { ¬ FormFaultRow [] (holding_nothing 3 3) (taking []) 3 }
+    ensures no_input_error { ¬ ReadFaultRow [] (holding_nothing 3 3) (taking []) 3 }
     ensures nothing_lost { ¬ LostOutputRow [] (holding_nothing 3 3) (taking []) 5 }
-    ensures no_read_fault { ¬ ReadFaultRow [] (holding_nothing 3 3) (taking []) 8 }
+    ensures no_form_left_out { ¬ ReadFaultRow [] (holding_nothing 3 3) (taking []) 8 }
     ensures nothing_refused { ¬ CheckedRow [] (holding_nothing 3 3) (taking []) 9 }
 {}
 

@@ -5,6 +5,7 @@ ghost use Rattle.std.specs.Option.{option_copied};
 ghost use Rattle.clausal_form.specs.Form.{form_of};
 ghost use Rattle.prover_main.specs.Outside.{outside_by};
 ghost use Rattle.prover_main.specs.Meaning.{FormMeans};
+ghost use Rattle.prover_main.specs.Answer.{source_at};
 ghost use Rattle.prover_main.specs.AnswerShape.{IsFormedFrom, IsReadFrom, IsStop, IsStopAnswer};
 
 use crate::answer::Answer;
@@ -54,10 +55,10 @@ fn problem_in<L: Library>(
     root: Option<&str>,
 ) -> Result<Problem, Stop>
     ensures read { IfOk result (IsReadFrom (L.told library.old)
-        (record { file = file.now; root = option_copied root.entry })) }
+        (source_at file.now (option_copied root.entry))) }
     ensures stopped { IfErr result (IsStop
         (outside_by L.told L.faults L.found L.failed library.old library.new)
-        (record { file = file.now; root = option_copied root.entry })) }
+        (source_at file.now (option_copied root.entry))) }
     ensures told { L.told library.new ≡ L.told library.old }
     ensures later { L.faults library.old ≤ L.faults library.new }
 {
@@ -76,11 +77,11 @@ pub fn formed_problem<L: Library>(
     root: Option<&str>,
 ) -> Result<FormedProblem, Stop>
     ensures formed { IfOk result (IsFormedFrom (L.told library.old)
-        (record { file = file.now; root = option_copied root.entry })) }
+        (source_at file.now (option_copied root.entry))) }
     ensures means { IfOk result (λ formed. FormMeans formed.problem.formulas (form_of formed.form)) }
     ensures stopped { IfErr result (IsStop
         (outside_by L.told L.faults L.found L.failed library.old library.new)
-        (record { file = file.now; root = option_copied root.entry })) }
+        (source_at file.now (option_copied root.entry))) }
     ensures told { L.told library.new ≡ L.told library.old }
     ensures later { L.faults library.old ≤ L.faults library.new }
 {

@@ -1,15 +1,16 @@
 // What `prove` answers: a pool of the clausal form is worked on until an outcome stands, and the answer is made of it.
 
-ghost use Rattle.std.specs.Prelude.{◌≡◌, false, IfOk, IsTrue};
+ghost use Rattle.std.specs.Prelude.{◌≡◌, false, None, IfOk, IsTrue};
 ghost use Rattle.std.specs.Option.{option_copied};
 ghost use Rattle.signature.specs.Form.{clausal_form};
 ghost use Rattle.clausal_form.specs.Form.{form_of};
+ghost use Rattle.clausal_form.specs.Fault.{form_fault};
 ghost use Rattle.laws_meaning.specs.Meaning.{has_conjecture};
 ghost use Rattle.pool_history.specs.Inputs.{IsLimit};
 ghost use Rattle.prover_main.specs.Words.{is_filled};
 ghost use Rattle.prover_main.specs.Outside.{outside_by};
 ghost use Rattle.prover_main.specs.Names.{shown};
-ghost use Rattle.prover_main.specs.Answer.{IsReadProveAnswer, IsProofAnswer};
+ghost use Rattle.prover_main.specs.Answer.{source_at, IsReadProveAnswer, IsProofAnswer};
 ghost use Rattle.prover_main.specs.AnswerShape.{IsAdmissible, IsProvedForm, PoolSays};
 
 use crate::answer::Answer;
@@ -41,15 +42,35 @@ pub fn prove_answer<R: Wait, L: Library>(
     requires filled { IsTrue (is_filled file.now) }
     ensures { IfOk result (λ answer. IsReadProveAnswer
         (outside_by L.told L.faults L.found L.failed library.old library.new)
-        (record { file = file.now; root = option_copied root.entry })
+        (source_at file.now (option_copied root.entry))
         options answer) }
 {
     let formed = match formed_problem(alloc, library, file, root) {
         Ok(formed) => formed,
         Err(stop) => return stop.answer(),
     };
+    formed_answer(rt, alloc, file, &formed, options)
+}
+
+/// Proves a problem that has its clausal form, or gives up, however the problem came: it may be one that no file spells, and then the
+/// file is the name that its derivations have in place of a file's.
+pub fn formed_answer<R: Wait>(
+    rt: &R,
+    alloc: Global,
+    file: &str,
+    formed: &FormedProblem,
+    options: Options,
+) -> Mem<Answer>
+    requires filled { IsTrue (is_filled file.now) }
+    requires limit { IsLimit options }
+    requires unsplit { options.split ≡ false }
+    requires admissible { IsAdmissible formed.now.problem.formulas }
+    requires within { form_fault formed.now.problem.formulas ≡ None }
+    requires form { form_of formed.now.form ≡ clausal_form formed.now.problem.formulas }
+    ensures { IfOk result (λ answer. IsProofAnswer file.now formed.now.problem.formulas options answer) }
+{
     let proved = prove_form(rt, alloc, &formed.problem, &formed.form, options)?;
-    proof_answer(alloc, file, &formed, &proved, options)
+    proof_answer(alloc, file, formed, &proved, options)
 }
 
 /// The answer that the pool of a problem's form ends with, however the problem came. What the outcome says of it is handed in.

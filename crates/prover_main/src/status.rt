@@ -1,4 +1,19 @@
-// The statuses of runs that end without an answer. Those of answers are told by `Answer::status`.
+// The statuses with which the program ends.
+
+/// The problem is refuted, or the derivation accepted.
+pub(crate) const PROVED: u8 = 0;
+
+/// The pool's members are a saturated set.
+pub(crate) const SATURATED: u8 = 1;
+
+/// The pool gave up.
+pub(crate) const GAVE_UP: u8 = 2;
+
+/// The problem isn't read, or has no clausal form.
+pub(crate) const INPUT_ERROR: u8 = 3;
+
+/// A file couldn't be loaded.
+pub(crate) const LOAD_FAILED: u8 = 4;
 
 /// A write to the sink failed.
 pub(crate) const SINK_FAILED: u8 = 5;
@@ -8,3 +23,9 @@ pub(crate) const USAGE_SHOWN: u8 = 6;
 
 /// The program is out of memory.
 pub(crate) const MEMORY_OUT: u8 = 7;
+
+/// The problem has a form that is left out.
+pub(crate) const INAPPROPRIATE: u8 = 8;
+
+/// The derivation is refused.
+pub(crate) const REFUSED: u8 = 9;

@@ -1,5 +1,6 @@
 // Runs over memory end with the report that they should, which no clause says.
 mod cases;
+mod made;
 
 use super::*;
 use crate::memory_out::deliver_memory_out;
@@ -70,7 +71,7 @@ fn failures_end_the_run(rt: HostRuntime) {
 
 // The report of a run out of memory is printed in pieces, also where the sink fails in the third of them.
 #[test]
-fn want_of_memory_is_told_in_pieces(rt: HostRuntime) {
+fn out_of_memory_is_told_in_pieces(rt: HostRuntime) {
     let alloc = rt.alloc();
     let mut sink = MemSink::new(alloc, 64, 1000, Numbers::new(alloc)).expect(&rt, "memory");
     assert!(rt; deliver_memory_out(&mut sink, "dir/\x01r1.p").is_ok());

@@ -1,9 +1,9 @@
 // The words of the command line, and the rule on them.
 
-ghost use Rattle.std.specs.Prelude.{◌≡◌, not, [], ◌∷◌, ◌++◌, map, IfOk, OnErr, string_bytes};
+ghost use Rattle.std.specs.Prelude.{◌≡◌, [], ◌∷◌, ◌++◌, map, IfOk, OnErr, string_bytes};
 ghost use Rattle.std.specs.Option.{option_map, option_and_then};
-ghost use Rattle.prover_main.specs.Words.{command_of, is_option as option_word, value_behind, limit_in, selection_in, with_root, with_inferences, with_inferences_by, with_selection, with_option, is_root_alone, file_words, options_in, options_by};
-ghost use Rattle.prover_main.specs.WordParts.{few_with, few_of, few_meant, lent, given_meant, command_meant, prove_few, check_few};
+ghost use Rattle.prover_main.specs.Words.{commands, command_word, command_named, command_of, options_of, option_word as name_of, option_named as named_among, is_option as option_like, setting_in, limit_in, selection_in, with_root, with_inferences, with_selection, with_value, with_option, file_words, options_in, options_by};
+ghost use Rattle.prover_main.specs.WordParts.{few_with, few_of, few_meant, setting_meant, given_meant, command_meant, prove_few, check_few, command_few};
 
 use literal_selection::Selection;
 use plain_types::{DEFAULT_INFERENCES, MOST_INFERENCES, Mem};
@@ -26,6 +26,24 @@ impl Model for Words {
     ghost view = { λ w. map string_bytes w.words.items };
 }
 
+/// The commands.
+#[derive(Clone, Copy)]
+pub enum CommandName {
+    Prove,
+    Check,
+}
+
+/// The options of commands.
+#[derive(Clone, Copy)]
+pub enum OptionName {
+    /// At how many counted inferences a pool gives up.
+    Inferences,
+    /// The folder from which includes are loaded.
+    Tptp,
+    /// Which literal of a clause is chosen.
+    Select,
+}
+
 /// A command with its values.
 #[derive(Clone, Copy)]
 pub enum Command<'a> {
@@ -41,6 +59,50 @@ pub enum Command<'a> {
         derivation: &'a str,
         root: Option<&'a str>,
     },
+}
+
+const PROVE_OPTIONS: [OptionName; 3] = [
+    OptionName::Inferences,
+    OptionName::Tptp,
+    OptionName::Select,
+];
+
+const CHECK_OPTIONS: [OptionName; 1] = [OptionName::Tptp];
+
+impl CommandName {
+    /// The command of a word.
+    fn named(word: &str) -> Option<CommandName>
+        ensures { result ≡ command_named commands word.now }
+    {
+        match word {
+            "prove" => Some(CommandName::Prove),
+            "check" => Some(CommandName::Check),
+            _ => None,
+        }
+    }
+
+    /// The options that it has.
+    fn options(self) -> &'static [OptionName]
+        ensures { result.now ≡ options_of self }
+    {
+        match self {
+            CommandName::Prove => &PROVE_OPTIONS,
+            CommandName::Check => &CHECK_OPTIONS,
+        }
+    }
+}
+
+impl OptionName {
+    /// Its name, with which a word begins.
+    fn word(self) -> &'static str
+        ensures { result.now ≡ name_of self }
+    {
+        match self {
+            OptionName::Inferences => "--inferences",
+            OptionName::Tptp => "--tptp",
+            OptionName::Select => "--select",
+        }
+    }
 }
 
 /// File words: the first two, and whether there are more.
@@ -75,16 +137,27 @@ struct Given<'a> {
 }
 
 impl<'a> Given<'a> {
-    /// These options and one more. None where it isn't one, or stands twice.
-    fn with(self, word: &'a str) -> Option<Given<'a>>
-        ensures { option_map given_meant result ≡ with_option (given_meant self.entry) word.now }
+    /// These options and one word more, of a command that has such options. None where it isn't one of them, or stands twice.
+    fn with(self, options: &[OptionName], word: &'a str) -> Option<Given<'a>>
+        ensures { option_map given_meant result ≡ with_option options.now (given_meant self.entry) word.now }
     {
-        match value_behind("--tptp=", word) {
-            Some(root) => self.with_root(root),
-            None => self.with_inferences(word, value_behind("--inferences=", word)),
+        let (name, value) = setting_in(word)?;
+        let option = option_named(options, name)?;
+        self.with_value(option, value)
+    }
+
+    /// These options and the value of one more.
+    fn with_value(self, option: OptionName, value: &'a str) -> Option<Given<'a>>
+        ensures { option_map given_meant result ≡ with_value (given_meant self.entry) option value.now }
+    {
+        match option {
+            OptionName::Inferences => self.with_limit(limit_in(value)?),
+            OptionName::Tptp => self.with_root(value),
+            OptionName::Select => self.with_selection(selection_in(value)?),
         }
     }
 
+    /// With the folder of includes, where none was given before.
     fn with_root(self, root: &'a str) -> Option<Given<'a>>
         ensures { option_map given_meant result ≡ with_root (given_meant self.entry) root.now }
     {
@@ -98,16 +171,7 @@ impl<'a> Given<'a> {
         }
     }
 
-    /// By the value of `--inferences`, where the word has one.
-    fn with_inferences(self, word: &'a str, value: Option<&str>) -> Option<Given<'a>>
-        ensures { option_map given_meant result ≡ with_inferences_by (given_meant self.entry) word.now (lent value.entry) }
-    {
-        match value {
-            Some(value) => self.with_limit(limit_in(value)?),
-            None => self.with_selection(selection_in(value_behind("--select=", word)?)?),
-        }
-    }
-
+    /// With the number of inferences, where none was given before.
     fn with_limit(self, limit: u32) -> Option<Given<'a>>
         ensures { option_map given_meant result ≡ with_inferences (given_meant self.entry) limit }
     {
@@ -121,6 +185,7 @@ impl<'a> Given<'a> {
         }
     }
 
+    /// With the mode of selection, where none was given before.
     fn with_selection(self, select: Selection) -> Option<Given<'a>>
         ensures { option_map given_meant result ≡ with_selection (given_meant self.entry) select }
     {
@@ -132,13 +197,6 @@ impl<'a> Given<'a> {
                 root: self.root,
             }),
         }
-    }
-
-    /// Whether an option is given that only `prove` has.
-    fn is_for_proving(self) -> bool
-        ensures { result ≡ not (is_root_alone (given_meant self.entry)) }
-    {
-        self.inferences.is_some() || self.select.is_some()
     }
 
     /// How a pool works by these options. Clauses aren't split.
@@ -157,13 +215,13 @@ impl<'a> Given<'a> {
 #[derive(Clone, Copy)]
 struct Arguments<'a> {
     files: FileWords<'a>,
-    /// None where a word that begins with `-` is no option.
+    /// None where a word that begins with `-` is no option of the command.
     options: Option<Given<'a>>,
 }
 
 /// Whether a word is an option: it begins with `-`.
 fn is_option(word: &str) -> bool
-    ensures { result ≡ option_word word.now }
+    ensures { result ≡ option_like word.now }
 {
     match word.as_bytes().first() {
         None => false,
@@ -171,12 +229,28 @@ fn is_option(word: &str) -> bool
     }
 }
 
-/// The value after an option's name and `=`, which isn't empty.
-fn value_behind<'a>(name: &str, word: &'a str) -> Option<&'a str>
-    ensures { lent result ≡ value_behind name.now word.now }
+/// The name and the value of an option: what stands before the first `=` and after it, where that isn't empty.
+fn setting_in(word: &str) -> Option<(&str, &str)>
+    ensures { option_map setting_meant result ≡ setting_in word.now }
 {
-    let value = word.strip_prefix(name)?;
-    if value.is_empty() { None } else { Some(value) }
+    let (name, value) = word.split_once('=')?;
+    if value.is_empty() {
+        None
+    } else {
+        Some((name, value))
+    }
+}
+
+/// The option of a name, of those that a command has.
+fn option_named(options: &[OptionName], name: &str) -> Option<OptionName>
+    ensures { result ≡ named_among options.now name.now }
+{
+    for option in options {
+        if name == option.word() {
+            return Some(*option);
+        }
+    }
+    None
 }
 
 /// The number of inferences that a value is: decimal digits without a leading zero.
@@ -202,20 +276,24 @@ fn selection_in(value: &str) -> Option<Selection>
     }
 }
 
-/// The options and one word more.
-fn options_with<'a>(options: Option<Given<'a>>, word: &'a str) -> Option<Given<'a>>
-    ensures { option_map given_meant result ≡ option_and_then (λ g. with_option g word.now) (option_map given_meant options.entry) }
+/// What options give, and one word more.
+fn given_with<'a>(
+    given: Option<Given<'a>>,
+    options: &[OptionName],
+    word: &'a str,
+) -> Option<Given<'a>>
+    ensures { option_map given_meant result ≡ option_and_then (λ g. with_option options.now g word.now) (option_map given_meant given.entry) }
 {
-    options?.with(word)
+    given?.with(options, word)
 }
 
-/// The words by kinds.
-fn arguments_of(words: &[String]) -> Arguments<'_>
-    ensures files { few_meant result.files ≡ few_of (file_words (map string_bytes words.now)) }
-    ensures options { option_map given_meant result.options ≡ options_in (map string_bytes words.now) }
+/// The words after a command that has such options, by kinds.
+fn arguments_of<'a>(options: &[OptionName], words: &'a [String]) -> Arguments<'a>
+    ensures files { few_meant result.files ≡ few_of (file_words (map string_bytes words.entry.now)) }
+    ensures options { option_map given_meant result.options ≡ options_in options.now (map string_bytes words.entry.now) }
 {
     let mut files = FileWords::None;
-    let mut options = Some(Given {
+    let mut given = Some(Given {
         inferences: None,
         select: None,
         root: None,
@@ -223,12 +301,15 @@ fn arguments_of(words: &[String]) -> Arguments<'_>
     for word in words {
         let word = word.as_str();
         if is_option(word) {
-            options = options_with(options, word);
+            given = given_with(given, options, word);
         } else {
             files = files.with(word);
         }
     }
-    Arguments { files, options }
+    Arguments {
+        files,
+        options: given,
+    }
 }
 
 /// `prove FILE`, with its options. None exactly where the words are usage.
@@ -256,7 +337,7 @@ fn check_command(arguments: Arguments<'_>) -> Option<Command<'_>>
         return None;
     };
     let given = arguments.options?;
-    if file.is_empty() || derivation.is_empty() || given.is_for_proving() {
+    if file.is_empty() || derivation.is_empty() {
         return None;
     }
     Some(Command::Check {
@@ -266,16 +347,23 @@ fn check_command(arguments: Arguments<'_>) -> Option<Command<'_>>
     })
 }
 
+/// A command with what stands after it. None exactly where the words are usage.
+fn command_with(name: CommandName, arguments: Arguments<'_>) -> Option<Command<'_>>
+    ensures { option_map command_meant result ≡ command_few name (few_meant arguments.entry.files) (option_map given_meant arguments.entry.options) }
+{
+    match name {
+        CommandName::Prove => prove_command(arguments),
+        CommandName::Check => check_command(arguments),
+    }
+}
+
 /// The command that words are.
 fn command_in(words: &[String]) -> Option<Command<'_>>
     ensures { option_map command_meant result ≡ command_of (map string_bytes words.entry.now) }
 {
-    let (command, arguments) = words.split_first()?;
-    match command.as_str() {
-        "prove" => prove_command(arguments_of(arguments)),
-        "check" => check_command(arguments_of(arguments)),
-        _ => None,
-    }
+    let (word, rest) = words.split_first()?;
+    let name = CommandName::named(word.as_str())?;
+    command_with(name, arguments_of(name.options(), rest))
 }
 
 impl Words {

@@ -21,6 +21,7 @@ use Rattle.pool_history.specs.Inputs.{AreInputs, IsUseOf}
 use Rattle.pool_history.specs.Lawful.{IsLawful}
 use Rattle.pool_history.specs.Replay.{Origin, start, replay}
 use Rattle.pool_history.specs.declared.event.Event.{Event}
+use Rattle.pool_history.specs.declared.outcome.Outcome.TheVariants.{Saturated}
 use Rattle.pool_history.proofs.AboutLines.BeginningLemmas.{replay-sound}
 use Rattle.pool_history.proofs.AboutClaims.ModelLemmas.{resting_models}
 use Rattle.pool_history.proofs.AboutCounting.CountedRecords.{Lookup}
@@ -28,7 +29,7 @@ use Rattle.pool_history.proofs.AboutRecords.PlaceLemmas.{start-placed}
 use Rattle.laws_calculus.specs.Coverage.{CoversEach}
 use Rattle.laws_saturation.specs.Carried.{IsHeld, has_awake_premises}
 use Rattle.laws_saturation.specs.Found.{finds_of}
-use Rattle.laws_saturation.specs.Laws.{CarriedThrough, SaturatedIsSaturated, MembersHaveMet}
+use Rattle.laws_saturation.specs.Laws.{CarriedThrough, SaturatedHasModel, SaturatedIsSaturated, MembersHaveMet}
 use Rattle.laws_calculus.proofs.AboutCovering.ClauseLemmas.{All-In}
 use Rattle.laws_calculus.proofs.AboutCovering.EachLemmas.{each-more}
 use Rattle.laws_saturation.proofs.AboutClosing.RenamingLemmas.{variant-covers}
@@ -37,7 +38,7 @@ use Rattle.laws_saturation.proofs.AboutCarried.ArrivalLemmas.{OpenWith}
 use Rattle.laws_saturation.proofs.AboutCarried.AwakeLemmas.{NameChoice, inference-awake}
 use Rattle.laws_saturation.proofs.AboutCarried.FixedLemmas.{fixed_are_refuted_or_spent}
 use Rattle.laws_saturation.proofs.AboutCarried.HistoryLemmas.{Reaches, history-reaches, started-state, history-covered, started-covered}
-use Rattle.laws_saturation.proofs.AboutClosing.OutcomeLemmas.{members-counted, members-saturated}
+use Rattle.laws_saturation.proofs.AboutClosing.OutcomeLemmas.{saturated-not-fixed, outcome-done, members-counted, members-saturated}
 
 all-pass :
     {is_predicate : ℕ → Bool} (functions : FunctionSymbols is_predicate) (inputs : List TreeClause)
@@ -129,6 +130,12 @@ saturated_is_saturated usage functions origin history inputs used symbols lawful
     members-saturated usage origin.inputs origin.options (finds_of origin history) r (replay-reaches usage origin history inputs used lawful)
     (fixed_are_refuted_or_spent origin history) saturated functions (resting_models usage.is_predicate origin history lawful)
     (replay-covered usage origin history inputs used lawful (record { truth = valuation_of r.model; parts = r.parts }) functions symbols)
+
+pub saturated_has_model : SaturatedHasModel
+saturated_has_model is_predicate origin history lawful saturated =
+    let r : PoolRecord = replay origin history in
+    resting_models is_predicate origin history lawful
+    (outcome-done r Saturated (fixed_are_refuted_or_spent origin history) saturated-not-fixed saturated).rests
 
 pub members_have_met : MembersHaveMet
 members_have_met usage origin history key c inputs used lawful saturated inferred =

@@ -59,12 +59,12 @@ use Rattle.laws_saturation.proofs.AboutCarried.VictimLemmas.{living-registered}
 -- ---- at rest
 
 -- Nothing waits and nothing is out; so the outcome is told by the first inference of living awake clauses that was set aside, if there is one.
-record IsDone (r : PoolRecord) (outcome : Outcome) : Type 0 where
-  is_open : r.ended ≡ None
-  rests : is_at_rest r ≡ true
-  none_given : r.given ≡ []
-  none_ready : ready r ≡ []
-  tells : heavy_or_saturated (position (is_of_living r) r.set_aside) ≡ outcome
+pub record IsDone (r : PoolRecord) (outcome : Outcome) : Type 0 where
+  pub is_open : r.ended ≡ None
+  pub rests : is_at_rest r ≡ true
+  pub none_given : r.given ≡ []
+  pub none_ready : ready r ≡ []
+  pub tells : heavy_or_saturated (position (is_of_living r) r.set_aside) ≡ outcome
 
 no-items : {X : Type 0} (xs : List X) (k : ℕ) → length xs + k ≡ 0 → xs ≡ []
 no-items [] k none = refl
@@ -75,7 +75,7 @@ nothing-picked r choice [] h = refl
 nothing-picked r Light (n ∷ ns) h = absurd (true≢false h)
 nothing-picked r Old (n ∷ ns) h = absurd (true≢false h)
 
-outcome-done : (r : PoolRecord) (outcome : Outcome) → OnlyFixed r → (IsFixed (Some outcome) → ⊥) → outcome_of r ≡ Some outcome → IsDone r outcome
+pub outcome-done : (r : PoolRecord) (outcome : Outcome) → OnlyFixed r → (IsFixed (Some outcome) → ⊥) → outcome_of r ≡ Some outcome → IsDone r outcome
 outcome-done r outcome fixed other stands = by r.ended refl stands
   where
     by : (o : Option Outcome) → r.ended ≡ o → outcome_by o r ≡ Some outcome → IsDone r outcome
@@ -96,7 +96,7 @@ outcome-done r outcome fixed other stands = by r.ended refl stands
 
 -- ---- saturated, or heavy
 
-saturated-not-fixed : IsFixed (Some Saturated) → ⊥
+pub saturated-not-fixed : IsFixed (Some Saturated) → ⊥
 saturated-not-fixed fixed =
     ⊎_elim (λ (e : Some Saturated ≡ Some Refuted). refuted e) (λ (e : (count : ℕ) × (Some Saturated ≡ Some (Spent count))). spent e.0 e.1) fixed
   where

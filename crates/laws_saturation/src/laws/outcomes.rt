@@ -2,6 +2,7 @@
 
 ghost use Rattle.laws_saturation.specs.Laws.{
   FixedAreRefutedOrSpent,
+  SaturatedHasModel,
   SaturatedIsSaturated,
   MembersHaveMet,
   HeavyIsNamed,
@@ -16,6 +17,11 @@ pub fn fixed_are_refuted_or_spent()
 /// and the conclusion of each ground inference among them.
 pub fn saturated_is_saturated()
     ensures { SaturatedIsSaturated }
+{}
+
+/// Under the outcome Saturated the model, by which clauses are members or not, makes every propositional clause true.
+pub fn saturated_has_model()
+    ensures { SaturatedHasModel }
 {}
 
 /// Under the outcome Saturated each inference that is named among the members was counted and not set aside, and the job of its last

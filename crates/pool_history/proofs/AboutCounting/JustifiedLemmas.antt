@@ -52,7 +52,7 @@ module _ (is_predicate : ℕ → Bool) (options : Options) where
   removal-others clauses j victim justifiers Heavy right = absurd right
 
   -- the clauses of a removal that is right were registered
-  removal-registered :
+  pub removal-registered :
       (before : PoolRecord) (j : GivenJob) (m : Removal)
       → IsRightRemoval is_predicate options (clauses_of before) j m → list_all (λ n. nat_lt n (length before.registered)) (m.victim ∷ m.justifiers) ≡ true
   removal-registered before j m right =

@@ -17,6 +17,7 @@ use Rattle.kernel_steps.specs.FromTrees.{line_of}
 use Rattle.pool_history.specs.Registering.{comes, unless_ended, with_inputs}
 use Rattle.pool_history.specs.Inputs.{AreInputs, IsUseOf}
 use Rattle.pool_history.specs.Wholeness.{IsWhole, RegisteredAreWhole}
+use Rattle.pool_history.specs.Models.{NamesAreMet}
 use Rattle.pool_history.specs.Derived.{IsPoolLine, LinesAreDerived, NamesRise, RefutedIsRefutation}
 use Rattle.pool_history.specs.Lawful.{IsLawful}
 use Rattle.pool_history.specs.Replay.{Origin, start, replay}
@@ -102,6 +103,7 @@ module _ (usage : SymbolUse) (inputs : List TreeClause) where
     over_names = λ n p there. absurd (none-some p there);
     handed_few = λ s none. absurd (none-some s none);
     bare = λ none. refl;
+    below = refl;
     refuted = λ h. absurd (none-some Refuted h);
   }
 
@@ -134,6 +136,9 @@ registered_are_whole usage origin history inputs used lawful = (replay-sound usa
 
 pub lines_are_derived : LinesAreDerived
 lines_are_derived usage origin history inputs used lawful = (replay-sound usage origin history inputs used lawful).made
+
+pub names_are_met : NamesAreMet
+names_are_met usage origin history inputs used lawful = (replay-sound usage origin history inputs used lawful).below
 
 pub names_rise : NamesRise
 names_rise usage origin history inputs used lawful = (replay-sound usage origin history inputs used lawful).named.rise

@@ -3,7 +3,7 @@ use Rattle.std.proofs.Common.{◌≡◌, ℕ, ◌+◌, ◌-◌, ◌<◌, ◌≤�
 use Rattle.std.specs.Prelude.{Option, None, Some, slice_get, option_map, option_and_then, unwrap_or, nat_lt, flat_map, All}
 use Rattle.std.specs.List.{list_all, last_or}
 use Rattle.std.proofs.Math.Seq.{take-append-add}
-use Rattle.std.proofs.lemmas.Bool.{true≢false, cond-true, cond-false, cases_Bool}
+use Rattle.std.proofs.lemmas.Bool.{true≢false, and_from, cond-true, cond-false, cases_Bool}
 use Rattle.std.proofs.lemmas.List.{take-append-le, take-map, map-append}
 use Rattle.std.proofs.lemmas.List.Elements.{All-append, All-push}
 use Rattle.std.proofs.lemmas.Option.{slice_get_within, slice_get-map}
@@ -25,8 +25,9 @@ use Rattle.kernel_steps.specs.declared.step.Step.{Step}
 use Rattle.kernel_steps.specs.declared.step.Step.TheVariants.{Input, Negate, Clausify, Para, Refl, Factor, Merge, Component, Opposite, Split, Chain}
 use Rattle.kernel_steps.specs.declared.step.Line.{Line}
 use Rattle.kernel_steps.proofs.AboutCalls.LineLemmas.{parent_line}
-use Rattle.pool_history.specs.Tags.{name_of_tag, line_names}
-use Rattle.pool_history.specs.Record.{PoolRecord, Registered, SolverJob, PropositionalClause}
+use Rattle.sat_core.specs.Clause.{is_below, names_below}
+use Rattle.pool_history.specs.Tags.{name_of_tag, name_count, line_names}
+use Rattle.pool_history.specs.Record.{PoolRecord, Registered, SolverJob, PropositionalClause, propositional_clauses}
 use Rattle.pool_history.specs.Lines.{with_lines, line_number, with_parents, pool_line, result_of}
 use Rattle.pool_history.specs.Registering.{registered_by, registered_last, with_propositional}
 use Rattle.pool_history.specs.Reduction.{Lookup, AreLinesFrom}
@@ -131,6 +132,7 @@ module _ (usage : SymbolUse) (inputs : List TreeClause) where
     pub handed_few : (s : SolverJob) → solver ≡ Some s → s.clauses ≤ length propositional
     -- where no part was met there is no propositional clause
     pub bare : parts ≡ [] → propositional ≡ []
+    pub below : names_below (name_count parts) (map (λ (p : PropositionalClause). p.names) propositional) ≡ true
     pub refuted : ended ≡ Some Refuted → EndsWith lines empty_clause
 
   abbrev pub Sound : PoolRecord → Type 0
@@ -199,6 +201,7 @@ module _ (usage : SymbolUse) (inputs : List TreeClause) where
         record { line = at.line; there = get-left r.lines more p.line at.line at.there; gives = at.gives };
     handed_few = sound.handed_few;
     bare = sound.bare;
+    below = sound.below;
     refuted = λ h. absurd (not-refuted r.ended is_open h);
   }
 
@@ -219,14 +222,16 @@ module _ (usage : SymbolUse) (inputs : List TreeClause) where
     over_names = sound.over_names;
     handed_few = sound.handed_few;
     bare = sound.bare;
+    below = sound.below;
     refuted = sound.refuted;
   }
 
   -- a propositional clause, whose line is the last
   pub propositional-sound :
       (r : PoolRecord) (names : List NameLit)
-      → Sound r → (r.parts ≡ [] → ⊥) → EndsWith r.lines (under_names [] names) → Sound (with_propositional names r)
-  propositional-sound r names sound some_part is = record {
+      → Sound r → (r.parts ≡ [] → ⊥) → list_all (is_below (name_count r.parts)) names ≡ true → EndsWith r.lines (under_names [] names)
+      → Sound (with_propositional names r)
+  propositional-sound r names sound some_part below is = record {
     whole = sound.whole;
     lined = sound.lined;
     made = sound.made;
@@ -244,6 +249,10 @@ module _ (usage : SymbolUse) (inputs : List TreeClause) where
         length-append r.propositional (record { names = names; line = length r.lines - 1 } ∷ []) in
         omega (arith, few, count);
     bare = λ none. absurd (some_part none);
+    below =
+        ap (names_below (name_count r.parts)) (map-append (λ (p : PropositionalClause). p.names) r.propositional (record { names = names; line = length r.lines - 1 } ∷ []))
+        ∙ list_all-joined (list_all (is_below (name_count r.parts))) (propositional_clauses r) (names ∷ []) sound.below
+        (and_from (list_all (is_below (name_count r.parts)) names) true below refl);
     refuted = sound.refuted;
   }
     where

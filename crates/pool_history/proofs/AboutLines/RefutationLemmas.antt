@@ -305,5 +305,6 @@ module _ (usage : SymbolUse) (inputs : List TreeClause) (r : PoolRecord) (s : So
             record { line = at.line; there = has.kept p.line at.line at.there; gives = at.gives };
         handed_few = λ j none. absurd (none-some j none);
         bare = sound.bare;
+        below = sound.below;
         refuted = λ h. has.ends [] (last-empty None right.made right.empty);
       }

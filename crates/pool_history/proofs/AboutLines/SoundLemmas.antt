@@ -56,6 +56,8 @@ use Rattle.pool_history.proofs.AboutLines.PartLemmas.{IsPart, one-part, some-lit
 use Rattle.pool_history.proofs.AboutLines.PoolLineLemmas.{on_line, HasLine, Sound, Continue, EndsWith, ends_behind, continued-lines, continued-line, continued-sound, propositional-sound, Arrives, arrives-more, batch-continues}
 use Rattle.pool_history.proofs.AboutLines.SplitSoundLemmas.{split_up-sound}
 use Rattle.pool_history.proofs.AboutLines.RefutationLemmas.{refuted-sound}
+use Rattle.pool_history.proofs.AboutLines.AssertionLemmas.{below-from}
+use Rattle.pool_history.proofs.AboutLines.NameBoundLemmas.{line-names-below}
 use Rattle.pool_history.proofs.AboutLines.SizeLemmas.{moves-size, conclusion-small}
 use Rattle.pool_history.proofs.AboutRecords.ItemLemmas.{all-at}
 
@@ -152,10 +154,12 @@ module _ (usage : SymbolUse) (inputs : List TreeClause) where
             over_names = registered.over_names;
             handed_few = registered.handed_few;
             bare = registered.bare;
+            below = registered.below;
             refuted = λ h. subst (EndsWith usage inputs (r.lines ++ lines)) (ap₂ under_names bare without) ends;
           })
           (λ asserted.
           propositional-sound usage inputs (with_lines r lines) (line_names r.parts c.names) put (some-part c.names is.whole.met asserted)
+          (line-names-below r.parts c.names (below-from (length r.parts) c.names is.whole.asserts.negative is.whole.met))
           (subst (λ ls. EndsWith usage inputs (r.lines ++ lines) (under_names ls (line_names r.parts c.names))) bare ends))
 
   -- ---- results of a batch
@@ -199,6 +203,7 @@ module _ (usage : SymbolUse) (inputs : List TreeClause) where
       over_names = sound.over_names;
       handed_few = sound.handed_few;
       bare = sound.bare;
+      below = sound.below;
       refuted = λ (h : Some (Spent (length r.counted)) ≡ Some Refuted). absurd (spent-not-refuted (length r.counted) h);
     }
       where
@@ -362,6 +367,7 @@ module _ (usage : SymbolUse) (inputs : List TreeClause) where
       over_names = sound.over_names;
       handed_few = λ s none. absurd (none-some s none);
       bare = sound.bare;
+      below = sound.below;
       refuted = sound.refuted;
     }
 
@@ -397,6 +403,7 @@ module _ (usage : SymbolUse) (inputs : List TreeClause) where
           ap (λ (j : SolverJob). j.clauses) (same_Some (record { job = job; clauses = length r.propositional; names = name_count r.parts }) s same) in
           omega (arith, all);
       bare = sound.bare;
+      below = sound.below;
       refuted = sound.refuted;
     }
     after-sound r (ReturnModel job truths) allowed sound = modelled-sound r.solver truths r sound
@@ -410,6 +417,7 @@ module _ (usage : SymbolUse) (inputs : List TreeClause) where
       over_names = sound.over_names;
       handed_few = kept r.solver sound.handed_few;
       bare = sound.bare;
+      below = sound.below;
       refuted = sound.refuted;
     }
       where

@@ -28,7 +28,8 @@ use Rattle.kernel_steps.specs.declared.step.Line.{Line}
 use Rattle.split_parts.specs.Tags.{has_part, with_part}
 use Rattle.split_parts.specs.SignedNames.{is_ground_negative, affirmed, named, signed_name}
 use Rattle.split_parts.proofs.AboutTags.TagLawLemmas.{met-there}
-use Rattle.pool_history.specs.Record.{PoolRecord, Registered}
+use Rattle.pool_history.specs.Tags.{name_count}
+use Rattle.pool_history.specs.Record.{PoolRecord, Registered, propositional_clauses}
 use Rattle.pool_history.specs.Registering.{definitions, with_new_part}
 use Rattle.pool_history.specs.Wholeness.{IsWhole}
 use Rattle.pool_history.specs.Derived.{IsPoolLine}
@@ -37,6 +38,7 @@ use Rattle.pool_history.proofs.AboutRecords.ItemLemmas.{all-at}
 use Rattle.pool_history.proofs.AboutLines.JoinedLemmas.{by-test, get-left, get-cases, BehindAt}
 use Rattle.pool_history.proofs.AboutLines.AssertionLemmas.{line_names-grown, below-from}
 use Rattle.pool_history.proofs.AboutLines.WrittenLemmas.{clause-written, written-line}
+use Rattle.pool_history.proofs.AboutLines.NameBoundLemmas.{all-below-higher, more-names}
 use Rattle.pool_history.proofs.AboutLines.NewNameLemmas.{next, component_lines, opposite_lines, new-named, component-comes, opposite-comes}
 use Rattle.pool_history.proofs.AboutLines.PartLemmas.{IsPart}
 use Rattle.pool_history.proofs.AboutLines.PoolLineLemmas.{HasLine, Sound, GoOn, lines-joined, not-refuted}
@@ -220,5 +222,7 @@ module _ (usage : SymbolUse) (inputs : List TreeClause) where
           record { line = at.line; there = get-left r.lines (first_lines ++ second_lines) p.line at.line at.there; gives = at.gives };
       handed_few = sound.handed_few;
       bare = λ none. absurd (true≢false (sym (met-there r.parts part) ∙ ap (has_part part) none));
+      below =
+          all-below-higher (name_count r.parts) (name_count (with_part r.parts part)) (propositional_clauses r) (more-names r.parts part) sound.below;
       refuted = λ h. absurd (not-refuted usage inputs r.ended is_open h);
     }

@@ -30,7 +30,7 @@ use Rattle.split_parts.proofs.AboutTags.TagLemmas.{parts-same}
 use Rattle.split_parts.proofs.AboutTags.TagLawLemmas.{met-there}
 use Rattle.split_parts.proofs.AboutTags.SignedLemmas.{tag-below}
 use Rattle.pool_history.specs.Components.{components_of, parts_of}
-use Rattle.pool_history.specs.Tags.{line_names}
+use Rattle.pool_history.specs.Tags.{name_count, line_names}
 use Rattle.pool_history.specs.Record.{PoolRecord, has_living}
 use Rattle.pool_history.specs.Lines.{with_lines, last_number, definition_of}
 use Rattle.pool_history.specs.Registering.{with_new_part, with_tag, with_part_clause, with_split, split_up, registered_by}
@@ -40,7 +40,8 @@ use Rattle.pool_history.proofs.AboutRecords.FrameLemmas.{by-if}
 use Rattle.pool_history.proofs.AboutRecords.ItemLemmas.{all-at}
 use Rattle.pool_history.proofs.AboutLines.JoinedLemmas.{by-test}
 use Rattle.pool_history.proofs.AboutLines.FinestLemmas.{computed-finest}
-use Rattle.pool_history.proofs.AboutLines.AssertionLemmas.{assertions-from}
+use Rattle.pool_history.proofs.AboutLines.AssertionLemmas.{assertions-from, below-from}
+use Rattle.pool_history.proofs.AboutLines.NameBoundLemmas.{signed-below, line-names-below, split-names-below}
 use Rattle.pool_history.proofs.AboutLines.WrittenLemmas.{clause-written, written-line}
 use Rattle.pool_history.proofs.AboutLines.NameTableLemmas.{AreNamed, IsDefined, at-tag, part-defined}
 use Rattle.pool_history.proofs.AboutLines.PartLemmas.{IsPart}
@@ -186,6 +187,9 @@ module _ (usage : SymbolUse) (inputs : List TreeClause) where
         refl (λ test truth pass. refl))
         (alone line refl))
         (some-part (components_of c.literals) there (some-component c.literals some))
+        (split-names-below (name_count r.parts) (line_names r.parts c.names) signed_names
+        (line-names-below r.parts c.names (below-from (length r.parts) c.names is.whole.asserts.negative is.whole.met))
+        (signed-below r.parts (parts_of c.literals) there))
         (record { last = line; ends = record { before = r.lines; ends = refl }; gives = clause-written split_clause })
       where
         some-part :

@@ -10,9 +10,9 @@ use Rattle.pool_history.specs.Claiming.{next_given, can_give, given_out, claimed
 use Rattle.pool_history.specs.Returning.{worked, becomes_active, returns_to}
 use Rattle.pool_history.specs.Solving.{must_solve, modelled_by, refuted_by}
 use Rattle.pool_history.specs.Outcomes.{is_at_rest, is_of_living, heavy_or_saturated, outcome_by, outcome_of}
-use Rattle.pool_history.specs.Replay.{after, start}
+use Rattle.pool_history.specs.Replay.{after, start, replay}
 use Rattle.pool_history.specs.Lawful.{IsAllowed, IsLawfulFrom}
-use Rattle.pool_history.specs.Laws.{OutcomesStay}
+use Rattle.pool_history.specs.Laws.{NothingFollowsRest, OutcomesStay}
 use Rattle.pool_history.specs.declared.options.Options.{Options}
 use Rattle.pool_history.specs.declared.batch.Batch.{Batch}
 use Rattle.pool_history.specs.declared.outcome.Outcome.{Outcome}
@@ -119,3 +119,15 @@ outcomes_stay is_predicate origin history later outcome lawful stands =
     ap outcome_of (later-append origin.options history later (start origin))
     ∙ outcome-stays is_predicate origin.options outcome later (later_of origin.options (start origin) history)
     (lawful-append is_predicate origin.options history later (start origin) lawful).1 stands
+
+pub nothing_follows_rest : NothingFollowsRest
+nothing_follows_rest is_predicate origin history later outcome lawful is_open stands =
+    by later (lawful-append is_predicate origin.options history later (start origin) lawful).1
+  where
+    r : PoolRecord
+    r = replay origin history
+
+    by : (es : List Event) → IsLawfulFrom is_predicate origin.options r es → es ≡ []
+    by [] lawful = refl
+    by (e ∷ es) lawful =
+        absurd (no-event is_predicate origin.options outcome r e (resting is_predicate origin.options outcome r is_open stands) lawful.0)

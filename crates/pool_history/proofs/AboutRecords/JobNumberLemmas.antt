@@ -14,7 +14,7 @@ use Rattle.pool_history.specs.Claiming.{next_given, given_out, claimed_by}
 use Rattle.pool_history.specs.Events.{job_of}
 use Rattle.pool_history.specs.Lawful.{IsAllowed, IsLawfulFrom}
 use Rattle.pool_history.specs.Laws.{is_given, JobsAreCounted, JobsWereGiven, PositionsStay}
-use Rattle.pool_history.specs.Replay.{without_solver, after, start, replay}
+use Rattle.pool_history.specs.Replay.{Origin, without_solver, after, start, replay}
 use Rattle.pool_history.specs.declared.options.Options.{Options}
 use Rattle.pool_history.specs.declared.batch.Batch.{Batch}
 use Rattle.pool_history.specs.declared.batch.Work.{Work}
@@ -145,7 +145,7 @@ jobs_are_counted is_predicate origin history lawful =
 
 module _ (is_predicate : ℕ → Bool) (options : Options) where
   -- the solver's job was given
-  abbrev IsSolverGiven : ℕ → Option SolverJob → Type 0
+  abbrev pub IsSolverGiven : ℕ → Option SolverJob → Type 0
   IsSolverGiven jobs None = Unit {0}
   IsSolverGiven jobs (Some s) = (1 ≤ s.job) × (s.job ≤ jobs)
 
@@ -153,12 +153,12 @@ module _ (is_predicate : ℕ → Bool) (options : Options) where
   solver-later jobs more None less given = tt
   solver-later jobs more (Some s) less given = (given.0, omega (arith, less, given.1))
 
-  record AreNumbered (r : PoolRecord) : Type 0 where
+  pub record AreNumbered (r : PoolRecord) : Type 0 where
     pub rise : Rising 0 r.jobs r.given
     pub solver : IsSolverGiven r.jobs r.solver
 
   -- a job on a given clause that is out
-  given-bound : (low high job : ℕ) (js : List GivenJob) (j : GivenJob) → Rising low high js → find (λ (k : GivenJob). k.job == job) js ≡ Some j → (low + 1 ≤ job) × (job ≤ high)
+  pub given-bound : (low high job : ℕ) (js : List GivenJob) (j : GivenJob) → Rising low high js → find (λ (k : GivenJob). k.job == job) js ≡ Some j → (low + 1 ≤ job) × (job ≤ high)
   given-bound low high job [] j rise found = absurd (none-some j found)
   given-bound low high job (k ∷ ks) j rise found = by (k.job == job) refl found (given-bound k.job high job ks j rise.1)
     where
@@ -215,7 +215,7 @@ module _ (is_predicate : ℕ → Bool) (options : Options) where
   without-given job jobs (Some s) given = by-if (IsSolverGiven jobs) (s.job == job) None (Some s) tt given
 
   -- what an event leaves of the jobs
-  record Numbers (r s : PoolRecord) (job : ℕ) : Type 0 where
+  pub record Numbers (r s : PoolRecord) (job : ℕ) : Type 0 where
     pub more : r.jobs ≤ s.jobs
     pub solver : IsSolverGiven s.jobs s.solver
     pub job_given : (1 ≤ job) × (job ≤ s.jobs)
@@ -227,7 +227,7 @@ module _ (is_predicate : ℕ → Bool) (options : Options) where
     job_given = (bound.0, let most = bound.1 in omega (arith, same, most));
   }
 
-  event-numbers : (r : PoolRecord) (e : Event) → IsAllowed is_predicate options r e → AreNumbered r → Numbers r (after options r e) (job_of e)
+  pub event-numbers : (r : PoolRecord) (e : Event) → IsAllowed is_predicate options r e → AreNumbered r → Numbers r (after options r e) (job_of e)
   event-numbers r (Claim job) allowed numbered =
       let next : job ≡ suc r.jobs = (allowed.0).0 in
       let jobs : (after options r (Claim job)).jobs ≡ job = claimed-job options job (next_given r) r allowed.2 in
@@ -284,12 +284,18 @@ module _ (is_predicate : ℕ → Bool) (options : Options) where
         All-cons (WasGiven last) e es ((numbers.job_given).0, omega (arith, most, later)) rest.1,
       )
 
+-- the inputs bring no jobs
+pub begins-solver : (origin : Origin) → (start origin).solver ≡ None
+begins-solver origin = ap (λ (r : PoolRecord). r.solver) (inputs-register origin.options.split 0 origin.inputs nothing_registered).same
+
+pub begins-numbered : (is_predicate : ℕ → Bool) (origin : Origin) → AreNumbered is_predicate origin.options (start origin)
+begins-numbered is_predicate origin =
+    let grown = registers-grows nothing_registered (start origin) (inputs-register origin.options.split 0 origin.inputs nothing_registered) in
+    record {
+      rise = subst (λ k. Rising 0 k (start origin).given) (sym grown.jobs) (subst (λ js. Rising 0 0 js) (sym grown.given) (omega arith));
+      solver = subst (IsSolverGiven is_predicate origin.options (start origin).jobs) (sym (begins-solver origin)) tt;
+    }
+
 pub jobs_were_given : JobsWereGiven
 jobs_were_given is_predicate origin history lawful =
-    let begun = inputs-register origin.options.split 0 origin.inputs nothing_registered in
-    let grown = registers-grows nothing_registered (start origin) begun in
-    (jobs-given is_predicate origin.options history (start origin) lawful
-    (record {
-      rise = subst (λ k. Rising 0 k (start origin).given) (sym grown.jobs) (subst (λ js. Rising 0 0 js) (sym grown.given) (omega arith));
-      solver = subst (IsSolverGiven is_predicate origin.options (start origin).jobs) (sym (ap (λ (r : PoolRecord). r.solver) begun.same)) tt;
-    })).1
+    (jobs-given is_predicate origin.options history (start origin) lawful (begins-numbered is_predicate origin)).1

@@ -1,8 +1,8 @@
 // Laws of lawful histories: each is the contract of a function without arguments and with an empty body.
 
 ghost use Rattle.pool_history.specs.Derived.{LinesAreDerived, NamesRise, RefutedIsRefutation};
-ghost use Rattle.pool_history.specs.Laws.{BatchesStayRight, ClaimedInTime, CountedOnce, DeathsAreJustified, GivenJobsStayOut, HeavyOrNot, JobsAreCounted, JobsWereGiven, NumbersFit, OutcomesStay, PicksAreChosen, PositionsStay, ReplacedWereReduced, SetAsideAreHeavy, SolverJobsStayOut, SpentIsTheCount};
-ghost use Rattle.pool_history.specs.Wholeness.{PositionsAreRegistered, RegisteredAreOnePart, RegisteredAreWhole, ToldHavePositions};
+ghost use Rattle.pool_history.specs.Laws.{BatchesStayRight, ClaimedInTime, CountedOnce, DeathsAreJustified, EndedJobsAreGone, GivenJobsStayOut, HeavyOrNot, JobsAreCounted, JobsWereGiven, NothingFollowsRest, NumbersFit, OutcomesStay, PicksAreChosen, PositionsStay, ReplacedWereReduced, SetAsideAreHeavy, SolverJobsStayOut, SpentIsTheCount};
+ghost use Rattle.pool_history.specs.Wholeness.{ClausesStay, PositionsAreRegistered, RegisteredAreOnePart, RegisteredAreWhole, ToldHavePositions};
 
 /// A clause that stays awake and alive, with m older ones, is claimed within 6(m + 1) given claims, while no job is given up.
 pub fn claimed_in_time()
@@ -27,6 +27,11 @@ pub fn picks_are_chosen()
 /// Once an outcome stands it stays.
 pub fn outcomes_stay()
     ensures { OutcomesStay }
+{}
+
+/// An outcome that comes by rest is the end: no event follows it.
+pub fn nothing_follows_rest()
+    ensures { NothingFollowsRest }
 {}
 
 /// A key that was set aside was counted, and names a heavy inference of registered clauses.
@@ -79,7 +84,7 @@ pub fn counted_once()
     ensures { CountedOnce }
 {}
 
-/// A clause was counted as replaced only where it died with a reduced result.
+/// A clause was counted as replaced exactly where it died with a reduced result.
 pub fn replaced_were_reduced()
     ensures { ReplacedWereReduced }
 {}
@@ -90,9 +95,19 @@ pub fn jobs_stay_out()
     ensures solver { SolverJobsStayOut }
 {}
 
+/// A job that an event ended is out no more, and no later job has its number.
+pub fn ended_jobs_are_gone()
+    ensures { EndedJobsAreGone }
+{}
+
 /// The jobs that are given out have the numbers 1, 2, 3 and so on, in order.
 pub fn jobs_are_counted()
     ensures { JobsAreCounted }
+{}
+
+/// A registered clause keeps its number, and a dead one stays dead.
+pub fn clauses_stay()
+    ensures { ClausesStay }
 {}
 
 /// A position that was given stays.

@@ -1,6 +1,6 @@
 // Laws of propositional clauses and their models: each is the contract of a function without arguments and with an empty body.
 
-ghost use Rattle.pool_history.specs.Models.{AnswersStayRight, ModelsAreRight, PropositionalClausesStay, RestingModels};
+ghost use Rattle.pool_history.specs.Models.{AnswersStayRight, ModelsAreRight, NamesAreMet, PropositionalClausesStay, RestingModels};
 
 /// Propositional clauses only come, so an answer that is right for those that a job was told stays right for them.
 pub fn propositional_clauses_stay()
@@ -12,4 +12,9 @@ pub fn propositional_clauses_stay()
 pub fn models_are_right()
     ensures each { ModelsAreRight }
     ensures resting { RestingModels }
+{}
+
+/// The names in propositional clauses are below the number of names: a solver that is told the clauses is told enough names.
+pub fn names_are_met()
+    ensures { NamesAreMet }
 {}

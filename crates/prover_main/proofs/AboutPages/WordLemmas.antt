@@ -1,16 +1,18 @@
--- Words behind a command, counted and by their rule; and the values of options.
-use Rattle.std.proofs.Common.{◌≡◌, ◌≤◌, ℕ, ◌+◌, Bool, true, false, not, ◌&&◌, ◌==◌, List, [], ◌∷◌, ◌++◌, length, take, drop, Option, None, Some, refl, ap, sym, ◌∙◌, subst, arith}
-use Rattle.std.specs.Prelude.{⊤, fold, bytes_eq, nat_le, option_and_then, unwrap_or, is_some, codes, if◌then◌else◌}
+-- Words after a command, counted and by their rule; and the values of options.
+use Rattle.std.proofs.Common.{◌≡◌, ◌≤◌, ◌<◌, ℕ, ◌+◌, Bool, true, false, not, ◌&&◌, List, [], ◌∷◌, length, map, drop, get_or, Option, None, Some, refl, ap, sym, ◌∙◌, subst, arith}
+use Rattle.std.specs.Prelude.{⊤, fold, bytes_eq, nat_le, option_and_then, unwrap_or, is_some, if◌then◌else◌}
 use Rattle.std.specs.List.{filter}
-use Rattle.std.specs.Str.Pattern.{FindsTextPrefix}
-use Rattle.std.proofs.lemmas.Bool.{leb-true, true≢false}
+use Rattle.std.proofs.lemmas.Bool.{leb-true}
+use Rattle.std.proofs.lemmas.List.{drop_more}
 use Rattle.plain_types.specs.declared.limits.TheConstants.{DEFAULT_INFERENCES, MOST_INFERENCES}
 use Rattle.tptp_source.specs.Items.{decimal_in}
-use Rattle.std.proofs.lemmas.List.{take-append-drop}
-use Rattle.std.proofs.lemmas.Slice.Eq.{bytes_eq-Decides}
 use Rattle.literal_selection.specs.declared.choice.Selection.{Selection}
-use Rattle.prover_main.specs.Words.{Given, Command, prove, check, is_option, is_filled, file_words, value_behind, no_options, within_limits, limit_in, selection_in, with_root, with_inferences, with_selection, with_selection_by, with_inferences_by, with_option_by, with_option, options_in, options_by, is_root_alone, prove_with, check_with, command_of}
-use Rattle.prover_main.specs.WordParts.{IsFit, FewWords, more_words, few_with, few_of, prove_few, check_few}
+use Rattle.prover_main.specs.Words.{Given, Command, prove, check, commands, options_of, option_word, is_option, is_filled, file_words, setting_in, option_named, no_options, within_limits, limit_in, selection_in, with_root, with_inferences, with_selection, with_value, with_option, options_in, options_by, prove_with, check_with, command_with, command_named, command_of}
+use Rattle.prover_main.specs.WordParts.{IsFit, FewWords, more_words, few_with, few_of, prove_few, check_few, command_few}
+use Rattle.prover_main.specs.declared.words.CommandName.{CommandName}
+use Rattle.prover_main.specs.declared.words.CommandName.TheVariants.{Prove, Check}
+use Rattle.prover_main.specs.declared.words.OptionName.{OptionName}
+use Rattle.prover_main.specs.declared.words.OptionName.TheVariants.{Inferences, Tptp, Select}
 
 -- ---- counted words
 
@@ -18,50 +20,25 @@ more-stays : (ws : List (List ℕ)) → fold few_with more_words ws ≡ more_wor
 more-stays [] = refl
 more-stays (w ∷ ws) = more-stays ws
 
-pub prove-counted : (files : List (List ℕ)) (given : Option Given) → prove_few (few_of files) given ≡ prove_with files given
+prove-counted : (files : List (List ℕ)) (given : Option Given) → prove_few (few_of files) given ≡ prove_with files given
 prove-counted [] given = refl
 prove-counted (f ∷ []) None = refl
 prove-counted (f ∷ []) (Some given) = refl
 prove-counted (f ∷ g ∷ []) given = refl
 prove-counted (f ∷ g ∷ h ∷ fs) given = ap (λ n. prove_few n given) (more-stays fs)
 
-pub check-counted : (files : List (List ℕ)) (given : Option Given) → check_few (few_of files) given ≡ check_with files given
+check-counted : (files : List (List ℕ)) (given : Option Given) → check_few (few_of files) given ≡ check_with files given
 check-counted [] given = refl
 check-counted (f ∷ []) given = refl
 check-counted (f ∷ g ∷ []) None = refl
 check-counted (f ∷ g ∷ []) (Some given) = refl
 check-counted (f ∷ g ∷ h ∷ fs) given = ap (λ n. check_few n given) (more-stays fs)
 
--- ---- values behind names
-
-same-front : (name rest : List ℕ) → take (length name) (name ++ rest) ≡ name
-same-front [] rest = refl
-same-front (b ∷ name) rest = ap (λ t. b ∷ t) (same-front name rest)
-
-starts : (name word rest : List ℕ) → word ≡ name ++ rest → bytes_eq (take (length name) word) name ≡ true
-starts name word rest e = (bytes_eq-Decides (take (length name) word) name).1 (ap (take (length name)) e ∙ same-front name rest)
-
--- where the name doesn't stand in front
-pub value-none : (name word : List ℕ) → ((rest : List ℕ) → word ≡ name ++ rest → ⊥) → None ≡ value_behind name word
-value-none name word lacks = by (bytes_eq (take (length name) word) name) refl
-  where
-    by :
-        (b : Bool) → bytes_eq (take (length name) word) name ≡ b
-        → None ≡ (if b && is_filled (drop (length name) word) then Some (drop (length name) word) else None)
-    by false h = refl
-    by true h =
-        absurd (lacks (drop (length name) word)
-        (sym (take-append-drop (length name) word)
-        ∙ ap (λ t. t ++ drop (length name) word) ((bytes_eq-Decides (take (length name) word) name).0 h)))
-
--- where it does
-pub value-some :
-    (name word value : List ℕ) (k : ℕ) → k ≡ length name → word ≡ name ++ drop k word → value ≡ drop k word
-    → (if is_filled value then Some value else None) ≡ value_behind name word
-value-some name word value k e front v =
-    ap (λ t. if is_filled t then Some t else None) (v ∙ ap (λ i. drop i word) e)
-    ∙ ap (λ b. if b && is_filled (drop (length name) word) then Some (drop (length name) word) else None)
-    (sym (starts name word (drop k word) front))
+counted :
+    (name : CommandName) (files : List (List ℕ)) (given : Option Given)
+    → command_few name (few_of files) given ≡ command_with name files given
+counted Prove files given = prove-counted files given
+counted Check files given = check-counted files given
 
 -- ---- the number of inferences is within its limits
 
@@ -111,25 +88,34 @@ selection-counts given (Some select) h = by (is_some given.select)
     by true = tt
     by false = h
 
-option-counts : (given : Given) (word : List ℕ) → IsWithin given.inferences → Counts (with_option given word)
-option-counts given word h = by (value_behind (codes "--tptp=") word)
+value-counts : (given : Given) (option : OptionName) (value : List ℕ) → IsWithin given.inferences → Counts (with_value given option value)
+value-counts given Inferences value h = inferences-count given (limit_in value) (limit-counts (decimal_in value))
+value-counts given Tptp value h = root-counts given value h
+value-counts given Select value h = selection-counts given (selection_in value) h
+
+option-counts :
+    (options : List OptionName) (given : Given) (word : List ℕ) → IsWithin given.inferences → Counts (with_option options given word)
+option-counts options given word h = by (setting_in word)
   where
-    selection : (o : Option (List ℕ)) → Counts (with_selection_by given o)
-    selection None = tt
-    selection (Some value) = selection-counts given (selection_in value) h
+    named : (value : List ℕ) (o : Option OptionName) → Counts (option_and_then (λ option. with_value given option value) o)
+    named value None = tt
+    named value (Some option) = value-counts given option value h
 
-    inferences : (o : Option (List ℕ)) → Counts (with_inferences_by given word o)
-    inferences None = selection (value_behind (codes "--select=") word)
-    inferences (Some value) = inferences-count given (limit_in value) (limit-counts (decimal_in value))
+    by :
+        (s : Option (List ℕ × List ℕ))
+        → Counts
+        (option_and_then (λ (setting : List ℕ × List ℕ). option_and_then (λ option. with_value given option setting.1) (option_named options setting.0))
+        s)
+    by None = tt
+    by (Some (name, value)) = named value (option_named options name)
 
-    by : (o : Option (List ℕ)) → Counts (with_option_by given word o)
-    by (Some root) = root-counts given root h
-    by None = inferences (value_behind (codes "--inferences=") word)
+abbrev kept : List OptionName → Option Given → List (List ℕ) → Option Given
+kept options given words = fold (λ g w. option_and_then (λ o. with_option options o w) g) given words
 
-options-count : (words : List (List ℕ)) (given : Option Given) → Counts given → Counts (fold (λ g w. option_and_then (λ o. with_option o w) g) given words)
-options-count [] given h = h
-options-count (w ∷ ws) None h = options-count ws None tt
-options-count (w ∷ ws) (Some given) h = options-count ws (with_option given w) (option-counts given w h)
+options-count : (options : List OptionName) (words : List (List ℕ)) (given : Option Given) → Counts given → Counts (kept options given words)
+options-count options [] given h = h
+options-count options (w ∷ ws) None h = options-count options ws None tt
+options-count options (w ∷ ws) (Some given) h = options-count options ws (with_option options given w) (option-counts options given w h)
 
 abbrev Fits : Option Command → Type 0
 Fits None = ⊤
@@ -153,96 +139,84 @@ check-fits : (files : List (List ℕ)) (given : Option Given) → Fits (check_wi
 check-fits [] given = tt
 check-fits (f ∷ []) given = tt
 check-fits (f ∷ g ∷ []) None = tt
-check-fits (f ∷ g ∷ []) (Some given) = by (is_filled f && (is_filled g && is_root_alone given))
+check-fits (f ∷ g ∷ []) (Some given) = by (is_filled f && is_filled g)
   where
     by : (b : Bool) → Fits (if b then Some (check f g given.root) else None)
     by true = tt
     by false = tt
 check-fits (f ∷ g ∷ h ∷ fs) given = tt
 
+with-fits : (name : CommandName) (words : List (List ℕ)) → Fits (command_with name (file_words words) (options_in (options_of name) words))
+with-fits Prove words =
+    prove-fits (file_words words) (options_in (options_of Prove) words)
+    (options-count (options_of Prove) (filter is_option words) (Some no_options) tt)
+with-fits Check words = check-fits (file_words words) (options_in (options_of Check) words)
+
 command-fits : (words : List (List ℕ)) → Fits (command_of words)
 command-fits [] = tt
-command-fits (word ∷ words) = by (bytes_eq word (codes "prove")) (bytes_eq word (codes "check"))
+command-fits (word ∷ words) = by (command_named commands word)
   where
-    by :
-        (b c : Bool)
-        → Fits
-        (if b then prove_with (file_words words) (options_in words)
-        else if c then check_with (file_words words) (options_in words) else None)
-    by true c = prove-fits (file_words words) (options_in words) (options-count (filter is_option words) (Some no_options) tt)
-    by false true = check-fits (file_words words) (options_in words)
-    by false false = tt
+    by : (name : Option CommandName) → Fits (option_and_then (λ n. command_with n (file_words words) (options_in (options_of n) words)) name)
+    by None = tt
+    by (Some name) = with-fits name words
 
 -- a command that words are
 pub commands-fit : (words : List (List ℕ)) (command : Command) → Some command ≡ command_of words → IsFit command
 commands-fit words command e = subst Fits (sym e) (command-fits words)
 
--- ---- what a stripped prefix says
-
-filled : (xs : List ℕ) → (length xs == 0) ≡ false → is_filled xs ≡ true
-filled [] h = absurd (true≢false h)
-filled (x ∷ xs) h = refl
-
-pub value-filled :
-    (name word value : List ℕ)
-    → (n : ℕ) × FindsTextPrefix name word (Some n) × (value ≡ drop n word) × (length value + n ≡ length word)
-    → (length value == 0) ≡ false → Some value ≡ value_behind name word
-value-filled name word value (n, (e, front, b), v, l) h =
-    sym (ap (λ t. if t then Some value else None) (filled value h)) ∙ value-some name word value n e front v
-
 -- ---- words by kinds
 
-abbrev kept : Option Given → List (List ℕ) → Option Given
-kept given words = fold (λ g w. option_and_then (λ o. with_option o w) g) given (filter is_option words)
+pub mapped-rest :
+    {X : Type 0} (f : X → List ℕ) (xs : List X) (i : ℕ) (x : X)
+    → i < length xs → x ≡ get_or xs i x → map f (drop i xs) ≡ f x ∷ map f (drop (i + 1) xs)
+mapped-rest f xs i x below there = ap (map f) (drop_more i xs x below ∙ ap (λ y. y ∷ drop (i + 1) xs) (sym there))
 
+-- an option is no file, and another word is one more
 pub file-skipped :
-    (x total : FewWords) (all rest : List (List ℕ)) (w : List ℕ)
-    → all ≡ w ∷ rest → true ≡ is_option w → fold few_with x (file_words all) ≡ total → fold few_with x (file_words rest) ≡ total
-file-skipped x total all rest w e o h =
-    ap (λ (b : Bool). fold few_with x (if not b then w ∷ file_words rest else file_words rest)) o
+    (x total : FewWords) (all rest : List (List ℕ)) (w v : List ℕ)
+    → all ≡ w ∷ rest → v ≡ w → is_option v ≡ true → fold few_with x (file_words all) ≡ total → fold few_with x (file_words rest) ≡ total
+file-skipped x total all rest w v e same o h =
+    ap (λ (b : Bool). fold few_with x (if not b then w ∷ file_words rest else file_words rest)) (sym (sym (ap is_option same) ∙ o))
     ∙ sym (ap (λ ws. fold few_with x (file_words ws)) e) ∙ h
 
 pub file-added :
-    (x total : FewWords) (all rest : List (List ℕ)) (w : List ℕ)
-    → all ≡ w ∷ rest → false ≡ is_option w → fold few_with x (file_words all) ≡ total → fold few_with (few_with x w) (file_words rest) ≡ total
-file-added x total all rest w e o h =
-    ap (λ (b : Bool). fold few_with x (if not b then w ∷ file_words rest else file_words rest)) o
+    (x next total : FewWords) (all rest : List (List ℕ)) (w v : List ℕ)
+    → all ≡ w ∷ rest → v ≡ w → is_option v ≡ false → next ≡ few_with x v → fold few_with x (file_words all) ≡ total
+    → fold few_with next (file_words rest) ≡ total
+file-added x next total all rest w v e same o n h =
+    ap (λ (y : FewWords). fold few_with y (file_words rest)) (n ∙ ap (few_with x) same)
+    ∙ ap (λ (b : Bool). fold few_with x (if not b then w ∷ file_words rest else file_words rest)) (sym (sym (ap is_option same) ∙ o))
     ∙ sym (ap (λ ws. fold few_with x (file_words ws)) e) ∙ h
 
+-- and so with options
 pub option-skipped :
-    (given total : Option Given) (all rest : List (List ℕ)) (w : List ℕ)
-    → all ≡ w ∷ rest → false ≡ is_option w → kept given all ≡ total → kept given rest ≡ total
-option-skipped given total all rest w e o h =
-    ap (λ (b : Bool). fold (λ g v. option_and_then (λ p. with_option p v) g) given (if b then w ∷ filter is_option rest else filter is_option rest)) o
-    ∙ sym (ap (kept given) e) ∙ h
+    (options : List OptionName) (given total : Option Given) (all rest : List (List ℕ)) (w v : List ℕ)
+    → all ≡ w ∷ rest → v ≡ w → is_option v ≡ false → kept options given (filter is_option all) ≡ total
+    → kept options given (filter is_option rest) ≡ total
+option-skipped options given total all rest w v e same o h =
+    ap (λ (b : Bool). kept options given (if b then w ∷ filter is_option rest else filter is_option rest)) (sym (sym (ap is_option same) ∙ o))
+    ∙ sym (ap (λ ws. kept options given (filter is_option ws)) e) ∙ h
 
 pub option-added :
-    (given total : Option Given) (all rest : List (List ℕ)) (w : List ℕ)
-    → all ≡ w ∷ rest → true ≡ is_option w → kept given all ≡ total → kept (option_and_then (λ o. with_option o w) given) rest ≡ total
-option-added given total all rest w e o h =
-    ap (λ (b : Bool). fold (λ g v. option_and_then (λ p. with_option p v) g) given (if b then w ∷ filter is_option rest else filter is_option rest)) o
-    ∙ sym (ap (kept given) e) ∙ h
+    (options : List OptionName) (given next total : Option Given) (all rest : List (List ℕ)) (w v : List ℕ)
+    → all ≡ w ∷ rest → v ≡ w → is_option v ≡ true → next ≡ option_and_then (λ o. with_option options o v) given
+    → kept options given (filter is_option all) ≡ total → kept options next (filter is_option rest) ≡ total
+option-added options given next total all rest w v e same o n h =
+    ap (λ (g : Option Given). kept options g (filter is_option rest)) (n ∙ ap (λ u. option_and_then (λ p. with_option options p u) given) same)
+    ∙ ap (λ (b : Bool). kept options given (if b then w ∷ filter is_option rest else filter is_option rest)) (sym (sym (ap is_option same) ∙ o))
+    ∙ sym (ap (λ ws. kept options given (filter is_option ws)) e) ∙ h
 
 -- ---- commands
 
-pub command-proves :
-    (all words : List (List ℕ)) (word : List ℕ) (files : FewWords) (given : Option Given) (command : Option Command)
-    → all ≡ word ∷ words → word ≡ codes "prove" → files ≡ few_of (file_words words) → given ≡ options_in words
-    → command ≡ prove_few files given → command ≡ command_of all
-command-proves all words word files given command a w f g c =
+pub command-counted :
+    (all words : List (List ℕ)) (word v : List ℕ) (name : CommandName) (options : List OptionName) (files : FewWords) (given : Option Given)
+    (command : Option Command)
+    → all ≡ word ∷ words → v ≡ word → Some name ≡ command_named commands v → options ≡ options_of name → files ≡ few_of (file_words words)
+    → given ≡ options_in options words → command ≡ command_few name files given → command ≡ command_of all
+command-counted all words word v name options files given command a same n os f g c =
     c
-    ∙ ap (λ n. prove_few n given) f
-    ∙ ap (prove_few (few_of (file_words words))) g
-    ∙ prove-counted (file_words words) (options_in words)
-    ∙ sym (ap command_of (a ∙ ap (λ v. v ∷ words) w))
-
-pub command-checks :
-    (all words : List (List ℕ)) (word : List ℕ) (files : FewWords) (given : Option Given) (command : Option Command)
-    → all ≡ word ∷ words → word ≡ codes "check" → files ≡ few_of (file_words words) → given ≡ options_in words
-    → command ≡ check_few files given → command ≡ command_of all
-command-checks all words word files given command a w f g c =
-    c
-    ∙ ap (λ n. check_few n given) f
-    ∙ ap (check_few (few_of (file_words words))) g
-    ∙ check-counted (file_words words) (options_in words)
-    ∙ sym (ap command_of (a ∙ ap (λ v. v ∷ words) w))
+    ∙ ap (λ fs. command_few name fs given) f
+    ∙ ap (command_few name (few_of (file_words words))) (g ∙ ap (λ o. options_in o words) os)
+    ∙ counted name (file_words words) (options_in (options_of name) words)
+    ∙ ap (λ m. option_and_then (λ k. command_with k (file_words words) (options_in (options_of k) words)) m) (n ∙ ap (command_named commands) same)
+    ∙ sym (ap command_of a)

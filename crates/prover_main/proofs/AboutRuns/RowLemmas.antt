@@ -19,11 +19,11 @@ use Rattle.prover_main.specs.Outside.{Outside, IsTold}
 use Rattle.prover_main.specs.Words.{Command, prove, check, command_of}
 use Rattle.prover_main.specs.declared.answer.Answer.{Answer}
 use Rattle.prover_main.specs.declared.answer.Answer.TheVariants.{Refuted, Saturated, Spent, Heavy, Accepted, Refused, Unloaded, Unread, Unformed}
-use Rattle.prover_main.specs.Answer.{Source, IsUnread, IsUnformed, IsLoaded, IsJudged, IsTooLong, OfFormed, IsRefuted, IsSpent, IsAnswer, IsReadProveAnswer, IsReadCheckAnswer, IsRead}
+use Rattle.prover_main.specs.Answer.{Source, source_of, IsUnread, IsUnformed, IsLoaded, IsJudged, IsTooLong, OfFormed, IsRefuted, IsSpent, IsAnswer, IsReadProveAnswer, IsReadCheckAnswer, IsRead}
 use Rattle.prover_main.specs.Reports.{status_of, read_status, report_of, refuted_report, saturated_report, spent_report, unread_report, usage_report}
 use Rattle.prover_main.specs.Run.{file_of, Taken, IsDueTo, IsDelivery, status_after, IsRun}
 use Rattle.prover_main.specs.Laws.{is_exact, FormedIsValid}
-use Rattle.prover_main.specs.Rows.{source_of, ForProve, ForCheck, Took, IsCut, IsRefutedTheorem, TheoremRow, PrintedRefutation, PrintedRow, PrintedSaturation, SaturatedRow, PrintedSpent, PrintedHeavy, GaveUpRow, PrintedUnread, ReadFaultRow, PrintedUnformed, PrintedInputFault, FormFaultRow, PrintedLoadFault, LoadFaultRow, IsLost, LostOutputRow, UsageRow, MemoryOutRow, PrintedAcceptance, IsRefusedText, PrintedRefusal, CheckedRow, IsValid, IsSettled, by_acceptance, by_refusal, CompleteRow}
+use Rattle.prover_main.specs.Rows.{ForProve, ForCheck, Took, IsCut, IsRefutedTheorem, TheoremRow, PrintedRefutation, PrintedRow, PrintedSaturation, SaturatedRow, PrintedSpent, PrintedHeavy, GaveUpRow, PrintedUnread, ReadFaultRow, PrintedUnformed, PrintedInputFault, FormFaultRow, PrintedLoadFault, LoadFaultRow, IsLost, LostOutputRow, UsageRow, MemoryOutRow, PrintedAcceptance, IsRefusedText, PrintedRefusal, CheckedRow, IsValid, IsSettled, by_acceptance, by_refusal, CompleteRow}
 use Rattle.prover_main.proofs.AboutPages.OneAnswer.{fault-read, not-load, text-one, loaded-short, unformed-formed}
 use Rattle.prover_main.proofs.AboutRuns.EndLemmas.{due-not-five, answered, answered-by, usage-only, usage-due, memory-out, due-to, told-always}
 
@@ -223,16 +223,6 @@ module _ (words : List (List ℕ)) (outside : Outside) (taken : Taken) (status :
   left-out command (Unloaded n) h s w = absurd (omega (arith, s))
   left-out command (Unformed c n) h s w = absurd (omega (arith, s))
 
-  pub read-fault-row : TextsHaveOneAnswer → ReadFaultRow words outside taken status
-  read-fault-row one = record {
-    only = λ s.
-        let x = answered words outside taken status r 8 s refl in
-        record { command = x.command; is_command = x.is_command; says = left-out x.command x.says.answer x.says.is x.says.status_is x.says.report };
-    always = λ command c f p t e h.
-        told-always words outside taken status r one command (Unread c f p) t e
-        (cause-exact c (not-load outside (source_of command) t c f p h)) (is-unread command c f p h);
-  }
-
   input-fault :
       (command : Command) (a : Answer) → IsAnswer outside command a → status_of a ≡ 3 → Took taken (report_of (file_of command) a)
       → PrintedInputFault outside taken command ⊎ PrintedUnformed outside taken command
@@ -247,14 +237,22 @@ module _ (words : List (List ℕ)) (outside : Outside) (taken : Taken) (status :
   input-fault command (Refused n c) h s w = absurd (omega (arith, s))
   input-fault command (Unloaded n) h s w = absurd (omega (arith, s))
 
-  pub form-fault-row : TextsHaveOneAnswer → FormFaultRow words outside taken status
-  form-fault-row one = record {
-    only = λ s.
+  pub read-fault-row : TextsHaveOneAnswer → ReadFaultRow words outside taken status
+  read-fault-row one = record {
+    only_inappropriate = λ s.
+        let x = answered words outside taken status r 8 s refl in
+        record { command = x.command; is_command = x.is_command; says = left-out x.command x.says.answer x.says.is x.says.status_is x.says.report };
+    only_input_error = λ s.
         let x = answered words outside taken status r 3 s refl in
         record { command = x.command; is_command = x.is_command; says = input-fault x.command x.says.answer x.says.is x.says.status_is x.says.report };
-    always = λ command c n t e h.
-        told-always words outside taken status r one command (Unformed c n) t e refl (is-unformed command c n h);
+    always = λ command c f p t e h.
+        told-always words outside taken status r one command (Unread c f p) t e
+        (cause-exact c (not-load outside (source_of command) t c f p h)) (is-unread command c f p h);
   }
+
+  pub form-fault-row : TextsHaveOneAnswer → FormFaultRow words outside taken status
+  form-fault-row one command c n t e h =
+      told-always words outside taken status r one command (Unformed c n) t e refl (is-unformed command c n h)
 
   -- ---- 4
 

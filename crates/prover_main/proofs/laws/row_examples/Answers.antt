@@ -53,14 +53,14 @@ returns-clause-no_saturation c row = none-some _ (row refl).is_prove
 pub returns-clause-nothing_given_up : goal.returns-clause-nothing_given_up
 returns-clause-nothing_given_up c row = none-some _ (row refl).is_prove
 
-pub returns-clause-no_form_fault : goal.returns-clause-no_form_fault
-returns-clause-no_form_fault c row = none-some _ (row.only refl).is_command
+pub returns-clause-no_input_error : goal.returns-clause-no_input_error
+returns-clause-no_input_error c row = none-some _ (row.only_input_error refl).is_command
 
 pub returns-clause-nothing_lost : goal.returns-clause-nothing_lost
 returns-clause-nothing_lost c row = not-risen (row.only refl).rose
 
-pub returns-clause-no_read_fault : goal.returns-clause-no_read_fault
-returns-clause-no_read_fault c row = none-some _ (row.only refl).is_command
+pub returns-clause-no_form_left_out : goal.returns-clause-no_form_left_out
+returns-clause-no_form_left_out c row = none-some _ (row.only_inappropriate refl).is_command
 
 pub returns-clause-nothing_refused : goal.returns-clause-nothing_refused
 returns-clause-nothing_refused c row = none-some _ (row.refused refl).is_check

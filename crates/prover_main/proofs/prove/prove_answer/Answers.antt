@@ -4,6 +4,6 @@ use Rattle.prover_main.proofs.prove.prove_answer.Goals as goal
 
 pub returns : goal.returns
 returns g c =
-    IfOk-weaker c.proof_answer.result _ _
+    IfOk-weaker c.formed_answer.result _ _
     (λ answer h. proof_proves _ _ c.args.options c.in-Ok.formed answer c.in-Ok.ensures.formed h)
-    c.proof_answer.ensures
+    c.formed_answer.ensures

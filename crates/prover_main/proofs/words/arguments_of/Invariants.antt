@@ -8,6 +8,6 @@ use Rattle.prover_main.proofs.words.arguments_of.Given as goal
 abbrev pub invariant-loop-word : goal.invariant-loop-word
 invariant-loop-word l =
     (fold few_with (few_meant l.files) (file_words (map string_bytes (drop l.word-index l.words))) ≡ few_of (file_words (map string_bytes l.words)))
-    × (fold (λ g w. option_and_then (λ o. with_option o w) g) (option_map given_meant l.options)
+    × (fold (λ g w. option_and_then (λ o. with_option l.options o w) g) (option_map given_meant l.given)
     (filter is_option (map string_bytes (drop l.word-index l.words)))
-    ≡ options_in (map string_bytes l.words))
+    ≡ options_in l.options (map string_bytes l.words))
