@@ -14,7 +14,11 @@ use split_parts::NameTable;
 use std::alloc::Global;
 
 /// The clause of the line that introduces a signed name: the literals for which it stands, or its opposite. Linear in the literals.
-pub(crate) fn introducing_clause(alloc: Global, parts: &NameTable, introduced: NameLit) -> Mem<Clause>
+pub(crate) fn introducing_clause(
+    alloc: Global,
+    parts: &NameTable,
+    introduced: NameLit,
+) -> Mem<Clause>
     requires { introduced.name < length (named parts.now.parts) }
     ensures { IfOk result (λ clause. clause_of clause ≡ under_names (stands_for (named parts.now.parts) introduced) (opposite introduced ∷ [])) }
 {

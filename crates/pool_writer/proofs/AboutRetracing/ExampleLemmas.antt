@@ -50,8 +50,7 @@ two-parts-refuting = record {
   lines = two_parts_lines;
   refutes = record {
     derived =
-        derivation-from two_parts two_parts_lines
-        (
+        derivation-from two_parts two_parts_lines (
           refl,
           (
             refl,
@@ -59,10 +58,10 @@ two-parts-refuting = record {
               refl,
               (
                 component-new 0 (take 3 two_parts_lines) _ refl,
-                (component-new 1 (take 4 two_parts_lines) _ refl, (refl, (refl, (refl, (refl, (refl, (refl, tt)))))))
-              )
-            )
-          )
+                (component-new 1 (take 4 two_parts_lines) _ refl, (refl, (refl, (refl, (refl, (refl, (refl, tt))))))),
+              ),
+            ),
+          ),
         );
     before = take 10 two_parts_lines;
     last = _;
@@ -80,8 +79,7 @@ four-clauses-refuting = record {
   lines = four_clauses_lines;
   refutes = record {
     derived =
-        derivation-from four_clauses four_clauses_lines
-        (
+        derivation-from four_clauses four_clauses_lines (
           refl,
           (
             refl,
@@ -97,14 +95,14 @@ four-clauses-refuting = record {
                       opposite-of 0 (take 6 four_clauses_lines) _ refl refl refl,
                       (
                         opposite-of 1 (take 7 four_clauses_lines) _ refl refl refl,
-                        (refl, (refl, (refl, (refl, (refl, (refl, (refl, tt)))))))
-                      )
-                    )
-                  )
-                )
-              )
-            )
-          )
+                        (refl, (refl, (refl, (refl, (refl, (refl, (refl, tt))))))),
+                      ),
+                    ),
+                  ),
+                ),
+              ),
+            ),
+          ),
         );
     before = take 14 four_clauses_lines;
     last = _;
