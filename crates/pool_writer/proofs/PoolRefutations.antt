@@ -1,5 +1,5 @@
 -- Refutations that can be written: their lines can be made anew and read again; and those of a refuted pool.
-use Rattle.std.proofs.Common.{◌≡◌, ℕ, Bool, ◌+◌, ◌-◌, ◌<◌, List, [], ◌∷◌, true, false, length, map, Option, None, Some, refl, ap, sym, ◌∙◌, subst, arith, length-append}
+use Rattle.std.proofs.Common.{◌≡◌, ℕ, Bool, ◌+◌, ◌-◌, List, [], ◌∷◌, true, false, length, Option, None, Some, ap, sym, ◌∙◌, subst, arith, length-append}
 use Rattle.std.specs.Prelude.{slice_get, position, if◌then◌else◌}
 use Rattle.std.proofs.lemmas.Option.{none-some}
 use Rattle.fol_base.specs.Clause.{TreeLiteral, TreeClause}
@@ -24,7 +24,7 @@ use Rattle.pool_history.specs.declared.outcome.Outcome.{Outcome}
 use Rattle.pool_history.specs.declared.outcome.Outcome.TheVariants.{Refuted}
 use Rattle.pool_history.proofs.AboutLines.BeginningLemmas.{replay-sound}
 use Rattle.pool_history.proofs.AboutLines.UnsplitLemmas.{unsplit-parts}
-use Rattle.pool_writer.specs.Retraced.{steps_of, AreRefutingSteps, IsRetracing, AreRetraced}
+use Rattle.pool_writer.specs.Retraced.{AreRefutingSteps, IsRetracing, AreRetraced}
 use Rattle.pool_writer.specs.Refuted.{IsWritableRefutation, AreWritableSteps}
 use Rattle.pool_writer.proofs.AboutRetracing.NeededLemmas.{AreNeeded, needed-of}
 use Rattle.pool_writer.proofs.FormUse.{form-used}

@@ -1,6 +1,6 @@
 -- Two refutations in which clauses are split, over the symbols of their problems as these are read, and the parts for which their names
 -- stand.
-use Rattle.std.specs.Prelude.{ℕ, List, [], ◌∷◌}
+use Rattle.std.specs.Prelude.{List, [], ◌∷◌}
 use Rattle.plain_types.specs.Names.{positive_of, negative_of}
 use Rattle.fol_base.specs.Tree.{Tree, variable, application, no_trees, tree_then, true_tree}
 use Rattle.fol_base.specs.Clause.{TreeLiteral, TreeClause}

@@ -18,7 +18,7 @@ use Rattle.kernel_steps.proofs.AboutCalls.LineLemmas.{slice_get-take, ParentLine
 use Rattle.kernel_steps.specs.ParentNumbers.{with_parents}
 use Rattle.tstp_writer.specs.Cone as cone
 use Rattle.tstp_writer.proofs.AboutNeeded.ConeLemmas.{step-needs}
-use Rattle.pool_writer.specs.Bodies.{HasBody, HaveBodies, ComesWithBody}
+use Rattle.pool_writer.specs.Bodies.{HaveBodies, ComesWithBody}
 use Rattle.pool_writer.specs.Retraced.{place_among, steps_of, AreRefutingSteps, IsRetraced, IsRetracing}
 use Rattle.pool_writer.proofs.AboutRetracing.NeededLemmas.{same-number, AreNeeded}
 use Rattle.pool_writer.proofs.AboutRetracing.RisingLemmas.{later-greater, less-earlier, at-has, place-of, there-at-place}
