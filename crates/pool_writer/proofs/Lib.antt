@@ -7,5 +7,6 @@ pub mod SymbolTests
 pub mod FormUse
 pub mod AboutRetracing
 mod ReadableLines
+mod PoolNames
 mod PoolRefutations
 mod KeyLemmas

@@ -1,6 +1,8 @@
+pub mod Bodies
 pub mod Retraced
 pub mod RetracedLaws
 pub mod RetracedExamples
+pub mod SplitExamples
 pub mod Refuted
 pub mod Saturation
 pub mod SaturationExamples

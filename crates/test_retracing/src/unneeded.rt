@@ -11,6 +11,7 @@ use fol_base::{Clauses, Literal, Position, Side, Terms};
 use kernel_steps::Step;
 use pool_writer::refutation;
 use sample::{atom, constant, unary, unit};
+use split_parts::NameTable;
 use std::alloc::Global;
 use std::process::Abort;
 
@@ -82,6 +83,7 @@ fn unneeded_line_is_left_out(rt: HostRuntime) {
     let alloc = rt.alloc();
     let form = form(&rt, alloc);
     let steps = steps(&rt, alloc);
-    let lines = refutation(alloc, &form, steps.as_slice()).expect(&rt, "memory");
+    let parts = NameTable::new(alloc);
+    let lines = refutation(alloc, &form, &parts, steps.as_slice()).expect(&rt, "memory");
     assert!(rt; lines.len() == 4);
 }

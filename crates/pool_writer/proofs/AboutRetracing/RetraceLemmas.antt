@@ -1,27 +1,29 @@
 -- The lines that are made again, one after another.
-use Rattle.std.proofs.Common.{◌≡◌, ◌⊎◌, ℕ, zero, suc, ◌+◌, ◌-◌, ◌<◌, ◌≤◌, inl, inr, Bool, true, ◌&&◌, List, [], ◌∷◌, ◌++◌, take, length, get_or, Some, None, refl, ap, ap₂, sym, ◌∙◌, subst, arith, ⊎_elim, length-append}
+use Rattle.std.proofs.Common.{◌≡◌, ◌⊎◌, ℕ, zero, suc, ◌+◌, ◌-◌, ◌<◌, ◌≤◌, inl, inr, Bool, true, false, ◌&&◌, List, [], ◌∷◌, ◌++◌, take, length, get_or, Some, None, refl, ap, ap₂, sym, ◌∙◌, subst, arith, ⊎_elim, length-append}
 use Rattle.std.specs.Prelude.{slice_get, option_and_then, nat_le}
-use Rattle.std.specs.List.{list_all}
 use Rattle.std.proofs.lemmas.Bool.{and_from, and_parts, cond-true, leb-true, le-leb, cases_lt}
 use Rattle.std.proofs.lemmas.List.{take-append-le, length-map}
 use Rattle.std.proofs.Math.Seq.{take-append_seam}
 use Rattle.std.proofs.lemmas.Option.{none-some, same_Some, slice_get_within, slice_get-get_or}
-use Rattle.fol_base.specs.Clause.{TreeClause}
+use Rattle.fol_base.specs.Clause.{TreeLiteral, TreeClause}
 use Rattle.fol_base.specs.Literal.{clause_of}
 use Rattle.kernel_steps.specs.Parents.{Parent}
-use Rattle.kernel_steps.specs.Derivation.{is_clause_step, introduces_name, line_parent, line_parents, ComesBy, IsDerivation, IsRefutation}
-use Rattle.kernel_steps.specs.Lines.{step_parents, is_plain_step}
+use Rattle.kernel_steps.specs.Derivation.{is_clause_step, introduces_name, is_component_of, component_clause, line_parent, line_parents, ComesBy, IsDerivation, IsRefutation}
+use Rattle.kernel_steps.specs.Lines.{step_parents}
 use Rattle.kernel_steps.specs.Split.{has_number}
 use Rattle.kernel_steps.specs.declared.step.Step.{Step}
+use Rattle.kernel_steps.specs.declared.step.Step.TheVariants.{Component, Opposite}
 use Rattle.kernel_steps.specs.declared.step.Line.{Line}
-use Rattle.kernel_steps.proofs.AboutCalls.LineLemmas.{ParentLine, parent_line, last-there}
+use Rattle.kernel_steps.proofs.AboutCalls.LineLemmas.{slice_get-take, ParentLine, parent_line, last-there}
 use Rattle.kernel_steps.specs.ParentNumbers.{with_parents}
 use Rattle.tstp_writer.specs.Cone as cone
 use Rattle.tstp_writer.proofs.AboutNeeded.ConeLemmas.{step-needs}
+use Rattle.pool_writer.specs.Bodies.{HaveBodies, ComesWithBody}
 use Rattle.pool_writer.specs.Retraced.{place_among, steps_of, AreRefutingSteps, IsRetraced, IsRetracing}
 use Rattle.pool_writer.proofs.AboutRetracing.NeededLemmas.{same-number, AreNeeded}
 use Rattle.pool_writer.proofs.AboutRetracing.RisingLemmas.{later-greater, less-earlier, at-has, place-of, there-at-place}
-use Rattle.pool_writer.proofs.AboutRetracing.StepLemmas.{parent_by, mapped-parent, mapped-clause_step, mapped-plain, comes-once, comes-mapped, needs-mapped, step-at, line-at, plain-at, parent-at, steps-earlier}
+use Rattle.pool_writer.proofs.AboutRetracing.StepLemmas.{parent_by, mapped-parent, mapped-clause_step, mapped-body, component-mapped, comes-once, comes-mapped, needs-mapped, step-at, line-at, parent-at, steps-earlier}
+use Rattle.pool_writer.proofs.AboutRetracing.NameLemmas.{component-at, none-component, no-component, one-component, is-definition, one-definition}
 
 -- ---- lists
 
@@ -38,6 +40,13 @@ ends-with [] x k long at = absurd (none-some x at)
 ends-with (y ∷ []) x zero long at = ap (λ z. z ∷ []) (same_Some y x at)
 ends-with (y ∷ z ∷ zs) x zero long at = absurd (omega (arith, long))
 ends-with (y ∷ ys) x (suc k) long at = ap (λ zs. y ∷ zs) (ends-with ys x k (omega (arith, long)) at)
+
+-- an item stands in a front that is long enough
+in-front : {X : Type 0} (xs : List X) (n k : ℕ) (x : X) → k < n → slice_get xs k ≡ Some x → slice_get (take n xs) k ≡ Some x
+in-front [] n k x less at = absurd (none-some x at)
+in-front (y ∷ ys) zero k x less at = absurd (omega (arith, less))
+in-front (y ∷ ys) (suc n) zero x less at = at
+in-front (y ∷ ys) (suc n) (suc k) x less at = in-front ys n k x (omega (arith, less)) at
 
 -- ---- the numbers that are needed
 
@@ -64,70 +73,134 @@ module _ (steps : List Step) (numbers : List ℕ) (needed : AreNeeded steps numb
 -- ---- one more line
 
 -- what holds of the lines that were made so far
-pub record IsBuilt (form : List TreeClause) (steps : List Step) (numbers : List ℕ) (count : ℕ) (made : List Line) : Type 0 where
+pub record IsBuilt (form : List TreeClause) (bodies : List (List TreeLiteral)) (steps : List Step) (numbers : List ℕ) (count : ℕ) (made : List Line) : Type 0 where
   pub long : length made ≡ count
   pub derived : IsDerivation form made
   pub lines :
-      (old : List Line) → IsDerivation form old → steps_of old ≡ steps
+      (old : List Line) → IsDerivation form old → HaveBodies bodies old → steps_of old ≡ steps
       → (place : ℕ) (line : Line) → slice_get made place ≡ Some line → IsRetraced numbers old place line
 
-pub built-none : (form : List TreeClause) (steps : List Step) (numbers : List ℕ) → IsBuilt form steps numbers 0 []
-built-none form steps numbers = record {
+pub built-none : (form : List TreeClause) (bodies : List (List TreeLiteral)) (steps : List Step) (numbers : List ℕ) → IsBuilt form bodies steps numbers 0 []
+built-none form bodies steps numbers = record {
   long = refl;
   derived = λ n line at. absurd (none-some line at);
-  lines = λ old derived same place line at. absurd (none-some line at);
+  lines = λ old derived have same place line at. absurd (none-some line at);
 }
 
-module _ (form : List TreeClause) (steps : List Step) (plain : list_all is_plain_step steps ≡ true)
+-- the line that was made for another one
+record IsMadeFor (made : List Line) (numbers : List ℕ) (m : ℕ) (other : Line) : Type 0 where
+  line : Line
+  there : slice_get made (place_among numbers m) ≡ Some line
+  step : line.step ≡ with_parents (place_among numbers) other.step
+  clause : clause_of line.clause ≡ clause_of other.clause
+
+module _ (form : List TreeClause) (bodies : List (List TreeLiteral)) (steps : List Step)
     (numbers : List ℕ) (needed : AreNeeded steps numbers)
     (count number : ℕ) (numbered : slice_get numbers count ≡ Some number)
-    (made : List Line) (built : IsBuilt form steps numbers count made)
+    (made : List Line) (built : IsBuilt form bodies steps numbers count made)
   where
     -- a line of a derivation that has these steps concludes the same from the lines made so far
-    module _ (old : List Line) (derived : IsDerivation form old) (same : steps_of old ≡ steps) (line : Line) (at : slice_get old number ≡ Some line) where
-      same-parent :
-          (m : ℕ) → has_number m (step_parents line.step) ≡ true
-          → line_parents made (place_among numbers m) ≡ line_parents (take number old) m
-      same-parent m has =
-          let parent = parent-at form steps plain old derived same number m line at has in
-          let before : ParentLine old number m parent.0 = parent_line old number m parent.0 parent.1 in
-          let inside : has_number m numbers ≡ true =
-          parent-needed steps numbers needed number m line.step before.line.step (step-at form steps plain old derived same number line at)
-          (step-at form steps plain old derived same m before.line before.there) (at-has numbers count number numbered)
-          (step-needs line.step m before.line (same-number (step_parents line.step) m ∙ has)) in
-          let place : ℕ = place_among numbers m in
-          let stands : slice_get numbers place ≡ Some m = there-at-place numbers m needed.rising inside in
-          let earlier : place < count = less-earlier numbers place count m number needed.rising stands numbered before.earlier in
-          let anew : Line = get_or made place line in
-          let found : slice_get made place ≡ Some anew = slice_get-get_or made place line (omega (arith, earlier, built.long)) in
-          let is : IsRetraced numbers old place anew = built.lines old derived same place anew found in
-          let number_is : is.number ≡ m = same_Some is.number m (sym is.numbered ∙ stands) in
-          let line_is : is.line ≡ before.line = same_Some is.line before.line (sym is.there ∙ ap (slice_get old) number_is ∙ before.there) in
-          ap (option_and_then line_parent) found
-          ∙ ap₂ parent_by is.step is.clause
-          ∙ mapped-parent (place_among numbers) is.line.step (clause_of is.line.clause)
-          ∙ ap line_parent line_is
-          ∙ cond-true (is_clause_step before.line.step) (Some (record { clause = clause_of before.line.clause; introduces = introduces_name before.line.step })) None before.is_clause
-          ∙ ap (λ (p : Parent). Some p) before.gives
-          ∙ sym parent.1
+    module _ (old : List Line) (derived : IsDerivation form old) (have : HaveBodies bodies old) (same : steps_of old ≡ steps)
+        (line : Line) (at : slice_get old number ≡ Some line)
+      where
+        -- the lines that it needs were made
+        made-for :
+            (m : ℕ) (other : Line) → slice_get old m ≡ Some other → m < number → cone.needs_step line.step m other.step ≡ true
+            → IsMadeFor made numbers m other
+        made-for m other there earlier need =
+            let inside : has_number m numbers ≡ true =
+            parent-needed steps numbers needed number m line.step other.step (step-at form steps old derived same number line at)
+            (step-at form steps old derived same m other there) (at-has numbers count number numbered) need in
+            let place : ℕ = place_among numbers m in
+            let stands : slice_get numbers place ≡ Some m = there-at-place numbers m needed.rising inside in
+            let before : place < count = less-earlier numbers place count m number needed.rising stands numbered earlier in
+            let anew : Line = get_or made place line in
+            let found : slice_get made place ≡ Some anew = slice_get-get_or made place line (omega (arith, before, built.long)) in
+            let is : IsRetraced numbers old place anew = built.lines old derived have same place anew found in
+            let number_is : is.number ≡ m = same_Some is.number m (sym is.numbered ∙ stands) in
+            let line_is : is.line ≡ other = same_Some is.line other (sym is.there ∙ ap (slice_get old) number_is ∙ there) in
+            record {
+              line = anew;
+              there = found;
+              step = is.step ∙ ap (λ (l : Line). with_parents (place_among numbers) l.step) line_is;
+              clause = is.clause ∙ ap (λ (l : Line). clause_of l.clause) line_is;
+            }
 
-      comes-anew : ComesBy (with_parents (place_among numbers) line.step) form made (clause_of line.clause)
-      comes-anew =
-          comes-mapped (place_among numbers) form (take number old) made line.step (clause_of line.clause)
-          (plain-at form steps plain old derived same number line at) same-parent (derived number line at)
+        same-parent :
+            (m : ℕ) → has_number m (step_parents line.step) ≡ true
+            → line_parents made (place_among numbers m) ≡ line_parents (take number old) m
+        same-parent m has =
+            let parent = parent-at form steps old derived same number m line at has in
+            let before : ParentLine old number m parent.0 = parent_line old number m parent.0 parent.1 in
+            let anew : IsMadeFor made numbers m before.line =
+            made-for m before.line before.there before.earlier (step-needs line.step m before.line (same-number (step_parents line.step) m ∙ has)) in
+            ap (option_and_then line_parent) anew.there
+            ∙ ap₂ parent_by anew.step anew.clause
+            ∙ mapped-parent (place_among numbers) before.line.step (clause_of before.line.clause)
+            ∙ cond-true (is_clause_step before.line.step) (Some (record { clause = clause_of before.line.clause; introduces = introduces_name before.line.step })) None before.is_clause
+            ∙ ap (λ (p : Parent). Some p) before.gives
+            ∙ sym parent.1
+
+        -- the line of which a made line is the copy, before this one
+        copied : (place : ℕ) (anew : Line) → slice_get made place ≡ Some anew → (name : ℕ) (b : Bool)
+            → ((n : ℕ) (other : Line) → slice_get (take number old) n ≡ Some other → is_component_of name other.step ≡ b)
+            → is_component_of name anew.step ≡ b
+        copied place anew there name b each =
+            let is : IsRetraced numbers old place anew = built.lines old derived have same place anew there in
+            let within : place < length made = slice_get_within made place anew there in
+            let less : is.number < number =
+            later-greater numbers place count is.number number needed.rising is.numbered numbered (omega (arith, within, built.long)) in
+            ap (is_component_of name) is.step
+            ∙ component-mapped (place_among numbers) name is.line.step
+            ∙ each is.number is.line (in-front old number is.number is.line less is.there)
+
+        -- a new name is new
+        name-new : (name : ℕ) → line.step ≡ Component name → component_clause name (take number old) ≡ None → component_clause name made ≡ None
+        name-new name step_is none =
+            none-component name made (λ place anew there. copied place anew there name false (no-component name (take number old) none))
+
+        -- and a name that was introduced is introduced
+        name-there :
+            (name : ℕ) (d : TreeClause) → line.step ≡ Opposite name → component_clause name (take number old) ≡ Some d → component_clause name made ≡ Some d
+        name-there name d step_is there =
+            let at_front = component-at (take number old) name d there in
+            let found = slice_get-take old number at_front.number at_front.line at_front.there in
+            let need : cone.needs_step line.step at_front.number at_front.line.step ≡ true =
+            subst (λ (s : Step). cone.needs_step s at_front.number at_front.line.step ≡ true) (sym step_is) at_front.is_one in
+            let anew : IsMadeFor made numbers at_front.number at_front.line = made-for at_front.number at_front.line found.1 found.0 need in
+            one-component name d made
+            (λ place other other_there is_one.
+            let is : IsRetraced numbers old place other = built.lines old derived have same place other other_there in
+            let is_one_too : is_component_of name is.line.step ≡ true =
+            sym (component-mapped (place_among numbers) name is.line.step) ∙ sym (ap (is_component_of name) is.step) ∙ is_one in
+            is.clause
+            ∙ one-definition bodies name (clause_of is.line.clause) (clause_of at_front.line.clause)
+            (is-definition form bodies old derived have name is.number is.line is.there is_one_too)
+            (is-definition form bodies old derived have name at_front.number at_front.line found.1 at_front.is_one)
+            ∙ at_front.clause_is)
+            (place_among numbers at_front.number) anew.line anew.there
+            (ap (is_component_of name) anew.step ∙ component-mapped (place_among numbers) name at_front.line.step ∙ at_front.is_one)
+
+        comes-anew : ComesWithBody form bodies (with_parents (place_among numbers) line.step) made (clause_of line.clause)
+        comes-anew = record {
+          comes =
+              comes-mapped (place_among numbers) form (take number old) made line.step (clause_of line.clause)
+              same-parent name-new name-there (derived number line at);
+          body = mapped-body bodies (place_among numbers) line.step (clause_of line.clause) (have number line at);
+        }
 
     module _ (step : Step) (step_at : slice_get steps number ≡ Some step) where
       pub can-conclude :
-          (old : List Line) → IsDerivation form old → steps_of old ≡ steps
-          → (c : TreeClause) × ComesBy (with_parents (place_among numbers) step) form made c
-      can-conclude old derived same =
-          let found = line-at form steps plain old derived same number step step_at in (
+          (old : List Line) → IsDerivation form old → HaveBodies bodies old → steps_of old ≡ steps
+          → (c : TreeClause) × ComesWithBody form bodies (with_parents (place_among numbers) step) made c
+      can-conclude old derived have same =
+          let found = line-at form steps old derived same number step step_at in (
             clause_of found.0.clause,
-            subst (λ (s : Step). ComesBy (with_parents (place_among numbers) s) form made (clause_of found.0.clause)) found.2
-                (comes-anew old derived same found.0 found.1),
+            subst (λ (s : Step). ComesWithBody form bodies (with_parents (place_among numbers) s) made (clause_of found.0.clause)) found.2
+                (comes-anew old derived have same found.0 found.1),
           )
 
-      module _ (anew : Line) (by_step : anew.step ≡ with_parents (place_among numbers) step) (comes : ComesBy anew.step form made (clause_of anew.clause)) where
+      module _ (anew : Line) (by_step : anew.step ≡ with_parents (place_among numbers) step) (comes : ComesWithBody form bodies anew.step made (clause_of anew.clause)) where
         derived-more : IsDerivation form (made ++ anew ∷ [])
         derived-more n line at =
             ⊎_elim
@@ -138,42 +211,41 @@ module _ (form : List TreeClause) (steps : List Step) (plain : list_all is_plain
             (λ (last : (n ≡ length made) × (anew ≡ line)).
             subst (λ (l : Line). ComesBy l.step form (take n (made ++ anew ∷ [])) (clause_of l.clause)) last.1
             (subst (λ (ls : List Line). ComesBy anew.step form ls (clause_of anew.clause))
-            (sym (ap (λ k. take k (made ++ anew ∷ [])) last.0 ∙ take-append_seam made (anew ∷ []))) comes))
+            (sym (ap (λ k. take k (made ++ anew ∷ [])) last.0 ∙ take-append_seam made (anew ∷ []))) comes.comes))
             (at-end made anew line n at)
 
-        anew-retraced : (old : List Line) → IsDerivation form old → steps_of old ≡ steps → IsRetraced numbers old count anew
-        anew-retraced old derived same =
-            let found = line-at form steps plain old derived same number step step_at in record {
+        anew-retraced : (old : List Line) → IsDerivation form old → HaveBodies bodies old → steps_of old ≡ steps → IsRetraced numbers old count anew
+        anew-retraced old derived have same =
+            let found = line-at form steps old derived same number step step_at in record {
               number = number;
               numbered = numbered;
               line = found.0;
               there = found.1;
               step = by_step ∙ ap (with_parents (place_among numbers)) (sym found.2);
               clause =
-                  comes-once form made (with_parents (place_among numbers) found.0.step) (clause_of anew.clause) (clause_of found.0.clause)
-                  (mapped-plain (place_among numbers) found.0.step ∙ plain-at form steps plain old derived same number found.0 found.1)
-                  (subst (λ (s : Step). ComesBy s form made (clause_of anew.clause)) (by_step ∙ ap (with_parents (place_among numbers)) (sym found.2)) comes)
-                  (comes-anew old derived same found.0 found.1);
+                  comes-once form bodies made (with_parents (place_among numbers) found.0.step) (clause_of anew.clause) (clause_of found.0.clause)
+                  (subst (λ (s : Step). ComesWithBody form bodies s made (clause_of anew.clause)) (by_step ∙ ap (with_parents (place_among numbers)) (sym found.2)) comes)
+                  (comes-anew old derived have same found.0 found.1);
             }
 
-        pub built-one-more : IsBuilt form steps numbers (count + 1) (made ++ anew ∷ [])
+        pub built-one-more : IsBuilt form bodies steps numbers (count + 1) (made ++ anew ∷ [])
         built-one-more = record {
           long = let more : length (made ++ anew ∷ []) ≡ length made + 1 = length-append made (anew ∷ []) in omega (arith, more, built.long);
           derived = derived-more;
           lines =
-              λ old derived same place line at.
-              ⊎_elim (λ before. built.lines old derived same place line before)
+              λ old derived have same place line at.
+              ⊎_elim (λ before. built.lines old derived have same place line before)
               (λ (last : (place ≡ length made) × (anew ≡ line)).
               subst (λ (l : Line). IsRetraced numbers old place l) last.1
-              (subst (λ k. IsRetraced numbers old k anew) (sym (last.0 ∙ built.long)) (anew-retraced old derived same)))
+              (subst (λ k. IsRetraced numbers old k anew) (sym (last.0 ∙ built.long)) (anew-retraced old derived have same)))
               (at-end made anew line place at);
         }
 
 -- ---- all lines
 
-module _ (form : List TreeClause) (steps : List Step) (are : AreRefutingSteps form steps) where
+module _ (form : List TreeClause) (bodies : List (List TreeLiteral)) (steps : List Step) (are : AreRefutingSteps form bodies steps) where
   pub refuting-earlier : cone.StepsNeedEarlier steps
-  refuting-earlier = steps-earlier form steps are.plain are.lines are.refutes.derived are.same
+  refuting-earlier = steps-earlier form steps are.lines are.refutes.derived are.same
 
   long : length steps ≡ length are.refutes.before + 1
   long =
@@ -191,12 +263,12 @@ module _ (form : List TreeClause) (steps : List Step) (are : AreRefutingSteps fo
       ap (slice_get are.lines) (let same : length steps - 1 ≡ length are.refutes.before = omega (arith, long) in same)
       ∙ last-there form are.lines are.refutes
 
-  module _ (numbers : List ℕ) (needed : AreNeeded steps numbers) (made : List Line) (built : IsBuilt form steps numbers (length numbers) made) where
-    pub is-retracing : cone.IsStepCone steps (length steps - 1) numbers → IsRetracing form steps made
+  module _ (numbers : List ℕ) (needed : AreNeeded steps numbers) (made : List Line) (built : IsBuilt form bodies steps numbers (length numbers) made) where
+    pub is-retracing : cone.IsStepCone steps (length steps - 1) numbers → IsRetracing form bodies steps made
     is-retracing is_cone = record {
       numbers = numbers;
       needed = is_cone;
-      lines = λ old derived same. record { count = built.long; each = built.lines old derived same };
+      lines = λ old derived have same. record { count = built.long; each = built.lines old derived have same };
     }
 
     abbrev place : ℕ
@@ -208,7 +280,7 @@ module _ (form : List TreeClause) (steps : List Step) (are : AreRefutingSteps fo
     within : place < length numbers
     within = slice_get_within numbers place (length steps - 1) last-numbered
 
-    -- no number stands behind the last step's
+    -- no number stands after the last step's
     at-the-end : length numbers ≡ suc place
     at-the-end =
         ⊎_elim
@@ -229,7 +301,7 @@ module _ (form : List TreeClause) (steps : List Step) (are : AreRefutingSteps fo
 
     -- the last line, which is that of the refutation
     is-last : IsRetraced numbers are.lines place anew
-    is-last = built.lines are.lines are.refutes.derived are.same place anew anew-there
+    is-last = built.lines are.lines are.refutes.derived are.bodies_are are.same place anew anew-there
 
     same-line : is-last.line ≡ are.refutes.last
     same-line =
@@ -265,11 +337,11 @@ module _ (form : List TreeClause) (steps : List Step) (are : AreRefutingSteps fo
         let there : slice_get made (place_among numbers n) ≡ Some line =
         slice_get-get_or made (place_among numbers n) are.refutes.last (omega (arith, low, built.long)) in
         let is : IsRetraced numbers are.lines (place_among numbers n) line =
-        built.lines are.lines are.refutes.derived are.same (place_among numbers n) line there in
+        built.lines are.lines are.refutes.derived are.bodies_are are.same (place_among numbers n) line there in
         let number_is : is.number ≡ n = same_Some is.number n (sym is.numbered ∙ stands) in
         let step_is : is.line.step ≡ step =
         same_Some is.line.step step
-        (sym (step-at form steps are.plain are.lines are.refutes.derived are.same n is.line (ap (slice_get are.lines) (sym number_is) ∙ is.there)) ∙ at) in
+        (sym (step-at form steps are.lines are.refutes.derived are.same n is.line (ap (slice_get are.lines) (sym number_is) ∙ is.there)) ∙ at) in
         (line, there, is.step ∙ ap (with_parents (place_among numbers)) step_is)
 
     module _ (set : ℕ → Bool) (has : set (length made - 1) ≡ true) (closed : cone.IsClosed made set) where

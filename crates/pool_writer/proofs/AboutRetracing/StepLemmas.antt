@@ -1,26 +1,29 @@
--- Steps in which nothing is split: their parents, and what they conclude where these get other numbers.
+-- Steps: their parents, and what they conclude where these get other numbers.
 use Rattle.std.proofs.Common.{◌≡◌, ℕ, true, false, ◌==◌, List, [], ◌∷◌, map, take, Option, Some, None, refl, ap, ap₂, sym, ◌∙◌, subst, ⊎_elim}
-use Rattle.std.specs.Prelude.{slice_get, option_map, if◌then◌else◌}
-use Rattle.std.specs.List.{list_all}
+use Rattle.std.specs.Prelude.{slice_get, option_map, option_and_then, if◌then◌else◌}
 use Rattle.std.proofs.lemmas.Bool.{or_cases, or_left, or_right, eqb-true, eq-eqb, false≢true}
-use Rattle.std.proofs.lemmas.Option.{same_Some, slice_get-map}
-use Rattle.fol_base.specs.Clause.{TreeClause}
+use Rattle.std.proofs.lemmas.Option.{same_Some, slice_get-map, option_and_then_some}
+use Rattle.plain_types.specs.declared.sequence.NameLit.{NameLit}
+use Rattle.fol_base.specs.Clause.{TreeLiteral, TreeClause}
 use Rattle.fol_base.specs.Literal.{clause_of}
 use Rattle.fol_base.specs.Rules.{superposed, resolved, factored, merged}
-use Rattle.fol_base.proofs.WorkedExamples.TestLemmas.{option_map-some, list_all-item}
-use Rattle.kernel_steps.specs.Parents.{Parent, Parents}
-use Rattle.kernel_steps.specs.Conclusion.{concludes, by_one, by_two}
-use Rattle.kernel_steps.specs.Derivation.{is_clause_step, introduces_name, is_component_of, line_parents, ComesBy, IsDerivation}
-use Rattle.kernel_steps.specs.Lines.{step_parents, is_plain_step}
+use Rattle.fol_base.proofs.WorkedExamples.TestLemmas.{option_map-some}
+use Rattle.kernel_steps.specs.Parents.{Parent, Parents, all_there}
+use Rattle.kernel_steps.specs.Conclusion.{concludes, by_one, by_two, verdict_of, split_from, names_alone, names_at, clause_of_names}
+use Rattle.kernel_steps.specs.Names.{chained}
+use Rattle.kernel_steps.specs.Derivation.{is_clause_step, introduces_name, is_component_of, component_clause, line_parents, IsComponent, IsOpposite, ComesBy, IsDerivation}
+use Rattle.kernel_steps.specs.Lines.{step_parents}
 use Rattle.kernel_steps.specs.Split.{has_number}
 use Rattle.kernel_steps.specs.declared.step.Step.{Step}
 use Rattle.kernel_steps.specs.declared.step.Step.TheVariants.{Input, Negate, Clausify, Para, Refl, Factor, Merge, Component, Opposite, Split, Chain}
 use Rattle.kernel_steps.specs.declared.step.Line.{Line}
-use Rattle.kernel_steps.proofs.AboutCalls.VerdictParts.{by_one-parts, by_two-parts}
+use Rattle.kernel_steps.proofs.AboutCalls.VerdictParts.{by_one-parts, by_two-parts, split-parts, chain-parts}
 use Rattle.kernel_steps.specs.ParentNumbers.{with_parents}
 use Rattle.tstp_writer.specs.Cone as cone
-use Rattle.tstp_writer.proofs.AboutNeeded.EarlierLemmas.{need-earlier}
+use Rattle.tstp_writer.proofs.AboutNeeded.EarlierLemmas.{looked-up, need-earlier}
+use Rattle.pool_writer.specs.Bodies.{HasBody, ComesWithBody}
 use Rattle.pool_writer.specs.Retraced.{steps_of}
+use Rattle.pool_writer.proofs.AboutRetracing.NeededLemmas.{same-number}
 
 -- ---- other numbers
 
@@ -36,12 +39,12 @@ pub mapped-clause_step : (to : ℕ → ℕ) (step : Step) → is_clause_step (wi
 mapped-clause_step to (Input place) = refl
 mapped-clause_step to _ = refl
 
-pub mapped-plain : (to : ℕ → ℕ) (step : Step) → is_plain_step (with_parents to step) ≡ is_plain_step step
-mapped-plain to (Input place) = refl
-mapped-plain to _ = refl
+pub mapped-body : (bodies : List (List TreeLiteral)) (to : ℕ → ℕ) (step : Step) (c : TreeClause) → HasBody bodies step c → HasBody bodies (with_parents to step) c
+mapped-body bodies to (Input place) c has = has
+mapped-body bodies to _ c has = has
 
 -- what a step needs, it needs under other numbers
-component-mapped : (to : ℕ → ℕ) (name : ℕ) (step : Step) → is_component_of name (with_parents to step) ≡ is_component_of name step
+pub component-mapped : (to : ℕ → ℕ) (name : ℕ) (step : Step) → is_component_of name (with_parents to step) ≡ is_component_of name step
 component-mapped to name (Input place) = refl
 component-mapped to name _ = refl
 
@@ -72,52 +75,99 @@ needs-mapped to (Chain numbers pivots) other m need = has-mapped to numbers m ne
 concludes-same : (c d : TreeClause) → concludes c ≡ concludes d → c ≡ d
 concludes-same c d h = cc
 
--- a step concludes one clause
-pub comes-once :
-    (form : List TreeClause) (lines : List Line) (step : Step) (c d : TreeClause) → is_plain_step step ≡ true
-    → ComesBy step form lines c → ComesBy step form lines d → c ≡ d
-comes-once form lines (Clausify i) c d plain one other = same_Some c d (sym one ∙ other)
-comes-once form lines (Para first second from from_side into into_side place first_bind second_bind) c d plain one other =
-    concludes-same c d (sym one ∙ other)
-comes-once form lines (Refl parent literal bind) c d plain one other = concludes-same c d (sym one ∙ other)
-comes-once form lines (Factor parent becomes becomes_side literal other_side bind) c d plain one other = concludes-same c d (sym one ∙ other)
-comes-once form lines (Merge parent stays goes bind) c d plain one other = concludes-same c d (sym one ∙ other)
-comes-once form lines (Input place) c d plain one other = absurd (false≢true plain)
-comes-once form lines (Negate place) c d plain one other = absurd (false≢true plain)
-comes-once form lines (Component name) c d plain one other = absurd (false≢true plain)
-comes-once form lines (Opposite name) c d plain one other = absurd (false≢true plain)
-comes-once form lines (Split parent definitions parts) c d plain one other = absurd (false≢true plain)
-comes-once form lines (Chain numbers pivots) c d plain one other = absurd (false≢true plain)
+same-clause : (c d : TreeClause) → c.literals ≡ d.literals → c.names ≡ d.names → c ≡ d
+same-clause c d literals names = λ i. record { literals = literals i; names = names i }
 
--- where its parents are the same, by their new numbers, it concludes the same
+-- a step concludes one clause, where names have these bodies
+pub comes-once :
+    (form : List TreeClause) (bodies : List (List TreeLiteral)) (lines : List Line) (step : Step) (c d : TreeClause)
+    → ComesWithBody form bodies step lines c → ComesWithBody form bodies step lines d → c ≡ d
+comes-once form bodies lines (Input place) c d one other = one.comes ∙ sym other.comes
+comes-once form bodies lines (Negate place) c d one other = one.comes ∙ sym other.comes
+comes-once form bodies lines (Clausify i) c d one other = same_Some c d (sym one.comes ∙ other.comes)
+comes-once form bodies lines (Component name) c d one other =
+    let first : IsComponent name lines c = one.comes in
+    let second : IsComponent name lines d = other.comes in
+    same-clause c d (same_Some c.literals d.literals (sym one.body ∙ other.body)) (first.one_name ∙ sym second.one_name)
+comes-once form bodies lines (Opposite name) c d one other =
+    let first : IsOpposite name lines c = one.comes in
+    let second : IsOpposite name lines d = other.comes in
+    same-clause c d (same_Some c.literals d.literals (sym one.body ∙ other.body)) (first.one_name ∙ sym second.one_name)
+comes-once form bodies lines (Para first second from from_side into into_side place first_bind second_bind) c d one other =
+    concludes-same c d (sym one.comes ∙ other.comes)
+comes-once form bodies lines (Refl parent literal bind) c d one other = concludes-same c d (sym one.comes ∙ other.comes)
+comes-once form bodies lines (Factor parent becomes becomes_side literal other_side bind) c d one other =
+    concludes-same c d (sym one.comes ∙ other.comes)
+comes-once form bodies lines (Merge parent stays goes bind) c d one other = concludes-same c d (sym one.comes ∙ other.comes)
+comes-once form bodies lines (Split parent definitions parts) c d one other = concludes-same c d (sym one.comes ∙ other.comes)
+comes-once form bodies lines (Chain numbers pivots) c d one other = concludes-same c d (sym one.comes ∙ other.comes)
+
+-- numbers that are looked up, each by its new number
+looks-same :
+    {X : Type 0} (look other : ℕ → Option X) (to : ℕ → ℕ) (ns : List ℕ)
+    → ((k : ℕ) → has_number k ns ≡ true → look (to k) ≡ other k) → map look (map to ns) ≡ map other ns
+looks-same look other to [] same = refl
+looks-same look other to (n ∷ ns) same =
+    ap₂ (λ o os. o ∷ os) (same n (or_left (n == n) (has_number n ns) (eq-eqb n n refl)))
+    (looks-same look other to ns (λ k has. same k (or_right (k == n) (has_number k ns) has)))
+
+-- where its parents and its name are the same, the parents by their new numbers, it concludes the same
 pub comes-mapped :
-    (to : ℕ → ℕ) (form : List TreeClause) (before lines : List Line) (step : Step) (c : TreeClause) → is_plain_step step ≡ true
+    (to : ℕ → ℕ) (form : List TreeClause) (before lines : List Line) (step : Step) (c : TreeClause)
     → ((m : ℕ) → has_number m (step_parents step) ≡ true → line_parents lines (to m) ≡ line_parents before m)
+    → ((name : ℕ) → step ≡ Component name → component_clause name before ≡ None → component_clause name lines ≡ None)
+    → ((name : ℕ) (d : TreeClause) → step ≡ Opposite name → component_clause name before ≡ Some d → component_clause name lines ≡ Some d)
     → ComesBy step form before c → ComesBy (with_parents to step) form lines c
-comes-mapped to form before lines (Clausify i) c plain same comes = comes
-comes-mapped to form before lines (Para first second from from_side into into_side place first_bind second_bind) c plain same comes =
+comes-mapped to form before lines (Input place) c same fresh found comes = comes
+comes-mapped to form before lines (Negate place) c same fresh found comes = comes
+comes-mapped to form before lines (Clausify i) c same fresh found comes = comes
+comes-mapped to form before lines (Component name) c same fresh found comes =
+    let is : IsComponent name before c = comes in
+    record { is_new = fresh name refl is.is_new; some_literal = is.some_literal; one_name = is.one_name }
+comes-mapped to form before lines (Opposite name) c same fresh found comes =
+    let is : IsOpposite name before c = comes in
+    record {
+      component = is.component;
+      introduced = found name is.component refl is.introduced;
+      literal = is.literal;
+      one_literal = is.one_literal;
+      positive = is.positive;
+      ground = is.ground;
+      complemented = is.complemented;
+      one_name = is.one_name;
+    }
+comes-mapped to form before lines (Para first second from from_side into into_side place first_bind second_bind) c same fresh found comes =
     ap₂ (λ (o p : Option Parent). by_two o first_bind p second_bind (λ ls ks. superposed ls from from_side ks into into_side place))
     (same first (or_left (first == first) (has_number first (second ∷ [])) (eq-eqb first first refl)))
     (same second (or_right (second == first) (has_number second (second ∷ [])) (or_left (second == second) false (eq-eqb second second refl))))
     ∙ comes
-comes-mapped to form before lines (Refl parent literal bind) c plain same comes =
+comes-mapped to form before lines (Refl parent literal bind) c same fresh found comes =
     ap (λ (o : Option Parent). by_one o bind (λ ls. resolved ls literal))
     (same parent (or_left (parent == parent) false (eq-eqb parent parent refl)))
     ∙ comes
-comes-mapped to form before lines (Factor parent becomes becomes_side other other_side bind) c plain same comes =
+comes-mapped to form before lines (Factor parent becomes becomes_side other other_side bind) c same fresh found comes =
     ap (λ (o : Option Parent). by_one o bind (λ ls. factored ls becomes becomes_side other other_side))
     (same parent (or_left (parent == parent) false (eq-eqb parent parent refl)))
     ∙ comes
-comes-mapped to form before lines (Merge parent stays goes bind) c plain same comes =
+comes-mapped to form before lines (Merge parent stays goes bind) c same fresh found comes =
     ap (λ (o : Option Parent). by_one o bind (λ ls. merged ls stays goes))
     (same parent (or_left (parent == parent) false (eq-eqb parent parent refl)))
     ∙ comes
-comes-mapped to form before lines (Input place) c plain same comes = absurd (false≢true plain)
-comes-mapped to form before lines (Negate place) c plain same comes = absurd (false≢true plain)
-comes-mapped to form before lines (Component name) c plain same comes = absurd (false≢true plain)
-comes-mapped to form before lines (Opposite name) c plain same comes = absurd (false≢true plain)
-comes-mapped to form before lines (Split parent definitions parts) c plain same comes = absurd (false≢true plain)
-comes-mapped to form before lines (Chain numbers pivots) c plain same comes = absurd (false≢true plain)
+comes-mapped to form before lines (Split parent definitions parts) c same fresh found comes =
+    ap₂
+    (λ (o : Option Parent) (os : List (Option Parent)).
+    verdict_of (option_and_then (λ p. option_and_then (λ ds. split_from p ds parts) (all_there os)) o))
+    (same parent (or_left (parent == parent) (has_number parent definitions) (eq-eqb parent parent refl)))
+    (looks-same (line_parents lines) (line_parents before) to definitions
+    (λ k has. same k (or_right (k == parent) (has_number k definitions) has)))
+    ∙ comes
+comes-mapped to form before lines (Chain numbers pivots) c same fresh found comes =
+    ap
+    (λ (os : List (Option (List NameLit))).
+    verdict_of (option_map clause_of_names (option_and_then (λ nss. chained nss pivots) (all_there os))))
+    (looks-same (names_at (line_parents lines)) (names_at (line_parents before)) to numbers
+    (λ k has. ap (option_and_then names_alone) (same k has)))
+    ∙ comes
 
 -- ---- parents
 
@@ -127,57 +177,61 @@ one-there parents a k p there has =
 
 -- what a step concludes from is there
 parent-there :
-    (form : List TreeClause) (lines : List Line) (step : Step) (c : TreeClause) (m : ℕ) → is_plain_step step ≡ true
+    (form : List TreeClause) (lines : List Line) (step : Step) (c : TreeClause) (m : ℕ)
     → ComesBy step form lines c → has_number m (step_parents step) ≡ true → (p : Parent) × (line_parents lines m ≡ Some p)
-parent-there form lines (Clausify i) c m plain comes has = absurd (false≢true has)
-parent-there form lines (Para first second from from_side into into_side place first_bind second_bind) c m plain comes has =
+parent-there form lines (Input place) c m comes has = absurd (false≢true has)
+parent-there form lines (Negate place) c m comes has = absurd (false≢true has)
+parent-there form lines (Clausify i) c m comes has = absurd (false≢true has)
+parent-there form lines (Component name) c m comes has = absurd (false≢true has)
+parent-there form lines (Opposite name) c m comes has = absurd (false≢true has)
+parent-there form lines (Para first second from from_side into into_side place first_bind second_bind) c m comes has =
     let parents : Parents = line_parents lines in
     let parts = by_two-parts (parents first) first_bind (parents second) second_bind (λ ls ks. superposed ls from from_side ks into into_side place) c comes in
     ⊎_elim (λ same. (parts.source, ap parents (eqb-true m first same) ∙ parts.first_there))
     (λ later. one-there parents second m parts.target parts.second_there later)
     (or_cases (m == first) (has_number m (second ∷ [])) has)
-parent-there form lines (Refl parent literal bind) c m plain comes has =
+parent-there form lines (Refl parent literal bind) c m comes has =
     let parts = by_one-parts (line_parents lines parent) bind (λ ls. resolved ls literal) c comes in
     one-there (line_parents lines) parent m parts.source parts.there has
-parent-there form lines (Factor parent becomes becomes_side other other_side bind) c m plain comes has =
+parent-there form lines (Factor parent becomes becomes_side other other_side bind) c m comes has =
     let parts = by_one-parts (line_parents lines parent) bind (λ ls. factored ls becomes becomes_side other other_side) c comes in
     one-there (line_parents lines) parent m parts.source parts.there has
-parent-there form lines (Merge parent stays goes bind) c m plain comes has =
+parent-there form lines (Merge parent stays goes bind) c m comes has =
     let parts = by_one-parts (line_parents lines parent) bind (λ ls. merged ls stays goes) c comes in
     one-there (line_parents lines) parent m parts.source parts.there has
-parent-there form lines (Input place) c m plain comes has = absurd (false≢true plain)
-parent-there form lines (Negate place) c m plain comes has = absurd (false≢true plain)
-parent-there form lines (Component name) c m plain comes has = absurd (false≢true plain)
-parent-there form lines (Opposite name) c m plain comes has = absurd (false≢true plain)
-parent-there form lines (Split parent definitions parts) c m plain comes has = absurd (false≢true plain)
-parent-there form lines (Chain numbers pivots) c m plain comes has = absurd (false≢true plain)
+parent-there form lines (Split parent definitions parts) c m comes has =
+    let parents : Parents = line_parents lines in
+    let split = split-parts (parents parent) (map parents definitions) parts c comes in
+    ⊎_elim (λ same. (split.source, ap parents (eqb-true m parent same) ∙ split.there))
+    (λ later. looked-up parents definitions split.defined m split.definitions_there (same-number definitions m ∙ later))
+    (or_cases (m == parent) (has_number m definitions) has)
+parent-there form lines (Chain numbers pivots) c m comes has =
+    let parents : Parents = line_parents lines in
+    let chain = chain-parts parents numbers pivots c comes in
+    let found = looked-up (names_at parents) numbers chain.lists m chain.there (same-number numbers m ∙ has) in
+    option_and_then_some names_alone (parents m) found.0 found.1 λ p p_is alone. (p, p_is)
 
 -- a derivation that has these steps
-module _ (form : List TreeClause) (steps : List Step) (plain : list_all is_plain_step steps ≡ true)
-    (old : List Line) (derived : IsDerivation form old) (same : steps_of old ≡ steps)
-  where
-    pub step-at : (n : ℕ) (line : Line) → slice_get old n ≡ Some line → slice_get steps n ≡ Some line.step
-    step-at n line at =
-        ap (λ (ss : List Step). slice_get ss n) (sym same) ∙ slice_get-map (λ (l : Line). l.step) old n ∙ ap (option_map (λ (l : Line). l.step)) at
+module _ (form : List TreeClause) (steps : List Step) (old : List Line) (derived : IsDerivation form old) (same : steps_of old ≡ steps) where
+  pub step-at : (n : ℕ) (line : Line) → slice_get old n ≡ Some line → slice_get steps n ≡ Some line.step
+  step-at n line at =
+      ap (λ (ss : List Step). slice_get ss n) (sym same) ∙ slice_get-map (λ (l : Line). l.step) old n ∙ ap (option_map (λ (l : Line). l.step)) at
 
-    pub line-at : (n : ℕ) (step : Step) → slice_get steps n ≡ Some step → (line : Line) × (slice_get old n ≡ Some line) × (line.step ≡ step)
-    line-at n step at =
-        option_map-some (λ (l : Line). l.step) (slice_get old n) step
-        (sym (slice_get-map (λ (l : Line). l.step) old n) ∙ ap (λ (ss : List Step). slice_get ss n) same ∙ at)
-        (λ line line_is gives. (line, line_is, gives))
+  pub line-at : (n : ℕ) (step : Step) → slice_get steps n ≡ Some step → (line : Line) × (slice_get old n ≡ Some line) × (line.step ≡ step)
+  line-at n step at =
+      option_map-some (λ (l : Line). l.step) (slice_get old n) step
+      (sym (slice_get-map (λ (l : Line). l.step) old n) ∙ ap (λ (ss : List Step). slice_get ss n) same ∙ at)
+      (λ line line_is gives. (line, line_is, gives))
 
-    pub plain-at : (n : ℕ) (line : Line) → slice_get old n ≡ Some line → is_plain_step line.step ≡ true
-    plain-at n line at = list_all-item is_plain_step steps n line.step (step-at n line at) plain
+  pub parent-at :
+      (n m : ℕ) (line : Line) → slice_get old n ≡ Some line → has_number m (step_parents line.step) ≡ true
+      → (p : Parent) × (line_parents (take n old) m ≡ Some p)
+  parent-at n m line at has = parent-there form (take n old) line.step (clause_of line.clause) m (derived n line at) has
 
-    pub parent-at :
-        (n m : ℕ) (line : Line) → slice_get old n ≡ Some line → has_number m (step_parents line.step) ≡ true
-        → (p : Parent) × (line_parents (take n old) m ≡ Some p)
-    parent-at n m line at has = parent-there form (take n old) line.step (clause_of line.clause) m (plain-at n line at) (derived n line at) has
-
-    pub steps-earlier : cone.StepsNeedEarlier steps
-    steps-earlier n m step other at other_at need =
-        let found = line-at n step at in
-        let needed = line-at m other other_at in
-        need-earlier form old derived n m found.0 needed.0 found.1 needed.1
-        (subst (λ (s : Step). cone.needs_step s m needed.0.step ≡ true) (sym found.2)
-        (subst (λ (s : Step). cone.needs_step step m s ≡ true) (sym needed.2) need))
+  pub steps-earlier : cone.StepsNeedEarlier steps
+  steps-earlier n m step other at other_at need =
+      let found = line-at n step at in
+      let needed = line-at m other other_at in
+      need-earlier form old derived n m found.0 needed.0 found.1 needed.1
+      (subst (λ (s : Step). cone.needs_step s m needed.0.step ≡ true) (sym found.2)
+      (subst (λ (s : Step). cone.needs_step step m s ≡ true) (sym needed.2) need))

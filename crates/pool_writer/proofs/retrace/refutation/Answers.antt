@@ -1,12 +1,11 @@
 use Rattle.std.proofs.Common.{◌≡◌, ℕ, ◌<◌, ◌+◌, ◌-◌, List, length, get_or, Some, map, ◌≤◌, refl, sym, ◌∙◌, subst, arith}
 use Rattle.std.specs.Prelude.{slice_get}
 use Rattle.std.proofs.lemmas.Option.{slice_get_read, slice_get-get_or}
-use Rattle.fol_base.specs.Clause.{TreeClause}
+use Rattle.fol_base.specs.Clause.{TreeLiteral, TreeClause}
 use Rattle.fol_base.specs.Literal.{clause_of}
-use Rattle.fol_base.proofs.WorkedExamples.TestLemmas.{list_all-item}
 use Rattle.kernel_steps.specs.declared.step.Step.{Step}
 use Rattle.kernel_steps.specs.declared.step.Line.{Line}
-use Rattle.kernel_steps.specs.Lines.{is_plain_step}
+use Rattle.split_parts.specs.SignedNames.{named}
 use Rattle.tstp_writer.specs.Cone.{StepsNeedEarlier, IsStepCone}
 use Rattle.pool_writer.proofs.AboutRetracing.NeededLemmas.{AreNeeded, needed-of}
 use Rattle.pool_writer.proofs.AboutRetracing.RisingLemmas.{at-has}
@@ -15,9 +14,9 @@ use Rattle.pool_writer.proofs.retrace.refutation.Goals as goal
 
 pub loop-number-init : goal.loop-number-init
 loop-number-init c =
-    subst (IsBuilt (map clause_of c.args.form.now) c.args.steps.now c.as_slice-numbers.result.now 0)
+    subst (IsBuilt (map clause_of c.args.form.now) (named c.args.parts.now.parts) c.args.steps.now c.as_slice-numbers.result.now 0)
     (sym (c.from_vec-lines.ensures ∙ c.in_ok-with_capacity.ensures.items))
-    (built-none (map clause_of c.args.form.now) c.args.steps.now c.as_slice-numbers.result.now)
+    (built-none (map clause_of c.args.form.now) (named c.args.parts.now.parts) c.args.steps.now c.as_slice-numbers.result.now)
 
 -- each number is a step's
 within :
@@ -45,40 +44,32 @@ step-there :
 step-there steps numbers k step some earlier needed less is =
     slice_get_read steps (length steps) (get_or numbers k 0) step refl (within steps numbers k some earlier needed less) is
 
-pub retraced-requires-clause-plain : goal.retraced-requires-clause-plain
-retraced-requires-clause-plain c =
-    list_all-item is_plain_step c.args.steps.now (get_or c.as_slice-numbers.result.now c.loop-number.number-index 0) c.index-steps-number.result
-    (step-there c.args.steps.now c.as_slice-numbers.result.now c.loop-number.number-index c.index-steps-number.result c.prove_steps.ensures.some
-    c.prove_steps.ensures.earlier (needed-of c.args.steps.now c.as_slice-numbers.result.now (subst (IsStepCone c.args.steps.now (length c.args.steps.now - 1)) (sym c.as_slice-numbers.ensures) c.in_ok-numbers.ensures))
-    c.loop-number-test.true c.index-steps-number.is)
-    c.requires.plain
-
 pub retraced-requires-clause-rising : goal.retraced-requires-clause-rising
 retraced-requires-clause-rising c =
     (needed-of c.args.steps.now c.as_slice-numbers.result.now
     (subst (IsStepCone c.args.steps.now (length c.args.steps.now - 1)) (sym c.as_slice-numbers.ensures) c.in_ok-numbers.ensures)).rising
 
-pub retraced-requires-clause-concludes : goal.retraced-requires-clause-concludes
-retraced-requires-clause-concludes c =
+pub retraced-requires-clause-comes : goal.retraced-requires-clause-comes
+retraced-requires-clause-comes c =
     let needed : AreNeeded c.args.steps.now c.as_slice-numbers.result.now =
     needed-of c.args.steps.now c.as_slice-numbers.result.now
     (subst (IsStepCone c.args.steps.now (length c.args.steps.now - 1)) (sym c.as_slice-numbers.ensures) c.in_ok-numbers.ensures) in
-    can-conclude (map clause_of c.args.form.now) c.args.steps.now c.requires.plain c.as_slice-numbers.result.now needed c.loop-number.number-index
+    can-conclude (map clause_of c.args.form.now) (named c.args.parts.now.parts) c.args.steps.now c.as_slice-numbers.result.now needed c.loop-number.number-index
     (get_or c.as_slice-numbers.result.now c.loop-number.number-index 0)
     (slice_get-get_or c.as_slice-numbers.result.now c.loop-number.number-index 0 c.loop-number-test.true)
     c.loop-number.lines c.loop-number.invariant c.index-steps-number.result
     (step-there c.args.steps.now c.as_slice-numbers.result.now c.loop-number.number-index c.index-steps-number.result c.prove_steps.ensures.some
     c.prove_steps.ensures.earlier needed c.loop-number-test.true c.index-steps-number.is)
-    c.requires.lines c.requires.refutes.derived c.requires.same
+    c.requires.lines c.requires.refutes.derived c.requires.bodies_are c.requires.same
 
 pub loop-number-preserved : goal.loop-number-preserved
 loop-number-preserved c =
     let needed : AreNeeded c.args.steps.now c.as_slice-numbers.result.now =
     needed-of c.args.steps.now c.as_slice-numbers.result.now
     (subst (IsStepCone c.args.steps.now (length c.args.steps.now - 1)) (sym c.as_slice-numbers.ensures) c.in_ok-numbers.ensures) in
-    subst (IsBuilt (map clause_of c.args.form.now) c.args.steps.now c.as_slice-numbers.result.now (c.loop-number.number-index + 1))
+    subst (IsBuilt (map clause_of c.args.form.now) (named c.args.parts.now.parts) c.args.steps.now c.as_slice-numbers.result.now (c.loop-number.number-index + 1))
     (sym c.in_ok-push.ensures.ok)
-    (built-one-more (map clause_of c.args.form.now) c.args.steps.now c.requires.plain c.as_slice-numbers.result.now needed c.loop-number.number-index
+    (built-one-more (map clause_of c.args.form.now) (named c.args.parts.now.parts) c.args.steps.now c.as_slice-numbers.result.now needed c.loop-number.number-index
     (get_or c.as_slice-numbers.result.now c.loop-number.number-index 0)
     (slice_get-get_or c.as_slice-numbers.result.now c.loop-number.number-index 0 c.loop-number-test.true)
     c.loop-number.lines c.loop-number.invariant c.index-steps-number.result
@@ -88,28 +79,28 @@ loop-number-preserved c =
 
 -- the lines of all numbers
 all-built :
-    (form : List TreeClause) (steps : List Step) (numbers : List ℕ) (k : ℕ) (lines : List Line)
-    → k ≤ length numbers → length numbers ≤ k → IsBuilt form steps numbers k lines → IsBuilt form steps numbers (length numbers) lines
-all-built form steps numbers k lines low high built = subst (λ n. IsBuilt form steps numbers n lines) (omega (arith, low, high)) built
+    (form : List TreeClause) (bodies : List (List TreeLiteral)) (steps : List Step) (numbers : List ℕ) (k : ℕ) (lines : List Line)
+    → k ≤ length numbers → length numbers ≤ k → IsBuilt form bodies steps numbers k lines → IsBuilt form bodies steps numbers (length numbers) lines
+all-built form bodies steps numbers k lines low high built = subst (λ n. IsBuilt form bodies steps numbers n lines) (omega (arith, low, high)) built
 
 pub returns-clause-refutes : goal.returns-clause-refutes
 returns-clause-refutes c =
-    is-refutation (map clause_of c.args.form.now) c.args.steps.now c.requires c.as_slice-numbers.result.now
+    is-refutation (map clause_of c.args.form.now) (named c.args.parts.now.parts) c.args.steps.now c.requires c.as_slice-numbers.result.now
     (needed-of c.args.steps.now c.as_slice-numbers.result.now (subst (IsStepCone c.args.steps.now (length c.args.steps.now - 1)) (sym c.as_slice-numbers.ensures) c.in_ok-numbers.ensures)) c.loop-number.lines
-    (all-built (map clause_of c.args.form.now) c.args.steps.now c.as_slice-numbers.result.now c.loop-number.number-index c.loop-number.lines
+    (all-built (map clause_of c.args.form.now) (named c.args.parts.now.parts) c.args.steps.now c.as_slice-numbers.result.now c.loop-number.number-index c.loop-number.lines
     c.loop-number.auto.number-index-end c.loop-number-test.false c.loop-number.invariant)
 
 pub returns-clause-retraced : goal.returns-clause-retraced
 returns-clause-retraced c =
-    is-retracing (map clause_of c.args.form.now) c.args.steps.now c.requires c.as_slice-numbers.result.now
+    is-retracing (map clause_of c.args.form.now) (named c.args.parts.now.parts) c.args.steps.now c.requires c.as_slice-numbers.result.now
     (needed-of c.args.steps.now c.as_slice-numbers.result.now (subst (IsStepCone c.args.steps.now (length c.args.steps.now - 1)) (sym c.as_slice-numbers.ensures) c.in_ok-numbers.ensures)) c.loop-number.lines
-    (all-built (map clause_of c.args.form.now) c.args.steps.now c.as_slice-numbers.result.now c.loop-number.number-index c.loop-number.lines
+    (all-built (map clause_of c.args.form.now) (named c.args.parts.now.parts) c.args.steps.now c.as_slice-numbers.result.now c.loop-number.number-index c.loop-number.lines
     c.loop-number.auto.number-index-end c.loop-number-test.false c.loop-number.invariant)
     (subst (IsStepCone c.args.steps.now (length c.args.steps.now - 1)) (sym c.as_slice-numbers.ensures) c.in_ok-numbers.ensures)
 
 pub returns-clause-all_needed : goal.returns-clause-all_needed
 returns-clause-all_needed c =
-    all-needed (map clause_of c.args.form.now) c.args.steps.now c.requires c.as_slice-numbers.result.now
+    all-needed (map clause_of c.args.form.now) (named c.args.parts.now.parts) c.args.steps.now c.requires c.as_slice-numbers.result.now
     (needed-of c.args.steps.now c.as_slice-numbers.result.now (subst (IsStepCone c.args.steps.now (length c.args.steps.now - 1)) (sym c.as_slice-numbers.ensures) c.in_ok-numbers.ensures)) c.loop-number.lines
-    (all-built (map clause_of c.args.form.now) c.args.steps.now c.as_slice-numbers.result.now c.loop-number.number-index c.loop-number.lines
+    (all-built (map clause_of c.args.form.now) (named c.args.parts.now.parts) c.args.steps.now c.as_slice-numbers.result.now c.loop-number.number-index c.loop-number.lines
     c.loop-number.auto.number-index-end c.loop-number-test.false c.loop-number.invariant)

@@ -2,4 +2,4 @@ use Rattle.pool_writer.proofs.AboutRetracing.RetraceLemmas.{some-step, refuting-
 use Rattle.pool_writer.proofs.laws.retracing.refuting_steps_go_back.Goals as goal
 
 pub returns : goal.returns
-returns c form steps are = (some-step form steps are, refuting-earlier form steps are)
+returns c form bodies steps are = (some-step form bodies steps are, refuting-earlier form bodies steps are)
