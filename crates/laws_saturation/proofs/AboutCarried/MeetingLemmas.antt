@@ -1,9 +1,9 @@
 -- Clauses that met: of two clauses whose jobs are done the one of the later position met the other, while both live. So each inference of
 -- living clauses whose jobs are done was counted. It stands on positions that stay, and on what jobs are told.
-use Rattle.std.proofs.Common.{◌≡◌, ℕ, suc, ◌+◌, ◌<◌, ◌≤◌, ◌⊎◌, Bool, true, false, not, ◌&&◌, ◌||◌, ◌==◌, List, [], ◌∷◌, ◌++◌, length, take, refl, ap, sym, ◌∙◌, inl, inr, ⊎_elim, arith, subst}
-use Rattle.std.specs.Prelude.{Option, None, Some, cond, nat_lt, filter, take_while, slice_get, option_map}
-use Rattle.std.specs.List.{position_or_len, prefix_len, list_all}
-use Rattle.std.proofs.lemmas.Bool.{true≢false, and_parts, and_from, or_cases, or_parts, or_left, or_right, not-true, not_from_false, eqb-true, eq-eqb, ltb-true, cond-true}
+use Rattle.std.proofs.Common.{◌≡◌, ℕ, ◌+◌, ◌<◌, ◌≤◌, ◌⊎◌, Bool, true, false, not, ◌&&◌, ◌||◌, ◌==◌, List, [], ◌∷◌, ◌++◌, length, refl, ap, sym, ◌∙◌, inl, inr, ⊎_elim, arith, subst}
+use Rattle.std.specs.Prelude.{Option, None, Some, cond, nat_lt, filter, slice_get, option_map}
+use Rattle.std.specs.List.{position_or_len, list_all}
+use Rattle.std.proofs.lemmas.Bool.{true≢false, and_parts, and_from, or_cases, or_left, or_right, not-true, not_from_false, eqb-true, eq-eqb, ltb-true, cond-true}
 use Rattle.std.proofs.lemmas.List.{length-append}
 use Rattle.std.proofs.lemmas.List.Folds.{list_any-append}
 use Rattle.fol_base.specs.Clause.{TreeClause}
@@ -26,7 +26,7 @@ use Rattle.pool_history.specs.declared.batch.Entry.{Entry}
 use Rattle.pool_history.proofs.AboutCounting.CountedRecords.{Lookup, number-passes, front, front-taken, front-longer, front-filter, has-kept}
 use Rattle.pool_history.proofs.AboutRecords.GrowthLemmas.{has_died-less}
 use Rattle.pool_history.proofs.AboutRecords.EditLemmas.{eq-sym}
-use Rattle.pool_history.proofs.AboutLines.JoinedLemmas.{by-test, BehindAt, get-cases}
+use Rattle.pool_history.proofs.AboutLines.JoinedLemmas.{BehindAt, get-cases}
 use Rattle.pool_history.proofs.AboutRecords.PlaceLemmas.{has-first}
 use Rattle.laws_saturation.proofs.AboutCarried.CarriedLemmas.{alive}
 
