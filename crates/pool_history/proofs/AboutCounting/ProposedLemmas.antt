@@ -1,5 +1,5 @@
 -- Each clause that died was removed by a batch: so for every list of events.
-use Rattle.std.proofs.Common.{◌≡◌, ℕ, suc, ◌+◌, Bool, true, false, ◌==◌, List, [], ◌∷◌, ◌++◌, length, refl, ap, sym, ◌∙◌, subst, ⊎_elim, inl, inr, arith}
+use Rattle.std.proofs.Common.{◌≡◌, ℕ, suc, ◌+◌, Bool, true, false, List, [], ◌∷◌, ◌++◌, refl, ap, sym, ◌∙◌, subst, ⊎_elim, inl, inr, arith}
 use Rattle.std.specs.Prelude.{Option, None, Some, cond, is_none, fold, find, slice_get, All}
 use Rattle.std.proofs.lemmas.Bool.{true≢false}
 use Rattle.std.proofs.lemmas.List.Elements.{All-nil, All-push}
@@ -12,7 +12,7 @@ use Rattle.pool_history.specs.Claiming.{next_given, given_out, claimed_by}
 use Rattle.pool_history.specs.Counting.{lines_of_entries, keys_of, counts}
 use Rattle.pool_history.specs.Returning.{removals_of, dies, replaced, removed, takes_effect, proposed, becomes_active, sets_aside, worked, returns_to}
 use Rattle.pool_history.specs.Solving.{modelled_by, refuted_by}
-use Rattle.pool_history.specs.Replay.{after, start, replay}
+use Rattle.pool_history.specs.Replay.{after, start}
 use Rattle.pool_history.specs.Laws.{is_removal_of, IsProposedDeath, DeathsWereProposed}
 use Rattle.pool_history.specs.declared.options.Options.{Options}
 use Rattle.pool_history.specs.declared.batch.Batch.{Batch}
@@ -25,7 +25,7 @@ use Rattle.pool_history.specs.declared.event.Event.{Event}
 use Rattle.pool_history.specs.declared.event.Event.TheVariants.{Claim, Return, Stale, Void, ClaimSolve, ReturnModel, ReturnRefuted, Abandon}
 use Rattle.pool_history.proofs.AboutClaims.HistoryLemmas.{no-event}
 use Rattle.pool_history.proofs.AboutRecords.FrameLemmas.{by-if, inputs-register}
-use Rattle.pool_history.proofs.AboutCounting.DeathLemmas.{Keeps, counts-keeps}
+use Rattle.pool_history.proofs.AboutCounting.DeathLemmas.{counts-keeps}
 use Rattle.pool_history.proofs.AboutCounting.FirstRemovalLemmas.{death_by, own-removal}
 
 -- an item that passes is found, or an earlier one

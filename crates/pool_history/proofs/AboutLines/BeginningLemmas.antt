@@ -144,9 +144,9 @@ clauses_have_lines usage origin history inputs used lawful =
     let r : PoolRecord = replay origin history in
     let on : Option Line → Option TreeClause = λ o. option_map (λ (l : Line). clause_of l.clause) o in (
       all-from (λ (x : Registered). on (slice_get r.lines x.line) ≡ Some (on_line r.parts x.clause)) r.registered
-      (λ n x there. let at = sound.lined n x there in ap on at.there ∙ ap Some at.gives),
+          (λ n x there. let at = sound.lined n x there in ap on at.there ∙ ap Some at.gives),
       all-from (λ (p : PropositionalClause). on (slice_get r.lines p.line) ≡ Some (under_names [] p.names)) r.propositional
-      (λ n p there. let at = sound.over_names n p there in ap on at.there ∙ ap Some at.gives),
+          (λ n p there. let at = sound.over_names n p there in ap on at.there ∙ ap Some at.gives),
     )
 
 pub names_are_met : NamesAreMet

@@ -1,5 +1,5 @@
 -- What each clause that comes, each death and each end keeps of a record, every list of events keeps, lawful or not.
-use Rattle.std.proofs.Common.{◌≡◌, ℕ, suc, Bool, List, [], ◌∷◌, ◌++◌, map, length, append-nil, append_assoc, refl, ap, sym, ◌∙◌, subst}
+use Rattle.std.proofs.Common.{◌≡◌, ℕ, suc, Bool, List, [], ◌∷◌, ◌++◌, map, length, append-nil, append_assoc, sym, ◌∙◌, subst}
 use Rattle.std.specs.Prelude.{◌&&◌, Option, None, Some, is_none, nat_le, fold, find}
 use Rattle.std.specs.List.{list_all}
 use Rattle.std.proofs.lemmas.Bool.{and_parts}
@@ -49,15 +49,15 @@ stepped (step ∷ steps) lines =
 module _
     (options : Options) (P : List (List TreeLiteral) → List Registered → List Line → List Death → Option Outcome → Type 0)
     (coming :
-        (lines : List Line) (c : TreeClause) (r : PoolRecord) → r.ended ≡ None → P r.parts r.registered r.lines r.deaths r.ended
-        → P (comes options.split lines c r).parts (comes options.split lines c r).registered (comes options.split lines c r).lines
-        (comes options.split lines c r).deaths (comes options.split lines c r).ended)
+    (lines : List Line) (c : TreeClause) (r : PoolRecord) → r.ended ≡ None → P r.parts r.registered r.lines r.deaths r.ended
+    → P (comes options.split lines c r).parts (comes options.split lines c r).registered (comes options.split lines c r).lines
+    (comes options.split lines c r).deaths (comes options.split lines c r).ended)
     (spent :
-        (count : ℕ) (r : PoolRecord) → r.ended ≡ None → P r.parts r.registered r.lines r.deaths r.ended
-        → P r.parts r.registered r.lines r.deaths (Some (Spent count)))
+    (count : ℕ) (r : PoolRecord) → r.ended ≡ None → P r.parts r.registered r.lines r.deaths r.ended
+    → P r.parts r.registered r.lines r.deaths (Some (Spent count)))
     (dying : (d : Death) (r : PoolRecord) → P r.parts r.registered r.lines r.deaths r.ended → P r.parts r.registered r.lines (r.deaths ++ d ∷ []) r.ended)
     (refuting :
-        (more : List Line) (r : PoolRecord) → P r.parts r.registered r.lines r.deaths r.ended → P r.parts r.registered (r.lines ++ more) r.deaths (Some Refuted)) where
+    (more : List Line) (r : PoolRecord) → P r.parts r.registered r.lines r.deaths r.ended → P r.parts r.registered (r.lines ++ more) r.deaths (Some Refuted)) where
   abbrev pub Keeps : PoolRecord → Type 0
   Keeps r = P r.parts r.registered r.lines r.deaths r.ended
 

@@ -1,5 +1,5 @@
 -- No clause without literals is registered but the one that refutes, and no two equal clauses live.
-use Rattle.std.proofs.Common.{◌≡◌, ℕ, zero, suc, ◌+◌, ◌<◌, ◌≤◌, Bool, true, false, not, ◌&&◌, ◌||◌, ◌==◌, List, [], ◌∷◌, ◌++◌, map, length, refl, ap, sym, ◌∙◌, subst, arith}
+use Rattle.std.proofs.Common.{◌≡◌, ℕ, zero, suc, ◌+◌, ◌<◌, ◌≤◌, Bool, true, false, not, ◌&&◌, ◌==◌, List, [], ◌∷◌, ◌++◌, map, length, refl, ap, sym, ◌∙◌, subst, arith}
 use Rattle.std.specs.Prelude.{Option, None, Some, nat_lt, slice_get, option_map, unwrap_or, flat_map, fold, if◌then◌else◌}
 use Rattle.std.specs.List.{list_any, list_all, range_with_len, AllByRecursion}
 use Rattle.std.proofs.lemmas.Bool.{true≢false, and_parts, and_from, or_left, or_right, not-true, not_from_false, lt-ltb, ltb-true, ltb-false, eqb-true, false_from_ne_true}
@@ -23,14 +23,14 @@ use Rattle.split_parts.specs.Tags.{has_part, with_part, tag_of}
 use Rattle.split_parts.specs.SignedNames.{signed_name}
 use Rattle.pool_history.specs.Components.{components_of, parts_of, is_to_split}
 use Rattle.pool_history.specs.Tags.{line_names}
-use Rattle.pool_history.specs.Record.{PoolRecord, Registered, Death, clause_numbered, numbers_of, has_died, has_living, lives}
+use Rattle.pool_history.specs.Record.{PoolRecord, Registered, Death, clause_numbered, has_died, has_living, lives}
 use Rattle.pool_history.specs.Lines.{with_lines, last_number, definition_of}
 use Rattle.pool_history.specs.Registering.{registered_by, registered_last, with_propositional, with_new_part, with_tag, with_part_clause, with_split, split_up, has_none, with_refutation, empty_comes, comes}
 use Rattle.pool_history.specs.Replay.{Origin, replay}
 use Rattle.pool_history.specs.Wholeness.{NoneIsEmpty, LivingDiffer}
 use Rattle.pool_history.specs.declared.event.Event.{Event}
 use Rattle.pool_history.specs.declared.outcome.Outcome.{Outcome}
-use Rattle.pool_history.specs.declared.outcome.Outcome.TheVariants.{Refuted, Spent}
+use Rattle.pool_history.specs.declared.outcome.Outcome.TheVariants.{Refuted}
 use Rattle.pool_history.proofs.AboutRecords.FrameLemmas.{by-if}
 use Rattle.pool_history.proofs.AboutRecords.GrowthLemmas.{has_died-less}
 use Rattle.pool_history.proofs.AboutRecords.ItemLemmas.{item-at}
