@@ -6,6 +6,7 @@ pub mod DeathLemmas
 pub mod FirstRemovalLemmas
 pub mod JustifiedLemmas
 pub mod KnownLemmas
+pub mod ProposedLemmas
 pub mod ReducedLemmas
 pub mod SizedLemmas
 pub mod SpentLemmas

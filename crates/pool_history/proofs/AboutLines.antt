@@ -1,4 +1,4 @@
--- Whole clauses, steps and lines, and the logs of the solver.
+-- Whole clauses, the lines of the pool, splits and names, and the logs of the solver.
 pub mod AssertionLemmas
 pub mod BeginningLemmas
 pub mod FinestLemmas

@@ -5,9 +5,9 @@ pub mod AboutBounds
 pub mod AboutClaims
 -- AboutCounting: the count, deaths and their justifiers.
 pub mod AboutCounting
--- AboutLines: whole clauses, steps and lines, and the logs of the solver.
+-- AboutLines: whole clauses, the lines of the pool, splits and names, and the logs of the solver.
 pub mod AboutLines
--- AboutOutcomes: outcomes stay, what is set aside.
+-- AboutOutcomes: outcomes stay, nothing comes after an end, what is set aside.
 pub mod AboutOutcomes
 -- AboutRecords: what a record of the pool is, and what registering changes.
 pub mod AboutRecords

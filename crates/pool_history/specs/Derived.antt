@@ -1,5 +1,5 @@
--- Laws of a pool's lines, for every list of events: a derivation from the inputs, and a refutation once the pool is refuted.
-use Rattle.std.specs.Prelude.{◌≡◌, ℕ, Bool, ◌&&◌, List, Option, None, Some, filter_map, All, IsTrue}
+-- Laws of a pool's lines, of every lawful history: a derivation from the inputs, and a refutation once the pool is refuted.
+use Rattle.std.specs.Prelude.{◌≡◌, ℕ, Bool, ◌&&◌, List, [], Option, None, Some, option_map, slice_get, filter_map, All, IsTrue}
 use Rattle.std.specs.List.{list_all, range_with_len}
 use Rattle.fol_base.specs.Tree.{Tree, true_symbol}
 use Rattle.fol_base.specs.Clause.{TreeClause}
@@ -7,14 +7,15 @@ use Rattle.fol_base.specs.Kind.{is_function_term}
 use Rattle.fol_base.specs.Literal.{clause_of}
 use Rattle.fol_base.specs.WellFormed.{SymbolUse, has_arities, are_literals_of}
 use Rattle.kernel_steps.specs.Names.{are_sorted}
-use Rattle.kernel_steps.specs.Derivation.{is_clause_step, IsDerivation, IsRefutation}
+use Rattle.kernel_steps.specs.Derivation.{is_clause_step, under_names, IsDerivation, IsRefutation}
 use Rattle.kernel_steps.specs.Lines.{has_small_terms, IsNumbered}
 use Rattle.kernel_steps.specs.Soundness.{binds_each}
 use Rattle.kernel_steps.specs.Symbols.{clause_symbols_pass, bound_symbols_pass}
 use Rattle.kernel_steps.specs.declared.step.Step.{Step}
 use Rattle.kernel_steps.specs.declared.step.Step.TheVariants.{Component}
 use Rattle.kernel_steps.specs.declared.step.Line.{Line}
-use Rattle.pool_history.specs.Tags.{name_count}
+use Rattle.pool_history.specs.Tags.{name_count, line_names}
+use Rattle.pool_history.specs.Record.{Registered, PropositionalClause}
 use Rattle.pool_history.specs.Replay.{Origin, replay}
 use Rattle.pool_history.specs.Lawful.{IsLawful}
 use Rattle.pool_history.specs.Inputs.{AreInputs, IsUseOf}
@@ -62,6 +63,20 @@ LinesAreDerived =
     (usage : SymbolUse) (origin : Origin) (history : List Event)
     → AreInputs origin.inputs → IsUseOf origin.inputs usage → IsLawful usage.is_predicate origin history
     → ArePoolLines usage origin.inputs (replay origin history).lines
+
+-- the clause on the line of a number
+abbrev pub clause_on : List Line → ℕ → Option TreeClause
+clause_on lines n = option_map (λ (l : Line). clause_of l.clause) (slice_get lines n)
+
+-- The line of a registered clause has its literals, and lists the opposite of the signed name of each of its tags. The line of a propositional
+-- clause has its names.
+abbrev pub ClausesHaveLines : Type 0
+ClausesHaveLines =
+    (usage : SymbolUse) (origin : Origin) (history : List Event)
+    → AreInputs origin.inputs → IsUseOf origin.inputs usage → IsLawful usage.is_predicate origin history
+    → let r = replay origin history in
+    All (λ (c : Registered). clause_on r.lines c.line ≡ Some (record c.clause { names = line_names r.parts c.clause.names })) r.registered
+    × All (λ (c : PropositionalClause). clause_on r.lines c.line ≡ Some (under_names [] c.names)) r.propositional
 
 -- The component lines introduce the names from 0 on, in order, each once.
 abbrev pub NamesRise : Type 0

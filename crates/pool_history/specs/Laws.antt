@@ -1,4 +1,4 @@
--- Laws of lawful histories, for every list of events.
+-- Laws of histories: of every lawful history where nothing else is said.
 use Rattle.std.specs.Prelude.{◌≡◌, ◌≢◌, ◌⊎◌, ℕ, ◌+◌, ◌*◌, ◌^◌, ◌<◌, ◌≤◌, Bool, true, false, not, ◌&&◌, ◌==◌, nat_lt, List, [], ◌∷◌, ◌++◌, map, length, take, Option, None, Some, is_some, slice_get, filter, find, All, AllPairs, Contains, IsTrue, IsFalse}
 use lib.Pointwise.{pointwise}
 use Rattle.std.specs.List.{list_any, list_all, range_with_len}
@@ -6,6 +6,7 @@ use Rattle.fol_base.specs.Clause.{TreeClause, clause_size}
 use Rattle.fol_base.specs.Selection.{SelectionMode}
 use Rattle.fol_base.specs.WellFormed.{SymbolUse}
 use Rattle.kernel_steps.specs.Named.{IsInference}
+use Rattle.kernel_steps.specs.Split.{has_number}
 use Rattle.kernel_steps.specs.Sized.{IsSizedInference}
 use Rattle.kernel_steps.specs.declared.key.Key.{Key}
 use Rattle.kernel_steps.specs.declared.key.Key.TheVariants.{Replaced}
@@ -110,6 +111,15 @@ EndedJobsAreGone =
     → let r = replay origin history in
     (given_job r job ≡ None) × ((s : SolverJob) → r.solver ≡ Some s → s.job ≢ job)
 
+-- No clause has two jobs that are out, and the clause of such a job isn't active. So a living clause either waits, or is out once, or is active.
+abbrev pub OneJobAClause : Type 0
+OneJobAClause =
+    (is_predicate : ℕ → Bool) (origin : Origin) (history : List Event)
+    → IsLawful is_predicate origin history
+    → let r = replay origin history in
+    AllPairs (λ (j k : GivenJob). j.number ≢ k.number) r.given
+    × IsTrue (list_all (λ (j : GivenJob). not (has_number j.number r.active)) r.given)
+
 -- ---- positions
 
 -- A position that was given stays: so for every list of events, lawful or not.
@@ -125,6 +135,13 @@ NumbersFit =
     → AreInputs origin.inputs → IsLimit origin.options → IsUseOf origin.inputs usage → IsLawful usage.is_predicate origin history
     → let r = replay origin history in (length r.registered < 2 ^ 32) × (length r.positions ≤ length r.registered)
 
+-- So do tags: a clause of few symbols has few parts.
+abbrev pub TagsFit : Type 0
+TagsFit =
+    (usage : SymbolUse) (origin : Origin) (history : List Event)
+    → AreInputs origin.inputs → IsLimit origin.options → IsUseOf origin.inputs usage → IsLawful usage.is_predicate origin history
+    → length (replay origin history).parts < 2 ^ 32
+
 -- ---- outcomes
 
 -- Once an outcome stands it stays.
@@ -133,6 +150,17 @@ OutcomesStay =
     (is_predicate : ℕ → Bool) (origin : Origin) (history later : List Event) (outcome : Outcome)
     → IsLawful is_predicate origin (history ++ later) → outcome_of (replay origin history) ≡ Some outcome
     → outcome_of (replay origin (history ++ later)) ≡ Some outcome
+
+-- Once the pool is refuted or spent, nothing is registered or counted, no line is written, and no clause dies: so for every list of events,
+-- lawful or not.
+abbrev pub NothingComesAfter : Type 0
+NothingComesAfter =
+    (origin : Origin) (history later : List Event) (outcome : Outcome)
+    → (replay origin history).ended ≡ Some outcome
+    → let r = replay origin history in
+    let s = replay origin (history ++ later) in
+    (s.parts ≡ r.parts) × (s.registered ≡ r.registered) × (s.propositional ≡ r.propositional)
+    × (s.lines ≡ r.lines) × (s.counted ≡ r.counted) × (s.deaths ≡ r.deaths)
 
 -- Where an outcome stands that no event fixed, the pool is at rest: nothing is left to do, and no job is out. So no event follows.
 abbrev pub NothingFollowsRest : Type 0
@@ -168,14 +196,18 @@ CountedOnce =
 abbrev pub is_removal_of : Death → Removal → Bool
 is_removal_of d m = (m.victim == d.victim) && pointwise ◌==◌ m.justifiers d.justifiers
 
--- The clause died in the return of a batch, by a removal that has a reduced result in its place. If the batch has several removals of that
--- clause by those justifiers, the first takes effect.
-pub record IsReducedDeath (history : List Event) (d : Death) : Type 0 where
+-- The clause died in the return of a batch, by a removal that this proposes. If the batch has several removals of that clause by those
+-- justifiers, the first takes effect.
+pub record IsProposedDeath (history : List Event) (d : Death) : Type 0 where
   pub batch : Batch
   pub returned : slice_get history d.event ≡ Some (Return batch)
   pub removal : Removal
   pub proposed : find (is_removal_of d) (removals_of batch.work) ≡ Some removal
-  pub kept : IsTrue (is_some (lines_of_fate removal.fate))
+
+-- the removal has a reduced result, which takes the place of the clause
+pub record IsReducedDeath (history : List Event) (d : Death) : Type 0 where
+  pub proposal : IsProposedDeath history d
+  pub kept : IsTrue (is_some (lines_of_fate proposal.removal.fate))
 
 -- A clause was counted as replaced exactly if it died so.
 abbrev pub ReplacedWereReduced : Type 0
@@ -207,6 +239,11 @@ HeavyOrNot =
     → IsSizedInference is_predicate mode clauses key c heavy → IsSizedInference is_predicate mode clauses key d too → heavy ≡ too
 
 -- ---- deaths
+
+-- Each clause that died was removed by a batch, and the justifiers of its death are those of the removal: so for every list of events, lawful
+-- or not. In a lawful history the removal is right.
+abbrev pub DeathsWereProposed : Type 0
+DeathsWereProposed = (origin : Origin) (history : List Event) → All (IsProposedDeath history) (replay origin history).deaths
 
 -- The victim didn't die before, its justifiers are other clauses, and none of them died before.
 abbrev pub is_justified : List Death → Death → Bool

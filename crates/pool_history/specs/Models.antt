@@ -1,4 +1,4 @@
--- Laws of propositional clauses and their models, for every list of events.
+-- Laws of propositional clauses and their models, of every lawful history where nothing else is said.
 use Rattle.std.specs.Prelude.{◌≡◌, ℕ, ◌≤◌, Bool, List, ◌++◌, length, take, Some, IsTrue}
 use Rattle.plain_types.specs.declared.sequence.NameLit.{NameLit}
 use Rattle.fol_base.specs.WellFormed.{SymbolUse}

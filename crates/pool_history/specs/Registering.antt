@@ -63,7 +63,7 @@ with_part_clause r part =
 abbrev pub with_split : Step → List NameLit → PoolRecord → PoolRecord
 with_split step names r = with_propositional names (with_lines r (line_of step (under_names [] names) ∷ []))
 
--- the parts have their tags: the line number is that of the clause
+-- the clause on the line of that number is split; its parts have tags already
 abbrev pub split_tagged : TreeClause → ℕ → List (List TreeLiteral) → List NameLit → PoolRecord → PoolRecord
 split_tagged c line parts names r =
     fold with_part_clause
@@ -94,8 +94,8 @@ empty_comes c r =
     then with_refutation (registered_last c r)
     else with_propositional (line_names r.parts c.names) r
 
--- By lines, of which the last has its literals, and the opposites of the signed names of its tags. Where an equal clause lives, nothing
--- changes.
+-- A clause comes by lines, of which the last has its literals and the opposites of the signed names of its tags. Without literals it refutes or
+-- gives a propositional clause. One that is to be split comes in parts. Another is registered, unless an equal one lives: then nothing changes.
 abbrev pub comes : Bool → List Line → TreeClause → PoolRecord → PoolRecord
 comes split lines c r =
     if has_none c.literals

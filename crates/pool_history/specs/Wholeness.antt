@@ -1,18 +1,21 @@
--- Laws of what is registered, for every list of events: whole clauses, and positions and jobs that hold their numbers.
-use Rattle.std.specs.Prelude.{◌≡◌, ◌≢◌, ℕ, ◌<◌, ◌≤◌, Bool, ◌&&◌, nat_lt, List, ◌++◌, length, All, AllPairs, IsTrue, IsFalse}
+-- Laws of what is registered, of every lawful history where nothing else is said: whole clauses, and positions and jobs that hold their numbers.
+use Rattle.std.specs.Prelude.{◌≡◌, ◌≢◌, ℕ, ◌<◌, ◌≤◌, Bool, not, ◌&&◌, nat_lt, List, ◌++◌, length, Some, All, AllPairs, IsTrue, IsFalse}
 use Rattle.std.specs.List.{list_all}
-use Rattle.fol_base.specs.Clause.{TreeClause, clause_size}
+use Rattle.fol_base.specs.Clause.{TreeLiteral, TreeClause, clause_size}
 use Rattle.fol_base.specs.Canonical.{IsCanonical}
 use Rattle.fol_base.specs.WellFormed.{SymbolUse, are_literals_of}
 use Rattle.fol_base.specs.declared.limits.TheConstants.{MOST_SYMBOLS}
 use Rattle.kernel_steps.specs.Split.{has_number}
+use Rattle.kernel_steps.specs.declared.step.Line.{Line}
 use Rattle.bank_clause.specs.Clause.{AreAssertions}
 use Rattle.pool_history.specs.Components.{is_to_split}
-use Rattle.pool_history.specs.Record.{Registered, Death, GivenJob}
+use Rattle.pool_history.specs.Record.{Registered, Death, GivenJob, clause_numbered, lives}
+use Rattle.pool_history.specs.Registering.{has_none}
 use Rattle.pool_history.specs.Replay.{Origin, replay}
 use Rattle.pool_history.specs.Lawful.{IsLawful}
 use Rattle.pool_history.specs.Inputs.{AreInputs, IsUseOf}
 use Rattle.pool_history.specs.declared.event.Event.{Event}
+use Rattle.pool_history.specs.declared.outcome.Outcome.TheVariants.{Refuted}
 
 -- ---- clauses
 
@@ -40,14 +43,32 @@ RegisteredAreOnePart =
     (origin : Origin) (history : List Event)
     → All (λ (c : Registered). IsFalse (is_to_split origin.options.split c.clause.literals)) (replay origin history).registered
 
--- Registered clauses and deaths are only added: a clause keeps its number, and a dead clause stays dead. This holds for every list of events,
--- lawful or not.
+-- No clause without literals is registered, except the one that refutes. So an empty clause under assertions gives its propositional clause
+-- and no more. This holds for every list of events, lawful or not.
+abbrev pub NoneIsEmpty : Type 0
+NoneIsEmpty =
+    (origin : Origin) (history : List Event)
+    → let r = replay origin history in
+    r.ended ≢ Some Refuted → IsTrue (list_all (λ (c : Registered). not (has_none c.clause.literals)) r.registered)
+
+-- No two clauses with equal literals and equal assertions live. This holds for every list of events, lawful or not.
+abbrev pub LivingDiffer : Type 0
+LivingDiffer =
+    (origin : Origin) (history : List Event) (n m : ℕ)
+    → let r = replay origin history in
+    IsTrue (lives r n) → IsTrue (lives r m) → clause_numbered r n ≡ clause_numbered r m → n ≡ m
+
+-- Registered clauses, deaths, parts and lines are only added: a clause keeps its number and its line, a dead clause stays dead, and a tag stands
+-- for one part. This holds for every list of events, lawful or not.
 abbrev pub ClausesStay : Type 0
 ClausesStay =
     (origin : Origin) (history later : List Event)
     → let r = replay origin history in
     let s = replay origin (history ++ later) in
-    ((more : List Registered) × (s.registered ≡ r.registered ++ more)) × ((more : List Death) × (s.deaths ≡ r.deaths ++ more))
+    ((more : List Registered) × (s.registered ≡ r.registered ++ more))
+    × ((more : List Death) × (s.deaths ≡ r.deaths ++ more))
+    × ((more : List (List TreeLiteral)) × (s.parts ≡ r.parts ++ more))
+    × ((more : List Line) × (s.lines ≡ r.lines ++ more))
 
 -- ---- positions and jobs
 

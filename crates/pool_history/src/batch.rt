@@ -48,7 +48,7 @@ pub struct Removal {
 /// The fate of a conclusion, or of a clause that is removed.
 #[derive(Drop)]
 pub enum Fate {
-    /// The lines that lead to the result, and the result, or its parts where it is split. An entry's first line is its inference.
+    /// The lines that lead to the result, and the result, or its parts, without names, where it is split. An entry's first line is its inference.
     Kept { lines: Derivation, results: Clauses },
     /// Nothing takes its place.
     Dropped(Redundancy),

@@ -22,16 +22,22 @@
 //! **What is proved** of every lawful history, in `laws`:
 //!
 //! - Jobs have the numbers 1, 2, 3 and so on. A job stays out until an event ends it, and never comes back. It knows what was told at the
-//!   event that it names, and a batch that is right for it stays right through events of other jobs.
+//!   event that it names, and a batch that is right for it stays right through events of other jobs. No clause has two jobs at once, and
+//!   none that is active has one.
 //! - A clause that stays awake and alive, with m older ones, is claimed within 6(m + 1) claims, unless jobs are given up.
-//! - A clause dies once, by other clauses that lived then. So what was found redundant stays redundant, whatever dies later.
+//! - A clause keeps its number and its line, and a dead one stays dead. A tag stands for one part. No two living clauses are equal.
+//! - A clause dies once, by the removal of a batch, and by other clauses that lived then. So what was found redundant stays redundant,
+//!   whatever dies later.
 //! - No inference is counted twice. What is counted is an inference of registered clauses, or a clause that died with a reduced result in
 //!   its place, and each of the latter is counted.
-//! - Once an outcome stands it stays. `Spent` tells the length of the counted list. No event follows an outcome that comes by rest.
+//! - Once an outcome stands it stays. `Spent` tells the length of the counted list. No event follows an outcome that comes by rest. Once the
+//!   pool is refuted or spent, nothing is registered or counted and no clause dies.
 //! - Whether clauses are split or not, registered clauses are whole and small and assert parts that were met, the lines are a derivation
-//!   from the inputs, and those of a refuted pool a refutation.
+//!   from the inputs, and those of a refuted pool a refutation. Each registered clause has a line that says the same. None but the one that
+//!   refutes is empty.
 //! - Where splitting is on, no registered clause falls into two parts, and component lines introduce the names 0, 1, 2 and so on, each
-//!   once. Propositional clauses are only added. The model of a pool at rest makes all of them true.
+//!   once. Propositional clauses are only added. Each has a line, and its names are of parts that were met. The model of a pool at rest makes
+//!   all of them true.
 //! - The chains of the propositional solver's logs are steps of resolution on names.
 //!
 //! That an outcome `Saturated` names a saturated set (Bachmair and Ganzinger 1994) is proved on these laws, in a crate of its own. Worked

@@ -1,9 +1,9 @@
 -- Clauses that met: of two clauses whose jobs are done the one of the later position met the other, while both live. So each inference of
 -- living clauses whose jobs are done was counted. It stands on positions that stay, and on what jobs are told.
-use Rattle.std.proofs.Common.{◌≡◌, ℕ, suc, ◌+◌, ◌<◌, ◌≤◌, ◌⊎◌, Bool, true, false, not, ◌&&◌, ◌||◌, ◌==◌, List, [], ◌∷◌, ◌++◌, length, take, refl, ap, sym, ◌∙◌, inl, inr, ⊎_elim, arith, subst}
-use Rattle.std.specs.Prelude.{Option, None, Some, cond, nat_lt, filter, take_while, slice_get, option_map}
-use Rattle.std.specs.List.{position_or_len, prefix_len, list_all}
-use Rattle.std.proofs.lemmas.Bool.{true≢false, and_parts, and_from, or_cases, or_parts, or_left, or_right, not-true, not_from_false, eqb-true, eq-eqb, ltb-true, cond-true}
+use Rattle.std.proofs.Common.{◌≡◌, ℕ, ◌+◌, ◌<◌, ◌≤◌, ◌⊎◌, Bool, true, false, not, ◌&&◌, ◌||◌, ◌==◌, List, [], ◌∷◌, ◌++◌, length, refl, ap, sym, ◌∙◌, inl, inr, ⊎_elim, arith, subst}
+use Rattle.std.specs.Prelude.{Option, None, Some, cond, nat_lt, filter, slice_get, option_map}
+use Rattle.std.specs.List.{position_or_len, list_all}
+use Rattle.std.proofs.lemmas.Bool.{true≢false, and_parts, and_from, or_cases, or_left, or_right, not-true, not_from_false, eqb-true, eq-eqb, ltb-true, cond-true}
 use Rattle.std.proofs.lemmas.List.{length-append}
 use Rattle.std.proofs.lemmas.List.Folds.{list_any-append}
 use Rattle.fol_base.specs.Clause.{TreeClause}
@@ -23,59 +23,20 @@ use Rattle.pool_history.specs.Outcomes.{premises}
 use Rattle.pool_history.specs.Batches.{is_told, told_before, is_to_meet, MeetsAll}
 use Rattle.pool_history.specs.declared.options.Options.{Options}
 use Rattle.pool_history.specs.declared.batch.Entry.{Entry}
-use Rattle.pool_history.proofs.AboutCounting.CountedRecords.{Lookup}
+use Rattle.pool_history.proofs.AboutCounting.CountedRecords.{Lookup, number-passes, front, front-taken, front-longer, front-filter, has-kept}
+use Rattle.pool_history.proofs.AboutRecords.GrowthLemmas.{has_died-less}
 use Rattle.pool_history.proofs.AboutRecords.EditLemmas.{eq-sym}
-use Rattle.pool_history.proofs.AboutLines.JoinedLemmas.{by-test, BehindAt, get-cases}
+use Rattle.pool_history.proofs.AboutLines.JoinedLemmas.{BehindAt, get-cases}
 use Rattle.pool_history.proofs.AboutRecords.PlaceLemmas.{has-first}
 use Rattle.laws_saturation.proofs.AboutCarried.CarriedLemmas.{alive}
 
 -- ---- what stands before a number
-
-abbrev pub front : ℕ → List ℕ → List ℕ
-front m [] = []
-front m (k ∷ ks) = cond (k == m) [] (k ∷ front m ks)
-
-front-taken : (m : ℕ) (ks : List ℕ) → take_while (λ k. not (k == m)) ks ≡ front m ks
-front-taken m [] = refl
-front-taken m (k ∷ ks) = by (k == m) (front-taken m ks)
-  where
-    by :
-        (b : Bool) → take_while (λ i. not (i == m)) ks ≡ front m ks
-        → take (cond (not b) (1 + prefix_len (λ i. not (i == m)) ks) 0) (k ∷ ks) ≡ cond b [] (k ∷ front m ks)
-    by true rest = refl
-    by false rest =
-        ap (λ n. take n (k ∷ ks)) (let more : 1 + prefix_len (λ i. not (i == m)) ks ≡ suc (prefix_len (λ i. not (i == m)) ks) = omega arith in more)
-        ∙ ap (λ is. k ∷ is) rest
 
 -- a number that isn't the first is one of the others
 behind : (n k : ℕ) (ks : List ℕ) → has_number n (k ∷ ks) ≡ true → (k == n) ≡ false → has_number n ks ≡ true
 behind n k ks there other =
     ⊎_elim (λ (here : (n == k) ≡ true). absurd (true≢false (sym here ∙ (eq-sym n k ∙ other)))) (λ (later : has_number n ks ≡ true). later)
     (or_cases (n == k) (has_number n ks) there)
-
--- what is put behind changes nothing before a number that is there
-front-longer : (m : ℕ) (ks js : List ℕ) → has_number m ks ≡ true → front m (ks ++ js) ≡ front m ks
-front-longer m [] js there = absurd (true≢false (sym there))
-front-longer m (k ∷ ks) js there = by (k == m) refl (front-longer m ks js)
-  where
-    by : (b : Bool) → (k == m) ≡ b → (has_number m ks ≡ true → front m (ks ++ js) ≡ front m ks) → cond b [] (k ∷ front m (ks ++ js)) ≡ cond b [] (k ∷ front m ks)
-    by true is rest = refl
-    by false is rest = ap (λ is. k ∷ is) (rest (behind m k ks there is))
-
--- nor does it change what is kept of them, where the number is kept
-front-filter : (p : ℕ → Bool) (m : ℕ) (ks : List ℕ) → p m ≡ true → front m (filter p ks) ≡ filter p (front m ks)
-front-filter p m [] kept = refl
-front-filter p m (k ∷ ks) kept = by (k == m) (p k) refl refl (front-filter p m ks kept)
-  where
-    by :
-        (b c : Bool) → (k == m) ≡ b → p k ≡ c → front m (filter p ks) ≡ filter p (front m ks)
-        → front m (cond c (k ∷ filter p ks) (filter p ks)) ≡ filter p (cond b [] (k ∷ front m ks))
-    by true true same is rest = ap (λ d. cond d [] (k ∷ front m (filter p ks))) same
-    by true false same is rest = absurd (true≢false (sym kept ∙ ap p (sym (eqb-true k m same)) ∙ is))
-    by false true same is rest =
-        ap (λ d. cond d [] (k ∷ front m (filter p ks))) same ∙ ap (λ is. k ∷ is) rest
-        ∙ sym (ap (λ d. cond d (k ∷ filter p (front m ks)) (filter p (front m ks))) is)
-    by false false same is rest = rest ∙ sym (ap (λ d. cond d (k ∷ filter p (front m ks)) (filter p (front m ks))) is)
 
 -- what stands before a number is there
 front-there : (n m : ℕ) (ks : List ℕ) → has_number n (front m ks) ≡ true → has_number n ks ≡ true
@@ -124,37 +85,13 @@ front-lower n m (k ∷ ks) there = by (k == m) (n == k) (m == k) refl refl (eq-s
     by false false false is_m is_n same h rest =
         let low = rest (behind n k (front m ks) h (eq-sym k n ∙ is_n)) in omega (arith, low)
 
--- what is kept is there still
-pub has-kept : (p : ℕ → Bool) (n : ℕ) (ks : List ℕ) → p n ≡ true → has_number n ks ≡ true → has_number n (filter p ks) ≡ true
-has-kept p n [] kept there = there
-has-kept p n (k ∷ ks) kept there =
-    by-test (λ is. has_number n is ≡ true) (p k) (k ∷ filter p ks) (filter p ks)
-    (λ yes.
-    ⊎_elim (λ (here : (n == k) ≡ true). or_left (n == k) (has_number n (filter p ks)) here)
-    (λ (later : has_number n ks ≡ true). or_right (n == k) (has_number n (filter p ks)) (has-kept p n ks kept later)) (or_cases (n == k) (has_number n ks) there))
-    (λ left.
-    ⊎_elim (λ (here : (n == k) ≡ true). absurd (true≢false (sym kept ∙ ap p (eqb-true n k here) ∙ left)))
-    (λ (later : has_number n ks ≡ true). has-kept p n ks kept later) (or_cases (n == k) (has_number n ks) there))
-
--- what all numbers of a list pass, one of them passes
-pub number-passes : (p : ℕ → Bool) (n : ℕ) (ks : List ℕ) → has_number n ks ≡ true → list_all p ks ≡ true → p n ≡ true
-number-passes p n [] there all = absurd (true≢false (sym there))
-number-passes p n (k ∷ ks) there all =
-    let parts = and_parts (p k) (list_all p ks) all in
-    ⊎_elim (λ (here : (n == k) ≡ true). ap p (eqb-true n k here) ∙ parts.0) (λ (later : has_number n ks ≡ true). number-passes p n ks later parts.1)
-    (or_cases (n == k) (has_number n ks) there)
-
--- and each number of it does
+-- what each number of a list passes, the list does
 pub all-numbered : (p : ℕ → Bool) (ks : List ℕ) → ((n : ℕ) → has_number n ks ≡ true → p n ≡ true) → list_all p ks ≡ true
 all-numbered p [] each = refl
 all-numbered p (k ∷ ks) each =
     and_from (p k) (list_all p ks) (each k (has-first k ks)) (all-numbered p ks (λ n there. each n (or_right (n == k) (has_number n ks) there)))
 
 -- ---- deaths
-
-died-less : (ds es : List Death) (n : ℕ) → has_died (ds ++ es) n ≡ false → has_died ds n ≡ false
-died-less ds es n none =
-    (or_parts (has_died ds n) (has_died es n) (sym (list_any-append (λ (d : Death). n == d.victim) ds es) ∙ none)).0
 
 abbrev pub none_died : List Death → List ℕ → Bool
 none_died deaths ns = list_all (λ n. not (has_died deaths n)) ns
@@ -179,10 +116,10 @@ pub told-later :
     → IsToldRight limit positions deaths counted j → IsToldRight limit (positions ++ more) (deaths ++ later) (counted ++ keys) j
 told-later limit positions more deaths later counted keys j is = record {
   placed = has-left j.number positions more is.placed;
-  itself = λ lives. is.itself (died-less deaths later j.number lives);
+  itself = λ lives. is.itself (has_died-less deaths later j.number lives);
   others = λ lives m before m_lives.
-      is.others (died-less deaths later j.number lives) m
-      (ap (has_number m) (sym (front-longer j.number positions more is.placed)) ∙ before) (died-less deaths later m m_lives);
+      is.others (has_died-less deaths later j.number lives) m
+      (ap (has_number m) (sym (front-longer j.number positions more is.placed)) ∙ before) (has_died-less deaths later m m_lives);
   enough = let count = length-append counted keys in let reach = is.enough in omega (arith, count, reach);
 }
 
@@ -278,7 +215,7 @@ module _ (is_predicate : ℕ → Bool) (mode : SelectionMode) where
       grows key
       (before key c is_met
       (all-numbered (λ n. not (has_died deaths n)) (premises key)
-      (λ n there. not_from_false (has_died deaths n) (died-less deaths later n (undead (deaths ++ later) (premises key) n there lives))))
+      (λ n there. not_from_false (has_died deaths n) (has_died-less deaths later n (undead (deaths ++ later) (premises key) n there lives))))
       (inference-less is_predicate mode (Lookup (registered ++ more)) (Lookup registered) key c
       (λ n d there found.
       lookup-less registered more n d

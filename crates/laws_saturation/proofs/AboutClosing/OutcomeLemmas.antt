@@ -35,7 +35,7 @@ use Rattle.pool_history.specs.declared.options.Options.{Options}
 use Rattle.pool_history.specs.declared.outcome.Outcome.{Outcome}
 use Rattle.pool_history.specs.declared.outcome.Outcome.TheVariants.{Refuted, Saturated, Spent, Heavy}
 use Rattle.pool_history.proofs.AboutClaims.ClaimedRecords.{in-filter}
-use Rattle.pool_history.proofs.AboutCounting.CountedRecords.{Lookup}
+use Rattle.pool_history.proofs.AboutCounting.CountedRecords.{Lookup, number-passes, front}
 use Rattle.pool_history.proofs.AboutRecords.GrowthLemmas.{waiting-from}
 use Rattle.pool_history.proofs.AboutRecords.PlaceLemmas.{has-first}
 use Rattle.pool_history.proofs.AboutRecords.ItemLemmas.{all-at, none-passes, passes-at, clause-numbered, item-at}
@@ -48,7 +48,7 @@ use Rattle.laws_calculus.proofs.AboutCovering.EachLemmas.{each-more}
 use Rattle.laws_saturation.proofs.AboutCarried.CarriedLemmas.{Living, HeldBy, Open, CoversAwake, inference-more}
 use Rattle.laws_saturation.proofs.AboutCarried.AwakeLemmas.{NameChoice, inference-awake}
 use Rattle.laws_saturation.proofs.AboutCarried.RemovalLemmas.{among-parts}
-use Rattle.laws_saturation.proofs.AboutCarried.MeetingLemmas.{front, front-lower, in-order, number-passes, all-numbered}
+use Rattle.laws_saturation.proofs.AboutCarried.MeetingLemmas.{front-lower, in-order, all-numbered}
 use Rattle.laws_saturation.proofs.AboutCarried.StateLemmas.{WasFound, IsState}
 use Rattle.laws_saturation.proofs.AboutCarried.HistoryLemmas.{Reaches}
 use Rattle.laws_saturation.proofs.AboutCarried.FixedLemmas.{OnlyFixed, fixed_are_refuted_or_spent}

@@ -1,10 +1,12 @@
 -- The clauses whose jobs are out: each is registered, is not active, and is in one job's hand.
-use Rattle.std.proofs.Common.{◌≡◌, ℕ, ◌+◌, ◌<◌, ◌≤◌, Bool, true, false, not, ◌||◌, ◌==◌, List, [], ◌∷◌, ◌++◌, map, length, refl, ap, sym, ◌∙◌, subst, arith}
-use Rattle.std.specs.Prelude.{Option, None, Some, cond, is_none, is_some, find, filter, fold, if◌then◌else◌}
-use Rattle.std.specs.List.{list_any, AllByRecursion}
-use Rattle.std.proofs.lemmas.Bool.{true≢false, or_parts, or_from}
+use Rattle.std.proofs.Common.{◌≡◌, ◌≢◌, ℕ, ◌+◌, ◌<◌, ◌≤◌, Bool, true, false, not, ◌||◌, ◌==◌, List, [], ◌∷◌, ◌++◌, map, length, refl, ap, sym, ◌∙◌, subst, arith}
+use Rattle.std.specs.Prelude.{Option, None, Some, cond, is_none, is_some, find, filter, fold, AllPairs, if◌then◌else◌}
+use Rattle.std.specs.List.{list_any, list_all, AllByRecursion}
+use Rattle.std.proofs.lemmas.Bool.{true≢false, and_from, or_parts, or_from, eq-eqb, not_from_false}
 use Rattle.std.proofs.lemmas.List.{length-append}
+use Rattle.std.proofs.lemmas.List.Elements.{All-from_recursion}
 use Rattle.std.proofs.lemmas.List.Folds.{list_any-append}
+use Rattle.std.proofs.lemmas.List.Kept.{AllPairs-cons}
 use Rattle.std.proofs.lemmas.Option.{none-some, same_Some}
 use Rattle.kernel_steps.specs.Split.{has_number}
 use Rattle.sat_core.specs.declared.answer.Chain as log
@@ -14,6 +16,7 @@ use Rattle.pool_history.specs.Returning.{removed, becomes_active, worked, return
 use Rattle.pool_history.specs.Solving.{modelled_by, refuted_by}
 use Rattle.pool_history.specs.Replay.{Origin, after, start, replay, retold}
 use Rattle.pool_history.specs.Lawful.{IsAllowed, IsLawfulFrom, IsLawful}
+use Rattle.pool_history.specs.Laws.{OneJobAClause}
 use Rattle.pool_history.specs.declared.options.Options.{Options}
 use Rattle.pool_history.specs.declared.batch.Batch.{Batch}
 use Rattle.pool_history.specs.declared.batch.Work.{Work}
@@ -267,3 +270,26 @@ hands-of is_predicate origin es lawful =
     let begun = registers-grows nothing_registered (start origin) (inputs-register origin.options.split 0 origin.inputs nothing_registered) in
     history-in-hand is_predicate origin.options es (start origin) lawful
     (same-in-hand nothing_registered (start origin) begun.given begun.active (omega arith) (record { apart = tt; idle = tt; known = tt }))
+
+-- ---- the law
+
+pub one_job_a_clause : OneJobAClause
+one_job_a_clause is_predicate origin history lawful =
+    let hands = hands-of is_predicate origin history lawful in
+    let r : PoolRecord = replay origin history in
+    (pairs r.given hands.apart, none-active r.active r.given hands.idle)
+  where
+    pairs : (js : List GivenJob) → Apart js → AllPairs (λ (j k : GivenJob). j.number ≢ k.number) js
+    pairs [] apart = λ i j d less within. absurd (omega (arith, within))
+    pairs (j ∷ js) apart =
+        AllPairs-cons (λ (i k : GivenJob). i.number ≢ k.number) j js
+        (All-from_recursion (λ (k : GivenJob). j.number ≢ k.number) js
+        (all-weaker (λ (k : GivenJob). (k.number == j.number) ≡ false) (λ (k : GivenJob). j.number ≢ k.number)
+        (λ k other same. true≢false (sym (eq-eqb k.number j.number (sym same)) ∙ other)) js (none-all j.number js apart.0)))
+        (pairs js apart.1)
+
+    none-active : (active : List ℕ) (js : List GivenJob) → AllByRecursion (λ (j : GivenJob). has_number j.number active ≡ false) js → list_all (λ (j : GivenJob). not (has_number j.number active)) js ≡ true
+    none-active active [] all = refl
+    none-active active (j ∷ js) all =
+        and_from (not (has_number j.number active)) (list_all (λ (k : GivenJob). not (has_number k.number active)) js)
+        (not_from_false (has_number j.number active) all.0) (none-active active js all.1)

@@ -89,7 +89,7 @@ never-both n m (k ∷ ks) first second = by (k == m) (k == n) refl refl first se
             (or_cases (i == k) (has_number i (front n ks)) there)
 
 -- what is put behind changes nothing before a number that is there
-front-longer : (m : ℕ) (ks js : List ℕ) → has_number m ks ≡ true → front m (ks ++ js) ≡ front m ks
+pub front-longer : (m : ℕ) (ks js : List ℕ) → has_number m ks ≡ true → front m (ks ++ js) ≡ front m ks
 front-longer m [] js there = absurd (true≢false (sym there))
 front-longer m (k ∷ ks) js there = by (k == m) refl (front-longer m ks js)
   where
@@ -102,7 +102,7 @@ front-longer m (k ∷ ks) js there = by (k == m) refl (front-longer m ks js)
         (or_cases (m == k) (has_number m ks) there)))
 
 -- nor does it change what is kept of them, where the number is kept
-front-filter : (p : ℕ → Bool) (m : ℕ) (ks : List ℕ) → p m ≡ true → front m (filter p ks) ≡ filter p (front m ks)
+pub front-filter : (p : ℕ → Bool) (m : ℕ) (ks : List ℕ) → p m ≡ true → front m (filter p ks) ≡ filter p (front m ks)
 front-filter p m [] kept = refl
 front-filter p m (k ∷ ks) kept = by (k == m) (p k) refl refl (front-filter p m ks kept)
   where

@@ -368,13 +368,14 @@ replaced_were_reduced is_predicate origin history n lawful = (
     -- what a return at a place brings
     returned : (k : ℕ) (e : Event) → slice_get history k ≡ Some e → GoesBy origin.options (IsReducedDeath history) is_predicate k e
     returned k e at batch is m first = record {
-      goes = λ kept. record { batch = batch; returned = at ∙ ap Some is; removal = m; proposed = first; kept = kept };
+      goes = λ kept. record { proposal = record { batch = batch; returned = at ∙ ap Some is; removal = m; proposed = first }; kept = kept };
       kept =
           λ went.
-          let same : went.batch ≡ batch =
-          same-batch went.batch batch (same_Some (Return went.batch) (Return batch) (sym went.returned ∙ at ∙ ap Some is)) in
-          let one : went.removal ≡ m =
-          same_Some went.removal m (sym went.proposed ∙ ap (λ (b : Batch). find (is_removal_of (death_by k m)) (removals_of b.work)) same ∙ first) in
+          let by = went.proposal in
+          let same : by.batch ≡ batch =
+          same-batch by.batch batch (same_Some (Return by.batch) (Return batch) (sym by.returned ∙ at ∙ ap Some is)) in
+          let one : by.removal ≡ m =
+          same_Some by.removal m (sym by.proposed ∙ ap (λ (b : Batch). find (is_removal_of (death_by k m)) (removals_of b.work)) same ∙ first) in
           ap (λ (x : Removal). is_some (lines_of_fate x.fate)) (sym one) ∙ went.kept;
     }
 

@@ -1,10 +1,11 @@
 -- The inputs that are registered first are whole, and their lines are a derivation; so the laws on whole clauses and on lines.
 use Rattle.std.proofs.Common.{◌≡◌, ℕ, zero, suc, ◌+◌, ◌-◌, ◌<◌, ◌≤◌, Bool, false, List, [], ◌∷◌, length, refl, ap, sym, ◌∙◌, subst, arith}
-use Rattle.std.specs.Prelude.{Some, All, is_none, slice_get}
+use Rattle.std.specs.Prelude.{Option, Some, All, is_none, option_map, slice_get}
 use Rattle.std.proofs.lemmas.List.Elements.{All-nil}
 use Rattle.std.proofs.lemmas.Option.{none-some, same_Some}
 use Rattle.fol_base.specs.Clause.{TreeLiteral, TreeClause, clause_size}
 use Rattle.fol_base.specs.Canonical.{IsCanonical}
+use Rattle.fol_base.specs.Literal.{clause_of}
 use Rattle.fol_base.specs.WellFormed.{SymbolUse, are_literals_of}
 use Rattle.fol_base.specs.declared.limits.TheConstants.{MOST_SYMBOLS}
 use Rattle.fol_base.proofs.WorkedExamples.TestLemmas.{list_all-item}
@@ -12,18 +13,18 @@ use Rattle.kernel_steps.specs.Derivation.{introduces_name, under_names}
 use Rattle.kernel_steps.specs.Symbols.{clause_symbols_pass}
 use Rattle.kernel_steps.specs.declared.step.Step.TheVariants.{Clausify}
 use Rattle.kernel_steps.specs.declared.step.Line.{Line}
-use Rattle.pool_history.specs.Record.{PoolRecord, Registered, nothing_registered}
+use Rattle.pool_history.specs.Record.{PoolRecord, Registered, PropositionalClause, nothing_registered}
 use Rattle.kernel_steps.specs.FromTrees.{line_of}
 use Rattle.pool_history.specs.Registering.{comes, unless_ended, with_inputs}
 use Rattle.pool_history.specs.Inputs.{AreInputs, IsUseOf}
 use Rattle.pool_history.specs.Wholeness.{IsWhole, RegisteredAreWhole}
 use Rattle.pool_history.specs.Models.{NamesAreMet}
-use Rattle.pool_history.specs.Derived.{IsPoolLine, LinesAreDerived, NamesRise, RefutedIsRefutation}
+use Rattle.pool_history.specs.Derived.{IsPoolLine, ClausesHaveLines, LinesAreDerived, NamesRise, RefutedIsRefutation}
 use Rattle.pool_history.specs.Lawful.{IsLawful}
 use Rattle.pool_history.specs.Replay.{Origin, start, replay}
 use Rattle.pool_history.specs.declared.event.Event.{Event}
 use Rattle.pool_history.specs.declared.outcome.Outcome.TheVariants.{Refuted}
-use Rattle.pool_history.proofs.AboutLines.JoinedLemmas.{by-test, last-there}
+use Rattle.pool_history.proofs.AboutLines.JoinedLemmas.{by-test, all-from, last-there}
 use Rattle.pool_history.proofs.AboutLines.PoolLineLemmas.{on_line, Sound, Continue}
 use Rattle.pool_history.proofs.AboutLines.SoundLemmas.{comes-sound, open-is, history-sound}
 use Rattle.pool_history.proofs.AboutLines.WrittenLemmas.{clause-written, written-line}
@@ -136,6 +137,17 @@ registered_are_whole usage origin history inputs used lawful = (replay-sound usa
 
 pub lines_are_derived : LinesAreDerived
 lines_are_derived usage origin history inputs used lawful = (replay-sound usage origin history inputs used lawful).made
+
+pub clauses_have_lines : ClausesHaveLines
+clauses_have_lines usage origin history inputs used lawful =
+    let sound = replay-sound usage origin history inputs used lawful in
+    let r : PoolRecord = replay origin history in
+    let on : Option Line → Option TreeClause = λ o. option_map (λ (l : Line). clause_of l.clause) o in (
+      all-from (λ (x : Registered). on (slice_get r.lines x.line) ≡ Some (on_line r.parts x.clause)) r.registered
+          (λ n x there. let at = sound.lined n x there in ap on at.there ∙ ap Some at.gives),
+      all-from (λ (p : PropositionalClause). on (slice_get r.lines p.line) ≡ Some (under_names [] p.names)) r.propositional
+          (λ n p there. let at = sound.over_names n p there in ap on at.there ∙ ap Some at.gives),
+    )
 
 pub names_are_met : NamesAreMet
 names_are_met usage origin history inputs used lawful = (replay-sound usage origin history inputs used lawful).below

@@ -17,7 +17,7 @@ use Rattle.kernel_steps.specs.declared.step.Step.{Step}
 use Rattle.kernel_steps.specs.declared.step.Step.TheVariants.{Clausify, Para, Refl, Factor, Merge}
 use Rattle.kernel_steps.specs.declared.step.Line.{Line}
 use Rattle.pool_history.specs.Tags.{line_names}
-use Rattle.pool_history.specs.Record.{PoolRecord, Registered, GivenJob, clauses_of, given_job, has_living, without_job, nothing_registered}
+use Rattle.pool_history.specs.Record.{PoolRecord, GivenJob, clauses_of, given_job, has_living, without_job, nothing_registered}
 use Rattle.pool_history.specs.Lines.{with_lines, with_parents, line_number, pool_line, result_of}
 use Rattle.pool_history.specs.Registering.{registered_last, has_none, with_refutation, with_propositional, empty_comes, comes, unless_ended, with_inputs}
 use Rattle.pool_history.specs.Counting.{lines_of_fate, lines_of_entries, keys_of, comes_by, result_comes, refutes, spends, counts}

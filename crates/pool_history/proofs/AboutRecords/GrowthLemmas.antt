@@ -193,7 +193,7 @@ met-grows options n entries removals r =
 
 -- ---- what waits
 
-has_died-less : (ds es : List Death) (n : ℕ) → has_died (ds ++ es) n ≡ false → has_died ds n ≡ false
+pub has_died-less : (ds es : List Death) (n : ℕ) → has_died (ds ++ es) n ≡ false → has_died ds n ≡ false
 has_died-less ds es n none =
     (or_parts (has_died ds n) (has_died es n) (sym (list_any-append (λ (d : Death). n == d.victim) ds es) ∙ none)).0
 

@@ -19,7 +19,6 @@ use Rattle.pool_history.specs.Solving.{modelled_by, refuted_by}
 use Rattle.pool_history.specs.News.{TreeChange, activated, died, changes_between, changes_from, news_since}
 use Rattle.pool_history.specs.Replay.{Origin, retold, after, start, replay}
 use Rattle.pool_history.specs.Told.{activated_numbers, died_numbers, ToldAreNews, NewsAreRegistered, JobsWereTold}
-use Rattle.pool_history.specs.Wholeness.{ClausesStay}
 use Rattle.pool_history.specs.declared.options.Options.{Options}
 use Rattle.pool_history.specs.declared.batch.Batch.{Batch}
 use Rattle.pool_history.specs.declared.batch.Work.{Work}
@@ -31,7 +30,7 @@ use Rattle.pool_history.proofs.AboutCounting.CountedRecords.{lookup-more}
 use Rattle.pool_history.proofs.AboutRecords.FrameLemmas.{by-if, inputs-register}
 use Rattle.pool_history.proofs.AboutRecords.GrowthLemmas.{removed-grows, met-grows, more-then, registers-grows}
 use Rattle.pool_history.proofs.AboutClaims.HandLemmas.{all-end, all-filter, all-found, all-weaker}
-use Rattle.pool_history.proofs.AboutClaims.HistoryLemmas.{later-append, event-count, no-event}
+use Rattle.pool_history.proofs.AboutClaims.HistoryLemmas.{event-count, no-event}
 use Rattle.pool_history.proofs.AboutLines.JoinedLemmas.{all-from}
 use Rattle.pool_history.proofs.AboutRecords.JobNumberLemmas.{after-positions}
 use Rattle.pool_history.proofs.AboutRecords.PlaceLemmas.{Placed, after-placed, start-placed, replay-placed}
@@ -133,7 +132,7 @@ module _ (options : Options) where
   after-both r (ReturnRefuted job chains) = refuted-both r.solver chains r
   after-both r (Abandon job) = same-both r
 
-  history-both : (es : List Event) (r : PoolRecord) → MoreOfBoth r (fold (after options) r es)
+  pub history-both : (es : List Event) (r : PoolRecord) → MoreOfBoth r (fold (after options) r es)
   history-both [] r = same-both r
   history-both (e ∷ es) r =
       let s : PoolRecord = after options r e in
@@ -365,12 +364,3 @@ jobs_were_told origin history job j out =
     let low = is.0 in
     let count = event-count origin history in
     (omega (arith, low, count), is.1)
-
--- ---- clauses keep their numbers, and the dead stay dead
-
-pub clauses_stay : ClausesStay
-clauses_stay origin history later =
-    let both = history-both origin.options later (replay origin history) in
-    subst
-    (λ (s : PoolRecord). ((more : List Registered) × (s.registered ≡ (replay origin history).registered ++ more)) × ((more : List Death) × (s.deaths ≡ (replay origin history).deaths ++ more)))
-    (sym (later-append origin.options history later (start origin))) (both.1, both.0)

@@ -1,5 +1,5 @@
 -- Numbers: few clauses are registered, so clauses and positions have 32 bits; positions stay; and jobs are counted.
-use Rattle.std.proofs.Common.{◌≡◌, ◌≢◌, ℕ, suc, ◌+◌, ◌-◌, ◌*◌, ◌<◌, ◌≤◌, Bool, true, false, ◌&&◌, ◌==◌, List, [], ◌∷◌, ◌++◌, map, length, refl, ap, sym, ◌∙◌, subst, ⊎_elim, arith}
+use Rattle.std.proofs.Common.{◌≡◌, ◌≢◌, ℕ, suc, ◌+◌, ◌-◌, ◌*◌, ◌^◌, ◌<◌, ◌≤◌, Bool, true, false, ◌&&◌, ◌==◌, List, [], ◌∷◌, ◌++◌, map, length, refl, ap, sym, ◌∙◌, subst, ⊎_elim, arith}
 use Rattle.std.specs.Prelude.{Option, None, Some, cond, is_none, nat_le, nat_lt, fold, find, filter, AllPairs, sum_by, if◌then◌else◌}
 use Rattle.std.specs.List.{list_any, list_all, cons_option, AllByRecursion}
 use Rattle.std.proofs.lemmas.Bool.{true≢false, and_parts, or_cases, leb-false, ltb-true, eqb-true}
@@ -26,7 +26,7 @@ use Rattle.split_parts.specs.SignedNames.{signed_name}
 use Rattle.pool_history.specs.Components.{places, component_of, begins_at, components_of, parts_of, is_to_split}
 use Rattle.pool_history.specs.Tags.{line_names}
 use Rattle.pool_history.specs.Batches.{IsRightFate, IsRightRemoval, IsRightWork}
-use Rattle.pool_history.specs.Lawful.{IsAllowed, IsLawfulFrom}
+use Rattle.pool_history.specs.Lawful.{IsAllowed, IsLawfulFrom, IsLawful}
 use Rattle.kernel_steps.specs.declared.key.Key.{Key}
 use Rattle.kernel_steps.specs.declared.key.Key.TheVariants.{Replaced}
 use Rattle.kernel_steps.specs.declared.step.Step.TheVariants.{Clausify, Split}
@@ -40,8 +40,9 @@ use Rattle.pool_history.specs.Counting.{lines_of_fate, lines_of_entries, keys_of
 use Rattle.pool_history.specs.Returning.{dies, replaced, removed, takes_effect, proposed, becomes_active, sets_aside, worked, returns_to}
 use Rattle.pool_history.specs.Solving.{modelled_by, refuted_by}
 use Rattle.pool_history.specs.Claiming.{next_given, given_out, claimed_by}
-use Rattle.pool_history.specs.Laws.{NumbersFit}
-use Rattle.pool_history.specs.Replay.{after, start, replay}
+use Rattle.pool_history.specs.Inputs.{AreInputs, IsLimit, IsUseOf}
+use Rattle.pool_history.specs.Laws.{NumbersFit, TagsFit}
+use Rattle.pool_history.specs.Replay.{Origin, after, start, replay}
 use Rattle.pool_history.specs.declared.options.Options.{Options}
 use Rattle.pool_history.specs.declared.outcome.Outcome.{Outcome}
 use Rattle.pool_history.specs.declared.outcome.Outcome.TheVariants.{Refuted, Spent}
@@ -92,30 +93,37 @@ few-parts ls =
         let rest = filtered p xs in
         by-if (λ (ys : List ℕ). length ys ≤ suc (length xs)) (p x) (x ∷ filter p xs) (filter p xs) (omega (arith, rest)) (omega (arith, rest))
 
--- a clause that falls into parts is registered once for each part at most
-tags-count : (ps : List (List TreeLiteral)) (r : PoolRecord) → length (fold with_tag r ps).registered ≤ length r.registered
+-- how many clauses are registered and how many parts have tags
+abbrev size : PoolRecord → ℕ
+size r = length r.registered + length r.parts
+
+-- a clause that falls into parts brings a tag and a registered clause for each part at most
+tags-count : (ps : List (List TreeLiteral)) (r : PoolRecord) → size (fold with_tag r ps) ≤ size r + length ps
 tags-count [] r = omega arith
 tags-count (p ∷ ps) r =
     let rest = tags-count ps (with_tag r p) in
-    let one : length (with_tag r p).registered ≤ length r.registered =
-    by-if (λ (s : PoolRecord). length s.registered ≤ length r.registered) (has_part p r.parts) r (with_new_part p (with_part r.parts p) r) (omega arith) (omega arith) in
+    let more : length (with_part r.parts p) ≤ length r.parts + 1 =
+    by-if (λ (qs : List (List TreeLiteral)). length qs ≤ length r.parts + 1) (has_part p r.parts) r.parts (r.parts ++ p ∷ []) (omega arith)
+    (let count = length-append r.parts (p ∷ []) in omega (arith, count)) in
+    let one : size (with_tag r p) ≤ size r + 1 =
+    by-if (λ (s : PoolRecord). size s ≤ size r + 1) (has_part p r.parts) r (with_new_part p (with_part r.parts p) r) (omega arith) (omega (arith, more)) in
     omega (arith, rest, one)
 
-parts-count : (ps : List (List TreeLiteral)) (r : PoolRecord) → length (fold with_part_clause r ps).registered ≤ length r.registered + length ps
+parts-count : (ps : List (List TreeLiteral)) (r : PoolRecord) → size (fold with_part_clause r ps) ≤ size r + length ps
 parts-count [] r = omega arith
 parts-count (p ∷ ps) r =
     let rest = parts-count ps (with_part_clause r p) in
     let one = part-count (definition_of r.lines (signed_name r.parts p)) (under_names p (negative_of (tag_of r.parts p) ∷ [])) r in
     omega (arith, rest, one)
   where
-    part-count : (line : ℕ) (c : TreeClause) (r : PoolRecord) → length (registered_unless_living line c r).registered ≤ length r.registered + 1
+    part-count : (line : ℕ) (c : TreeClause) (r : PoolRecord) → size (registered_unless_living line c r) ≤ size r + 1
     part-count line c r =
-        by-if (λ (s : PoolRecord). length s.registered ≤ length r.registered + 1) (has_living r c) r (registered_by line c r) (omega arith)
+        by-if (λ (s : PoolRecord). size s ≤ size r + 1) (has_living r c) r (registered_by line c r) (omega arith)
         (let x : Registered = record { clause = c; line = line } in
         let count : length (r.registered ++ x ∷ []) ≡ length r.registered + 1 = length-append r.registered (x ∷ []) in
         omega (arith, count))
 
-split-count : (c : TreeClause) (r : PoolRecord) → length (split_up c r).registered ≤ length r.registered + length c.literals
+split-count : (c : TreeClause) (r : PoolRecord) → size (split_up c r) ≤ size r + 2 * length c.literals
 split-count c r =
     let ps : List (List TreeLiteral) = parts_of c.literals in
     let s : PoolRecord = fold with_tag r ps in
@@ -123,20 +131,20 @@ split-count c r =
     let t : PoolRecord =
     with_split (Split (last_number r) (map (definition_of s.lines) names) (components_of c.literals)) (sorted_names (line_names s.parts c.names ++ names)) s in
     let tagged = tags-count ps r in
-    let all : length (split_up c r).registered ≤ length s.registered + length ps = parts-count ps t in
+    let all : size (split_up c r) ≤ size s + length ps = parts-count ps t in
     let few = few-parts c.literals in
     omega (arith, tagged, all, few)
 
--- so a clause that comes by its lines is registered once, or once for each literal at most
-one-comes : (split : Bool) (lines : List Line) (c : TreeClause) (r : PoolRecord) → length (comes split lines c r).registered ≤ length r.registered + (1 + length c.literals)
+-- so a clause that comes by its lines is registered once, or brings two for each literal at most
+one-comes : (split : Bool) (lines : List Line) (c : TreeClause) (r : PoolRecord) → size (comes split lines c r) ≤ size r + (1 + 2 * length c.literals)
 one-comes split lines c r =
-    by-if (λ (s : PoolRecord). length s.registered ≤ length r.registered + (1 + length c.literals)) (has_none c.literals) (empty_comes c (with_lines r lines)) _
-    (by-if (λ (s : PoolRecord). length s.registered ≤ length r.registered + (1 + length c.literals)) (has_none c.names) (with_refutation (registered_last c (with_lines r lines))) (with_propositional (line_names r.parts c.names) (with_lines r lines)) registered (omega arith))
-    (by-if (λ (s : PoolRecord). length s.registered ≤ length r.registered + (1 + length c.literals)) (is_to_split split c.literals) (split_up c (with_lines r lines)) (if has_living r c then r else registered_last c (with_lines r lines))
+    by-if (λ (s : PoolRecord). size s ≤ size r + (1 + 2 * length c.literals)) (has_none c.literals) (empty_comes c (with_lines r lines)) _
+    (by-if (λ (s : PoolRecord). size s ≤ size r + (1 + 2 * length c.literals)) (has_none c.names) (with_refutation (registered_last c (with_lines r lines))) (with_propositional (line_names r.parts c.names) (with_lines r lines)) registered (omega arith))
+    (by-if (λ (s : PoolRecord). size s ≤ size r + (1 + 2 * length c.literals)) (is_to_split split c.literals) (split_up c (with_lines r lines)) (if has_living r c then r else registered_last c (with_lines r lines))
     (let parts = split-count c (with_lines r lines) in omega (arith, parts))
-    (by-if (λ (s : PoolRecord). length s.registered ≤ length r.registered + (1 + length c.literals)) (has_living r c) r (registered_last c (with_lines r lines)) (omega arith) registered))
+    (by-if (λ (s : PoolRecord). size s ≤ size r + (1 + 2 * length c.literals)) (has_living r c) r (registered_last c (with_lines r lines)) (omega arith) registered))
   where
-    registered : length (registered_last c (with_lines r lines)).registered ≤ length r.registered + (1 + length c.literals)
+    registered : size (registered_last c (with_lines r lines)) ≤ size r + (1 + 2 * length c.literals)
     registered =
         let x : Registered = record { clause = c; line = length (r.lines ++ lines) - 1 } in
         let count : length (r.registered ++ x ∷ []) ≡ length r.registered + 1 = length-append r.registered (x ∷ []) in
@@ -146,12 +154,12 @@ one-comes split lines c r =
 abbrev LeadsToSmall : List Line → Type 0
 LeadsToSmall lines = (c : TreeClause) → result_of lines ≡ Some c → clause_size c ≤ MOST_SYMBOLS
 
-one-result : (split : Bool) (lines : List Line) (r : PoolRecord) → LeadsToSmall lines → length (result_comes split r lines).registered ≤ length r.registered + 2001
+one-result : (split : Bool) (lines : List Line) (r : PoolRecord) → LeadsToSmall lines → size (result_comes split r lines) ≤ size r + 4001
 one-result split lines r small =
-    by-if (λ (s : PoolRecord). length s.registered ≤ length r.registered + 2001) (is_none r.ended) (comes_by split lines (result_of lines) r) r
+    by-if (λ (s : PoolRecord). size s ≤ size r + 4001) (is_none r.ended) (comes_by split lines (result_of lines) r) r
     (by (result_of lines) refl) (omega arith)
   where
-    by : (o : Option TreeClause) → result_of lines ≡ o → length (comes_by split lines o r).registered ≤ length r.registered + 2001
+    by : (o : Option TreeClause) → result_of lines ≡ o → size (comes_by split lines o r) ≤ size r + 4001
     by None led = omega arith
     by (Some c) led =
         let one = one-comes split (map (pool_line r) lines) c r in
@@ -161,7 +169,7 @@ one-result split lines r small =
 
 all-results :
     (split : Bool) (results : List (List Line)) (r : PoolRecord)
-    → AllByRecursion LeadsToSmall results → length (fold (result_comes split) r results).registered ≤ length r.registered + 2001 * length results
+    → AllByRecursion LeadsToSmall results → size (fold (result_comes split) r results) ≤ size r + 4001 * length results
 all-results split [] r small = omega arith
 all-results split (lines ∷ rest) r small =
     let first = one-result split lines r small.0 in
@@ -170,13 +178,13 @@ all-results split (lines ∷ rest) r small =
 
 all-inputs :
     (split : Bool) (i : ℕ) (cs : List TreeClause) (r : PoolRecord)
-    → length (with_inputs split i cs r).registered ≤ length r.registered + (sum_by clause_size cs + length cs)
+    → size (with_inputs split i cs r) ≤ size r + (sum_by clause_size cs + length cs)
 all-inputs split i [] r = omega arith
 all-inputs split i (c ∷ cs) r =
     let lines : List Line = line_of (Clausify i) c ∷ [] in
     let s : PoolRecord = unless_ended (comes split lines c) r in
-    let first : length s.registered ≤ length r.registered + (1 + length c.literals) =
-    by-if (λ (t : PoolRecord). length t.registered ≤ length r.registered + (1 + length c.literals)) (is_none r.ended) (comes split lines c r) r (one-comes split lines c r) (omega arith) in
+    let first : size s ≤ size r + (1 + 2 * length c.literals) =
+    by-if (λ (t : PoolRecord). size t ≤ size r + (1 + 2 * length c.literals)) (is_none r.ended) (comes split lines c r) r (one-comes split lines c r) (omega arith) in
     let later = all-inputs split (suc i) cs s in
     let few = few-literals c.literals in
     let whole = sum_by-cons clause_size c cs in
@@ -218,13 +226,13 @@ refuting-ends split lines r refuting =
         (λ literals. absurd (true≢false (sym parts.0 ∙ literals)))
 
 module _ (options : Options) (inputs : ℕ) where
-  -- while the pool is open, fewer inferences than the limit were counted, and each registered at most 2,001 clauses
-  record IsBounded (registered counted : ℕ) (ended : Option Outcome) : Type 0 where
-    pub few : registered ≤ inputs + 2001 * options.inferences
-    pub open_few : ended ≡ None → (counted < options.inferences) × (registered ≤ inputs + 2001 * counted)
+  -- while the pool is open, fewer inferences than the limit were counted, and each brought at most 2,001 clauses and 2,000 tags
+  record IsBounded (total counted : ℕ) (ended : Option Outcome) : Type 0 where
+    pub few : total ≤ inputs + 4001 * options.inferences
+    pub open_few : ended ≡ None → (counted < options.inferences) × (total ≤ inputs + 4001 * counted)
 
   abbrev Bounded : PoolRecord → Type 0
-  Bounded r = IsBounded (length r.registered) (length r.counted) r.ended
+  Bounded r = IsBounded (size r) (length r.counted) r.ended
 
   counts-bounded :
       (keys : List Key) (results : List (List Line)) (r : PoolRecord)
@@ -235,7 +243,7 @@ module _ (options : Options) (inputs : ℕ) where
       (λ reached. spent (find refutes results) refl)
       (λ not_reached. registered (leb-false options.inferences (length s.counted) not_reached))
     where
-      before : (length r.counted < options.inferences) × (length r.registered ≤ inputs + 2001 * length r.counted)
+      before : (length r.counted < options.inferences) × (size r ≤ inputs + 4001 * length r.counted)
       before = bounded.open_few is_open
 
       spent : (o : Option (List Line)) → find refutes results ≡ o → Bounded (spends options.split o (record r { counted = r.counted ++ keys }))
@@ -258,7 +266,7 @@ module _ (options : Options) (inputs : ℕ) where
           let few = before.1 in
           let count : length (r.counted ++ keys) ≡ length r.counted + length keys = length-append r.counted keys in
           let same : length t.counted ≡ length (r.counted ++ keys) = ap (λ (u : PoolRecord). length u.counted) (results-register options.split results s).same in
-          let most : length t.registered ≤ inputs + 2001 * length (r.counted ++ keys) = omega (arith, many, few, count, fewer) in
+          let most : size t ≤ inputs + 4001 * length (r.counted ++ keys) = omega (arith, many, few, count, fewer) in
           record { few = omega (arith, most, below); open_few = λ h. (omega (arith, same, below), omega (arith, same, most)) }
 
   -- the lines of a fate, if it has any
@@ -368,20 +376,31 @@ few-positions count ps registered differ =
         ⊎_elim (λ (here : (n == p) ≡ true). ap (λ m. nat_lt m count) (eqb-true n p here) ∙ parts.0)
         (λ (later : list_any (λ m. n == m) ps ≡ true). passing ps n later parts.1) (or_cases (n == p) (list_any (λ m. n == m) ps) there)
 
+module _
+    (usage : SymbolUse) (origin : Origin) (history : List Event) (inputs : AreInputs origin.inputs) (limit : IsLimit origin.options)
+    (used : IsUseOf origin.inputs usage) (lawful : IsLawful usage.is_predicate origin history) where
+  few-in-all : size (replay origin history) < 2 ^ 32
+  few-in-all =
+      let options : Options = origin.options in
+      let begun = inputs-register options.split 0 origin.inputs nothing_registered in
+      let most_inputs : ℕ = sum_by clause_size origin.inputs + length origin.inputs in
+      let many : size (start origin) ≤ 0 + most_inputs = all-inputs options.split 0 origin.inputs nothing_registered in
+      let none : length (start origin).counted ≡ 0 = ap (λ (s : PoolRecord). length s.counted) begun.same in
+      let least : 1 ≤ options.inferences = limit.0 in
+      let most : options.inferences ≤ MOST_INFERENCES = limit.1 in
+      let bounded =
+      history-bounded options most_inputs usage origin.inputs history (start origin) lawful (replay-sound usage origin [] inputs used tt)
+      (record { few = omega (arith, many); open_few = λ h. (omega (arith, none, least), omega (arith, many)) }) in
+      let few : size (replay origin history) ≤ most_inputs + 4001 * options.inferences = bounded.few in
+      let short : most_inputs ≤ MOST_FORM_SYMBOLS = inputs.few in
+      omega (arith, few, short, most)
+
 pub numbers_fit : NumbersFit
 numbers_fit usage origin history inputs limit used lawful =
-    let options : Options = origin.options in
     let r : PoolRecord = replay origin history in
-    let begun = inputs-register options.split 0 origin.inputs nothing_registered in
-    let most_inputs : ℕ = sum_by clause_size origin.inputs + length origin.inputs in
-    let many : length (start origin).registered ≤ 0 + most_inputs = all-inputs options.split 0 origin.inputs nothing_registered in
-    let none : length (start origin).counted ≡ 0 = ap (λ (s : PoolRecord). length s.counted) begun.same in
-    let least : 1 ≤ options.inferences = limit.0 in
-    let most : options.inferences ≤ MOST_INFERENCES = limit.1 in
-    let bounded =
-    history-bounded options most_inputs usage origin.inputs history (start origin) lawful (replay-sound usage origin [] inputs used tt)
-    (record { few = omega (arith, many); open_few = λ h. (omega (arith, none, least), omega (arith, many)) }) in
-    let few : length r.registered ≤ most_inputs + 2001 * options.inferences = bounded.few in
-    let short : most_inputs ≤ MOST_FORM_SYMBOLS = inputs.few in
+    let few = few-in-all usage origin history inputs limit used lawful in
     let placed = positions_are_registered origin history in
-    (omega (arith, few, short, most), few-positions (length r.registered) r.positions placed.0 placed.1)
+    (omega (arith, few), few-positions (length r.registered) r.positions placed.0 placed.1)
+
+pub tags_fit : TagsFit
+tags_fit usage origin history inputs limit used lawful = let few = few-in-all usage origin history inputs limit used lawful in omega (arith, few)

@@ -1,4 +1,4 @@
-// The laws: each is the contract of a function without arguments and with an empty body.
+// Laws of the solver's logs: each is the contract of a function without arguments and with an empty body.
 
 ghost use Rattle.pool_history.specs.Chains.{ChainsAreSteps, LogsAreSteps, LogsEndInSteps};
 

@@ -1,8 +1,8 @@
 // Laws of lawful histories: each is the contract of a function without arguments and with an empty body.
 
-ghost use Rattle.pool_history.specs.Derived.{LinesAreDerived, NamesRise, RefutedIsRefutation};
-ghost use Rattle.pool_history.specs.Laws.{BatchesStayRight, ClaimedInTime, CountedOnce, DeathsAreJustified, EndedJobsAreGone, GivenJobsStayOut, HeavyOrNot, JobsAreCounted, JobsWereGiven, NothingFollowsRest, NumbersFit, OutcomesStay, PicksAreChosen, PositionsStay, ReplacedWereReduced, SetAsideAreHeavy, SolverJobsStayOut, SpentIsTheCount};
-ghost use Rattle.pool_history.specs.Wholeness.{ClausesStay, PositionsAreRegistered, RegisteredAreOnePart, RegisteredAreWhole, ToldHavePositions};
+ghost use Rattle.pool_history.specs.Derived.{ClausesHaveLines, LinesAreDerived, NamesRise, RefutedIsRefutation};
+ghost use Rattle.pool_history.specs.Laws.{BatchesStayRight, ClaimedInTime, CountedOnce, DeathsAreJustified, DeathsWereProposed, EndedJobsAreGone, GivenJobsStayOut, HeavyOrNot, JobsAreCounted, JobsWereGiven, NothingComesAfter, NothingFollowsRest, NumbersFit, OneJobAClause, OutcomesStay, PicksAreChosen, PositionsStay, ReplacedWereReduced, SetAsideAreHeavy, SolverJobsStayOut, SpentIsTheCount, TagsFit};
+ghost use Rattle.pool_history.specs.Wholeness.{ClausesStay, LivingDiffer, NoneIsEmpty, PositionsAreRegistered, RegisteredAreOnePart, RegisteredAreWhole, ToldHavePositions};
 
 /// A clause that stays awake and alive, with m older ones, is claimed within 6(m + 1) given claims, while no job is given up.
 pub fn claimed_in_time()
@@ -19,6 +19,11 @@ pub fn deaths_are_justified()
     ensures { DeathsAreJustified }
 {}
 
+/// Each clause that died was removed by a batch, and the removal names the clauses that justify its death.
+pub fn deaths_were_proposed()
+    ensures { DeathsWereProposed }
+{}
+
 /// The clause that is given next is the one that the queue's rule picks among those that are ready.
 pub fn picks_are_chosen()
     ensures { PicksAreChosen }
@@ -27,6 +32,11 @@ pub fn picks_are_chosen()
 /// Once an outcome stands it stays.
 pub fn outcomes_stay()
     ensures { OutcomesStay }
+{}
+
+/// Once the pool is refuted or spent, nothing is registered or counted, and no clause dies.
+pub fn nothing_comes_after()
+    ensures { NothingComesAfter }
 {}
 
 /// No event follows an outcome that comes by rest.
@@ -47,6 +57,21 @@ pub fn heavy_or_not()
 /// The registered clauses are canonical, small and well-formed together, and their names are assertions of parts that were met.
 pub fn registered_are_whole()
     ensures { RegisteredAreWhole }
+{}
+
+/// No two living clauses have equal literals and equal assertions.
+pub fn living_differ()
+    ensures { LivingDiffer }
+{}
+
+/// No clause without literals is registered, except the one that refutes.
+pub fn none_is_empty()
+    ensures { NoneIsEmpty }
+{}
+
+/// Each registered clause and each propositional clause has a line that says the same.
+pub fn clauses_have_lines()
+    ensures { ClausesHaveLines }
 {}
 
 /// The lines are a derivation from the inputs, of small terms over their symbols alone.
@@ -95,6 +120,11 @@ pub fn jobs_stay_out()
     ensures solver { SolverJobsStayOut }
 {}
 
+/// No clause has two jobs that are out, and none that is active has one.
+pub fn one_job_a_clause()
+    ensures { OneJobAClause }
+{}
+
 /// Once an event has ended a job, no job with its number is out again.
 pub fn ended_jobs_are_gone()
     ensures { EndedJobsAreGone }
@@ -105,7 +135,7 @@ pub fn jobs_are_counted()
     ensures { JobsAreCounted }
 {}
 
-/// A registered clause keeps its number, and a dead one stays dead.
+/// A registered clause keeps its number and its line, a dead one stays dead, and a tag stands for one part.
 pub fn clauses_stay()
     ensures { ClausesStay }
 {}
@@ -118,6 +148,11 @@ pub fn positions_stay()
 /// The numbers of clauses and their positions have 32 bits.
 pub fn numbers_fit()
     ensures { NumbersFit }
+{}
+
+/// The tags have 32 bits.
+pub fn tags_fit()
+    ensures { TagsFit }
 {}
 
 /// Each event is of a job that was given, so the next job is of no event.

@@ -1,4 +1,4 @@
-use Rattle.pool_history.proofs.AboutRecords.NewsLemmas.{clauses_stay}
+use Rattle.pool_history.proofs.AboutRecords.StayLemmas.{clauses_stay}
 use Rattle.pool_history.proofs.laws.histories.clauses_stay.Goals as goal
 
 pub returns : goal.returns
