@@ -58,7 +58,9 @@ fn made_problems_are_answered(rt: HostRuntime) {
     };
     let problem = made_problem(alloc).expect(&rt, "memory");
     made_is_admissible(&problem);
-    let proved = prove_problem(&rt, alloc, &problem, options).ok().expect(&rt, "a pool");
+    let proved = prove_problem(&rt, alloc, &problem, options)
+        .ok()
+        .expect(&rt, "a pool");
     assert!(rt; matches!(proved.outcome, Outcome::Refuted));
     let form = clausal(alloc, &problem).ok().expect(&rt, "a clausal form");
     let formed = FormedProblem { problem, form };
