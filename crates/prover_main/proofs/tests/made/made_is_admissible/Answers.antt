@@ -4,4 +4,4 @@ use Rattle.prover_main.proofs.AboutMade.{made-admissible}
 use Rattle.prover_main.proofs.tests.made.made_is_admissible.Goals as goal
 
 pub returns : goal.returns
-returns c = subst IsAdmissible (sym c.requires) made-admissible
+returns c = subst IsAdmissible (sym c.requires.made) made-admissible
