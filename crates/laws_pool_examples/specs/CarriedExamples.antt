@@ -1,4 +1,4 @@
--- Worked examples: truth values, and pools that don't split.
+-- Worked examples: truth values, and two small pools.
 use Rattle.std.specs.Prelude.{true, false, ◌==◌, List, [], ◌∷◌}
 use Rattle.fol_base.specs.Examples.{a, r, equation, clause}
 use Rattle.sat_core.specs.Clause.{Valuation}
@@ -10,12 +10,15 @@ use Rattle.pool_history.specs.declared.batch.Work.TheVariants.{Gone}
 use Rattle.pool_history.specs.declared.event.Event.{Event}
 use Rattle.pool_history.specs.declared.event.Event.TheVariants.{Claim}
 
--- all names are true, or the first alone
+-- all names are true, or the first alone, or none
 abbrev pub all_true : Valuation
 all_true name = true
 
 abbrev pub first_true : Valuation
 first_true name = name == 0
+
+abbrev pub none_true : Valuation
+none_true name = false
 
 -- r alone
 abbrev pub one_atom : Origin

@@ -1,5 +1,5 @@
 -- The worked examples: what pools begin with, and their histories. The symbols are those of the base's examples.
-use Rattle.std.specs.Prelude.{ℕ, zero, suc, ◌+◌, Bool, true, false, List, [], ◌∷◌, ◌++◌, take}
+use Rattle.std.specs.Prelude.{ℕ, zero, suc, ◌+◌, Bool, true, false, List, [], ◌∷◌, ◌++◌, map, take}
 use Rattle.plain_types.specs.declared.sequence.NameLit.{NameLit}
 use Rattle.plain_types.specs.Names.{positive_of, negative_of}
 use Rattle.fol_base.specs.Tree.{Tree}
@@ -246,12 +246,39 @@ falling_by justifier =
     ∷ []))
     ∷ []
 
+-- Two parts of which one is asserted: the part p(X0) goes; then the part q(X1) leaves p(X0) or r, under its assertion. The batch isn't right,
+-- but the replay doesn't ask this.
+abbrev pub part_again : List Event
+part_again =
+    ClaimSolve 1
+    ∷ ReturnModel 1 (true ∷ true ∷ [])
+    ∷ Claim 2
+    ∷ return 2 (Gone (removal 0 [] (Dropped Tautology)))
+    ∷ Claim 3
+    ∷ return 3 (Gone (removal 1 [] (leaves (under_names (p (x 0) ∷ r ∷ []) (negative_of 1 ∷ [])))))
+    ∷ []
+
 -- p(X0) removes p(a) while the job on q(a) is out. The batch of that job is refused; the next one removes q(a) by p(X0).
 abbrev pub refused_split : List Event
 refused_split = Claim 1 ∷ Claim 2 ∷ Claim 3 ∷ return 2 (Met [] (removal 0 (1 ∷ []) (Dropped (Subsumed 1)) ∷ [])) ∷ Stale 3 0 ∷ []
 
 abbrev pub split_again : List Event
 split_again = refused_split ++ return 3 (Gone (removal 2 (1 ∷ []) (leaves (clause (p (x 0) ∷ q (x 1) ∷ []))))) ∷ []
+
+-- q(X0, X1), and q(X0, X1) implies p(X0) or f(X1) = a: cut by the unit the second clause falls into two parts. It is handed back so, or
+-- otherwise.
+abbrev pub connected : Origin
+connected = pool_of (clause (q₂ (x 0) (x 1) ∷ []) ∷ clause (complement (q₂ (x 0) (x 1)) ∷ p (x 0) ∷ equation (f (x 1)) a ∷ []) ∷ [])
+
+abbrev pub cut_apart : List TreeClause → List Event
+cut_apart results =
+    Claim 1
+    ∷ Claim 2
+    ∷ return 2
+    (Gone
+    (removal 1 (0 ∷ [])
+    (Kept (resolved 0 1 (x 0 ∷ x 1 ∷ []) (x 0 ∷ x 1 ∷ []) (p (x 0) ∷ equation (f (x 1)) a ∷ []) []) (map clause_from results))))
+    ∷ []
 
 -- ---- signed names: the four clauses of two atoms
 
@@ -263,6 +290,10 @@ signed_log = chain 0 (link (positive_of 0) 1 ∷ []) ∷ chain 2 (link (positive
 
 abbrev pub signed_history : List Event
 signed_history = ClaimSolve 1 ∷ ReturnRefuted 1 signed_log ∷ []
+
+-- not p(a), or r: the negative part comes first
+abbrev pub denial_first : Origin
+denial_first = pool_of (clause (not_p a ∷ r ∷ []) ∷ [])
 
 -- ---- an inference without end: p(a), and p(X0) implies p(f(X0))
 
@@ -287,6 +318,11 @@ growing_with m = take 3 growing_history ++ return 2 (Met (one_step ∷ []) (m �
 -- the same inference set aside, as if it were heavy: the replay asks nothing of a batch
 abbrev pub heavy_history : List Event
 heavy_history = Claim 1 ∷ return 1 (Met [] []) ∷ Claim 2 ∷ return 2 (Met (entry (at_roots 0 1) Heavy ∷ []) []) ∷ []
+
+-- the same with two that are set aside, one of each clause, and with removals
+abbrev pub two_heavy : List Removal → List Event
+two_heavy removals =
+    Claim 1 ∷ return 1 (Met [] []) ∷ Claim 2 ∷ return 2 (Met (entry (key.Refl 0 0) Heavy ∷ entry (key.Refl 1 0) Heavy ∷ []) removals) ∷ []
 
 -- ---- jobs that are given up: p(a), p(X0) implies q(X0), and r
 

@@ -43,8 +43,9 @@ pub fn given_up_examples()
     ensures none_ready { ready (replay three (event.Claim 1 ∷ event.Claim 2 ∷ event.Claim 3 ∷ [])) ≡ [] }
 {}
 
-/// Answers: three jobs are out and nothing is to be given; a pool without clauses is saturated; the pool is refuted; a job is still to be given, so that it isn't saturated. Where
-/// the given clause has died, that is told, whatever the batch is, and else not; a batch by a living justifier is taken, and one by a dead one isn't: that justifier is told, and no other.
+/// Answers to claims: three jobs are out and nothing is to be given, a pool without clauses is saturated, and the pool is refuted. It isn't
+/// saturated while a job is still to be given. Answers to returns: if the given clause has died, that is told, whatever the batch is. A batch by
+/// a living justifier is taken. One by a dead justifier isn't, and the answer tells that justifier and no other.
 pub fn answer_examples()
     ensures idle { IsAnswerToClaim three (event.Claim 1 ∷ event.Claim 2 ∷ event.Claim 3 ∷ []) 0
         (answer.Idle 3) (event.Claim 1 ∷ event.Claim 2 ∷ event.Claim 3 ∷ []) }

@@ -7,7 +7,7 @@ ghost use Rattle.kernel_steps.specs.FromTrees.{line_of};
 ghost use Rattle.pool_history.specs.Outcomes.{outcome_of};
 ghost use Rattle.pool_history.specs.Record.{Registered};
 ghost use Rattle.pool_history.specs.Replay.{replay};
-ghost use Rattle.laws_pool_examples.specs.Examples.{pool_up_to, growing, growing_history, heavy_history, unifying, units_history, limited, rewrites_history, return, removal, kept, growing_with, at_roots, para_at_roots};
+ghost use Rattle.laws_pool_examples.specs.Examples.{pool_up_to, growing, growing_history, heavy_history, two_heavy, unifying, units_history, limited, rewrites_history, return, removal, kept, growing_with, at_roots, para_at_roots};
 ghost use Rattle.pool_history.specs.declared.batch.Fate.TheVariants.{Dropped};
 ghost use Rattle.pool_history.specs.declared.batch.Redundancy.TheVariants.{Tautology};
 ghost use Rattle.pool_history.specs.declared.batch.Work.TheVariants as work;
@@ -32,11 +32,14 @@ pub fn after_spent_examples()
     ensures no_death { length (replay limited (take 3 rewrites_history ++ return 1 (work.Gone (removal 0 [] (Dropped Tautology))) ∷ [])).deaths ≡ 1 }
 {}
 
-/// An inference that was set aside is counted. Once nothing else is left to do, the pool ends with its place.
+/// An inference that was set aside is counted. Once nothing else is left to do, the pool ends with its place: that of the first of living
+/// clauses.
 pub fn heavy_examples()
     ensures counted { (replay (growing 100) heavy_history).counted ≡ at_roots 0 1 ∷ [] }
     ensures set_aside { (replay (growing 100) heavy_history).set_aside ≡ at_roots 0 1 ∷ [] }
     ensures heavy { outcome_of (replay (growing 100) heavy_history) ≡ Some (Heavy 0) }
+    ensures first { outcome_of (replay (growing 100) (two_heavy [])) ≡ Some (Heavy 0) }
+    ensures first_living { outcome_of (replay (growing 100) (two_heavy (removal 0 [] (Dropped Tautology) ∷ []))) ≡ Some (Heavy 1) }
 {}
 
 /// The results of a batch's entries are registered before its removals take effect, and so before their results; where they reach the limit,

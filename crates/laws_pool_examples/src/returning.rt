@@ -1,11 +1,11 @@
 // Returns that aren't right.
 
 ghost use Rattle.std.specs.Prelude.{◌≡◌, [], ◌∷◌, ◌++◌, take};
-ghost use Rattle.fol_base.specs.Examples.{x, a, p, clause, is_predicate};
+ghost use Rattle.fol_base.specs.Examples.{x, a, f, p, equation, clause, is_predicate};
 ghost use Rattle.kernel_steps.specs.Examples.{opposites};
 ghost use Rattle.kernel_steps.specs.declared.key.Key.TheVariants as key;
 ghost use Rattle.pool_history.specs.Lawful.{IsLawful};
-ghost use Rattle.laws_pool_examples.specs.Examples.{pool_of, three, rewrites, rewrites_history, rewritten_to_itself, left_uncut, cut_halfway, subsuming, left_subsumed, growing, growing_history, half_step, towering, towering_goes, unequal, partners, entry, at_roots, return, removal};
+ghost use Rattle.laws_pool_examples.specs.Examples.{pool_of, three, rewrites, rewrites_history, rewritten_to_itself, left_uncut, cut_halfway, subsuming, left_subsumed, growing, growing_history, half_step, towering, towering_goes, connected, cut_apart, unequal, partners, entry, at_roots, return, removal};
 ghost use Rattle.pool_history.specs.declared.batch.Fate.TheVariants.{Dropped, Heavy};
 ghost use Rattle.pool_history.specs.declared.batch.Redundancy.TheVariants.{Tautology, Subsumed};
 ghost use Rattle.pool_history.specs.declared.batch.Work.TheVariants as work;
@@ -13,8 +13,8 @@ ghost use Rattle.pool_history.specs.declared.event.Event.TheVariants as event;
 
 /// A clause that stays, though a told unit cuts it; one that leaves a told clause that it subsumes; a result that can be reduced further, of a
 /// clause that goes and of an inference; a small inference as a heavy one; one dropped as a tautology, or as subsumed by a clause that wasn't
-/// told; a victim among its justifiers, or a clause that the removal doesn't rest on; another result than the lines lead to; an inference of
-/// two other clauses; a removal as subsumed by the victim itself; and a removal of the given clause beside its meeting.
+/// told; a victim among its justifiers, or a clause that the removal doesn't rest on; another result than the lines lead to; a result that
+/// is handed back whole where its parts are due; an inference of two other clauses; a removal as subsumed by the victim itself; and a removal of the given clause beside its meeting.
 pub fn wrong_return_examples()
     ensures stays_uncut { IsLawful is_predicate (pool_of opposites) left_uncut → ⊥ }
     ensures left_there { IsLawful is_predicate subsuming left_subsumed → ⊥ }
@@ -30,6 +30,7 @@ pub fn wrong_return_examples()
         (event.Claim 1 ∷ event.Claim 2 ∷ return 2 (work.Gone (removal 1 (0 ∷ 1 ∷ []) (Dropped (Subsumed 0)))) ∷ []) → ⊥ }
     ensures superfluous_justifier { IsLawful is_predicate towering (towering_goes (0 ∷ 1 ∷ [])) → ⊥ }
     ensures other_result { IsLawful is_predicate rewrites (take 2 rewrites_history ++ return 2 (work.Gone rewritten_to_itself) ∷ []) → ⊥ }
+    ensures whole_result { IsLawful is_predicate connected (cut_apart (clause (p (x 0) ∷ equation (f (x 1)) a ∷ []) ∷ [])) → ⊥ }
     ensures others_met { IsLawful is_predicate three
         (event.Claim 1 ∷ return 1 (work.Met (entry (at_roots 0 1) (Dropped Tautology) ∷ []) []) ∷ []) → ⊥ }
     ensures subsumed_by_itself { IsLawful is_predicate subsuming

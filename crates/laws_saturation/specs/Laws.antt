@@ -1,5 +1,5 @@
 -- Laws of the saturation of a pool, for every list of events, whether clauses are split or not.
-use Rattle.std.specs.Prelude.{◌≡◌, ◌⊎◌, ℕ, Bool, true, ◌&&◌, List, Option, None, Some, slice_get, All, IsTrue}
+use Rattle.std.specs.Prelude.{◌≡◌, ◌⊎◌, ℕ, Bool, true, ◌&&◌, List, Option, None, Some, slice_get, take, All, IsTrue, IsFalse}
 use Rattle.fol_base.specs.Clause.{TreeClause}
 use Rattle.fol_base.specs.Symbols.{FunctionSymbols}
 use Rattle.fol_base.specs.Selection.{SelectionMode}
@@ -15,7 +15,7 @@ use Rattle.laws_calculus.specs.Lifting.{among}
 use Rattle.pool_history.specs.Record.{PoolRecord, clauses_of, lives, is_awake, propositional_clauses}
 use Rattle.pool_history.specs.Inputs.{AreInputs, IsUseOf}
 use Rattle.pool_history.specs.Lawful.{IsLawful}
-use Rattle.pool_history.specs.Outcomes.{outcome_of}
+use Rattle.pool_history.specs.Outcomes.{is_of_living, outcome_of}
 use Rattle.pool_history.specs.Replay.{Origin, replay}
 use Rattle.pool_history.specs.Saturated.{IsSaturated, members_of}
 use Rattle.pool_history.specs.declared.event.Event.{Event}
@@ -34,8 +34,9 @@ InferencesKeepSymbols =
 
 -- ---- what is carried
 
--- While the pool is neither refuted nor spent, what is held covers what is owed: under each truth values of the names that make the
--- propositional clauses true, and over each list of function symbols that holds the inputs'.
+-- While the pool is neither refuted nor spent, the living awake clauses cover the inputs, the awake registered clauses, and the conclusions of
+-- counted inferences: under any truth values of the names that make the propositional clauses true, and over each list of function symbols that
+-- holds the inputs'.
 abbrev pub CarriedThrough : Type 0
 CarriedThrough =
     (usage : SymbolUse) (functions : FunctionSymbols usage.is_predicate) (origin : Origin) (history : List Event) (truth : Valuation)
@@ -88,7 +89,8 @@ MembersHaveMet =
     → IsInference usage.is_predicate (mode_of origin.options.select) (among (is_member r) (clauses_of r)) key c
     → WasMet r (finds_of origin history) key
 
--- The outcome Heavy tells the place of an inference that was set aside: it is named among the members, and is too large.
+-- The outcome Heavy tells the place of an inference that was set aside: it is named among the members, and is too large. Of those before it no
+-- one has living awake premises alone.
 abbrev pub HeavyIsNamed : Type 0
 HeavyIsNamed =
     (is_predicate : ℕ → Bool) (origin : Origin) (history : List Event) (place : ℕ)
@@ -97,3 +99,4 @@ HeavyIsNamed =
     outcome_of r ≡ Some (Heavy place)
     → (key : Key) × (slice_get r.set_aside place ≡ Some key)
     × ((c : TreeClause) × IsSizedInference is_predicate (mode_of origin.options.select) (among (is_member r) (clauses_of r)) key c true)
+    × All (λ k. IsFalse (is_of_living r k)) (take place r.set_aside)

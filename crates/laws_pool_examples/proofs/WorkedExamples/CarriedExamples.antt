@@ -1,30 +1,33 @@
 -- Worked examples: what is held, what is carried, and a set that is saturated by the law.
-use Rattle.std.proofs.Common.{◌≡◌, ◌<◌, ◌≤◌, ℕ, zero, suc, Bool, true, false, not, List, [], ◌∷◌, refl, ap, sym, subst, arith}
-use Rattle.std.specs.Prelude.{Option, Some, option_map, unwrap_or, nat_lt, All, IsTrue}
+use Rattle.std.proofs.Common.{◌≡◌, ◌<◌, ◌≤◌, ℕ, zero, suc, Bool, true, false, not, List, [], ◌∷◌, refl, ap, sym, ◌∙◌, subst, arith}
+use Rattle.std.specs.Prelude.{Option, Some, option_map, unwrap_or, nat_lt, All, IsTrue, if◌then◌else◌}
 use Rattle.std.proofs.lemmas.Bool.{true≢false, and_parts, ltb-true}
 use Rattle.std.proofs.lemmas.Option.{none-some, same_Some}
 use Rattle.std.proofs.lemmas.List.Elements.{All-nil, All-cons, All-head}
+use Rattle.plain_types.specs.Names.{negative_of}
 use Rattle.fol_base.specs.Clause.{TreeClause, clause_eq, clause_size}
 use Rattle.fol_base.specs.Canonical.{IsCanonical}
 use Rattle.fol_base.specs.declared.limits.TheConstants.{MOST_SYMBOLS}
+use Rattle.kernel_steps.specs.Derivation.{under_names}
 use Rattle.laws_calculus.specs.Symbols.{HasSymbolsOf}
 use Rattle.fol_base.specs.Ground.{GroundClause}
 use Rattle.fol_base.specs.Interpretation.{Interpretation, clauses_true}
 use Rattle.fol_base.specs.Covered.{InstanceOf}
 use Rattle.fol_base.specs.Selection.{select_negative}
 use Rattle.fol_base.specs.WellFormed.{SymbolUse}
-use Rattle.fol_base.specs.Examples.{x, a, q, r, equation, clause, is_predicate, functions}
+use Rattle.fol_base.specs.Examples.{x, a, p, q, r, equation, clause, is_predicate, functions}
 use Rattle.fol_base.proofs.AboutInstances.CoverageLemmas.{Covered-instance}
-use Rattle.laws_pool_examples.specs.Examples.{justified, stale_history}
-use Rattle.pool_history.specs.Record.{PoolRecord, clauses_of, has_died, lives, nothing_registered}
+use Rattle.laws_pool_examples.specs.Examples.{justified, stale_history, parted, parted_history}
+use Rattle.pool_history.specs.Record.{PoolRecord, clauses_of, has_died, is_awake_under, lives, nothing_registered}
 use Rattle.pool_history.specs.Inputs.{AreInputs}
 use Rattle.pool_history.specs.Lawful.{IsLawful}
 use Rattle.pool_history.specs.Replay.{start, replay}
 use Rattle.pool_history.specs.Saturated.{IsSaturated}
 use Rattle.laws_calculus.specs.Coverage.{CoversEach}
 use Rattle.laws_saturation.specs.Carried.{IsHeld, IsCarried}
-use Rattle.laws_saturation.specs.Laws.{SaturatedIsSaturated}
-use Rattle.laws_pool_examples.specs.CarriedExamples.{all_true, one_atom, one_tautology, tautology_history}
+use Rattle.laws_saturation.specs.Laws.{CarriedThrough, SaturatedIsSaturated}
+use Rattle.laws_pool_examples.specs.CarriedExamples.{all_true, first_true, none_true, one_atom, one_tautology, tautology_history}
+use Rattle.laws_pool_examples.proofs.WorkedExamples.MeetingExample.{part_stays}
 
 -- ---- held
 
@@ -87,6 +90,61 @@ not_begun carried =
     none [] all = refl
     none (g ∷ gs) all =
         let it = All-head (InstanceOf functions (IsHeld all_true nothing_registered)) g gs all in absurd (none-held it.clause it.holds)
+
+-- ---- two parts
+
+abbrev first_part : TreeClause
+first_part = under_names (p (x 0) ∷ []) (negative_of 0 ∷ [])
+
+abbrev second_part : TreeClause
+second_part = under_names (q (x 0) ∷ []) (negative_of 1 ∷ [])
+
+-- neither is awake
+none-held-asleep : (c : TreeClause) → IsHeld none_true (start parted) c → ⊥
+none-held-asleep c h = by h.0 h.2 h.3
+  where
+    by : (n : ℕ) → clauses_of (start parted) n ≡ Some c → is_awake_under none_true (start parted).parts c ≡ true → ⊥
+    by zero there awake = true≢false (sym (ap (is_awake_under none_true (start parted).parts) (same_Some first_part c there) ∙ awake))
+    by (suc zero) there awake = true≢false (sym (ap (is_awake_under none_true (start parted).parts) (same_Some second_part c there) ∙ awake))
+    by (suc (suc n)) there awake = none-some c there
+
+pub none_awake : IsCarried functions select_negative parted.inputs none_true (start parted) → ⊥
+none_awake carried =
+    let covered =
+    All-head (CoversEach functions (IsHeld none_true (start parted))) (clause (p (x 0) ∷ q (x 1) ∷ [])) [] carried.inputs_covered (p a ∷ q a ∷ [])
+    (record { trees = λ v. a; trees_ground = λ v. refl; literals = refl }) in
+    true≢false (sym (covered.entailed nothing_holds (record { has_value = omega arith; rows_in_range = refl }) (none covered.by covered.instances)))
+  where
+    none : (gs : List GroundClause) → All (InstanceOf functions (IsHeld none_true (start parted))) gs → clauses_true nothing_holds gs ≡ true
+    none [] all = refl
+    none (g ∷ gs) all =
+        let it = All-head (InstanceOf functions (IsHeld none_true (start parted))) g gs all in absurd (none-held-asleep it.clause it.holds)
+
+-- p and q have one argument
+abbrev part_usage : SymbolUse
+part_usage = record { is_predicate = is_predicate; arity = λ f. if is_predicate f then 1 else 0 }
+
+abbrev whole : TreeClause
+whole = clause (p (x 0) ∷ q (x 1) ∷ [])
+
+parts_are_inputs : AreInputs parted.inputs
+parts_are_inputs = record {
+  canonical = All-cons IsCanonical whole [] refl (All-nil IsCanonical);
+  no_names = All-cons (λ (c : TreeClause). c.names ≡ []) whole [] refl (All-nil (λ (c : TreeClause). c.names ≡ []));
+  small = All-cons (λ (c : TreeClause). clause_size c ≤ MOST_SYMBOLS) whole [] (omega arith) (All-nil (λ (c : TreeClause). clause_size c ≤ MOST_SYMBOLS));
+  few = omega arith;
+  well_formed = record { usage = part_usage; used = refl };
+}
+
+pub part_carried : CarriedThrough → IsCarried functions select_negative parted.inputs first_true (start parted)
+part_carried law =
+    law part_usage functions parted [] first_true parts_are_inputs refl
+    (All-cons (HasSymbolsOf functions) whole [] refl (All-nil (HasSymbolsOf functions))) tt refl refl
+
+pub part_saturated : SaturatedIsSaturated → IsSaturated functions select_negative parted.inputs (first_part ∷ [])
+part_saturated law =
+    law part_usage functions parted parted_history parts_are_inputs refl
+    (All-cons (HasSymbolsOf functions) whole [] refl (All-nil (HasSymbolsOf functions))) part_stays refl
 
 -- ---- saturated
 

@@ -1,13 +1,20 @@
 -- Worked histories that are lawful, and events that aren't allowed.
-use Rattle.std.proofs.Common.{◌≡◌, ℕ, [], ◌∷◌, ◌++◌, List, refl, sym, inl, inr, arith}
+use Rattle.std.proofs.Common.{◌≡◌, ℕ, true, false, [], ◌∷◌, ◌++◌, List, refl, ap, sym, ◌∙◌, subst, inl, inr, arith}
 use Rattle.std.specs.Prelude.{take, IsTrue}
 use Rattle.std.proofs.lemmas.Bool.{true≢false}
-use Rattle.std.proofs.lemmas.Option.{none-some}
+use Rattle.std.proofs.lemmas.Option.{none-some, same_Some}
+use Rattle.plain_types.specs.Names.{positive_of, negative_of}
 use Rattle.fol_base.specs.Examples.{x, a, p, equation, clause, all_a, is_predicate}
 use Rattle.fol_base.specs.Subsumption.{is_among}
+use Rattle.sat_core.specs.Answer.{IsRightLog}
+use Rattle.sat_core.specs.Clause.{valuation_of, clauses_true}
+use Rattle.sat_core.specs.Resolution.{ends_empty}
 use Rattle.pool_history.specs.Lawful.{IsLawful}
+use Rattle.pool_history.specs.Record.{PoolRecord, SolverJob}
+use Rattle.pool_history.specs.Replay.{Origin, replay}
+use Rattle.pool_history.specs.Solving.{handed}
 use Rattle.kernel_steps.specs.Moves.{units_of}
-use Rattle.laws_pool_examples.specs.Examples.{pool_of, three, split, justified, removing, return, removal}
+use Rattle.laws_pool_examples.specs.Examples.{pool_of, three, split, justified, removing, parted, signed, signed_log, signed_history, return, removal}
 use Rattle.pool_history.specs.declared.batch.Fate.TheVariants.{Dropped}
 use Rattle.pool_history.specs.declared.batch.Redundancy.TheVariants.{Tautology, Subsumed}
 use Rattle.pool_history.specs.declared.batch.Work.TheVariants as work
@@ -94,6 +101,12 @@ given_up = (
 pub solver_and_clause : IsLawful is_predicate split (event.ClaimSolve 1 ∷ event.Claim 2 ∷ [])
 solver_and_clause = (((refl, refl), refl), (((refl, refl), refl, refl), tt))
 
+pub log_returned : IsLawful is_predicate signed signed_history
+log_returned = (
+  ((refl, refl), refl),
+  (record { solver = _; out = refl; same = refl; says = record { made = _; lawful = refl; empty = refl } }, tt),
+)
+
 -- ---- what isn't allowed
 
 pub number_of_solver : IsLawful is_predicate split (event.ClaimSolve 1 ∷ event.Claim 1 ∷ []) → ⊥
@@ -113,6 +126,43 @@ solver_first h = true≢false h.0.1
 
 pub nothing_to_solve : IsLawful is_predicate three (event.ClaimSolve 1 ∷ []) → ⊥
 nothing_to_solve h = true≢false (sym h.0.1)
+
+-- ---- wrong answers of the solver
+
+-- the job on two parts, and that on the four clauses
+abbrev parts_job : SolverJob
+parts_job = record { job = 1; clauses = 1; names = 2 }
+
+abbrev signed_job : SolverJob
+signed_job = record { job = 1; clauses = 4; names = 2 }
+
+abbrev solving : Origin → PoolRecord
+solving origin = replay origin (event.ClaimSolve 1 ∷ [])
+
+pub wrong_model : IsLawful is_predicate parted (event.ClaimSolve 1 ∷ event.ReturnModel 1 (false ∷ false ∷ []) ∷ []) → ⊥
+wrong_model h =
+    let back = h.1.0 in
+    let is : parts_job ≡ back.solver = same_Some parts_job back.solver back.out in
+    true≢false
+    (sym
+    (subst (λ (s : SolverJob). IsTrue (clauses_true (valuation_of (false ∷ false ∷ [])) (handed (solving parted) s))) (sym is) back.says.makes_true))
+
+pub short_model : IsLawful is_predicate parted (event.ClaimSolve 1 ∷ event.ReturnModel 1 (true ∷ []) ∷ []) → ⊥
+short_model h =
+    let back = h.1.0 in
+    let is : parts_job ≡ back.solver = same_Some parts_job back.solver back.out in
+    let same : ◌≡◌ {A = ℕ} 1 2 = subst (λ (s : SolverJob). ◌≡◌ {A = ℕ} 1 s.names) (sym is) back.says.complete in
+    absurd (omega (arith, same))
+
+-- the first two chains make two clauses, of which neither is empty
+pub wrong_log : IsLawful is_predicate signed (event.ClaimSolve 1 ∷ event.ReturnRefuted 1 (take 2 signed_log) ∷ []) → ⊥
+wrong_log h =
+    let back = h.1.0 in
+    let is : signed_job ≡ back.solver = same_Some signed_job back.solver back.out in
+    let right = subst (λ (s : SolverJob). IsRightLog (handed (solving signed) s) (take 2 signed_log)) (sym is) back.says in
+    true≢false (sym right.empty ∙ ap ends_empty (sym (same_Some ((positive_of 1 ∷ positive_of 1 ∷ []) ∷ (negative_of 1 ∷ negative_of 1 ∷ []) ∷ []) right.made right.lawful)))
+
+-- ---- other events
 
 pub not_out : IsLawful is_predicate three (return 1 (work.Met [] []) ∷ []) → ⊥
 not_out h = none-some _ h.0.out

@@ -1,5 +1,5 @@
 -- Worked returns that aren't right, each for one reason.
-use Rattle.std.proofs.Common.{◌≡◌, ℕ, Bool, true, false, not, ◌||◌, ◌==◌, ◌≤◌, List, [], ◌∷◌, ◌++◌, take, None, Some, refl, ap, ap₂, sym, ◌∙◌, subst, ⊎_elim, inl, inr, arith, lit<}
+use Rattle.std.proofs.Common.{◌≡◌, ℕ, Bool, true, false, not, ◌||◌, ◌==◌, ◌≤◌, List, [], ◌∷◌, ◌++◌, length, take, None, Some, refl, ap, ap₂, sym, ◌∙◌, subst, ⊎_elim, inl, inr, arith, lit<}
 use Rattle.std.specs.Prelude.{Option, slice_get, IsTrue}
 use Rattle.std.specs.List.{list_any, list_all, cons_option}
 use Rattle.std.proofs.lemmas.Bool.{true≢false, and_parts, and_from, ne_eqb}
@@ -25,7 +25,7 @@ use Rattle.pool_history.specs.Reduction.{Lookup, handed_back}
 use Rattle.pool_history.specs.Batches.{is_told_beside}
 use Rattle.pool_history.specs.Lawful.{IsGivenOut, IsLawful}
 use Rattle.pool_history.specs.Replay.{start}
-use Rattle.laws_pool_examples.specs.Examples.{pool_of, three, rewrites, rewrites_history, rewritten_to_itself, left_uncut, cut_halfway, subsuming, left_subsumed, growing, growing_history, half_step, towering, towering_goes, unequal, partners, entry, at_roots, return, removal}
+use Rattle.laws_pool_examples.specs.Examples.{pool_of, three, rewrites, rewrites_history, rewritten_to_itself, left_uncut, cut_halfway, subsuming, left_subsumed, growing, growing_history, half_step, towering, towering_goes, connected, cut_apart, unequal, partners, entry, at_roots, return, removal}
 use Rattle.pool_history.specs.declared.batch.Fate.TheVariants.{Dropped, Heavy}
 use Rattle.pool_history.specs.declared.batch.Redundancy.TheVariants.{Tautology, Subsumed}
 use Rattle.pool_history.specs.declared.batch.Work.TheVariants as work
@@ -227,6 +227,17 @@ other_result h =
   where
     starts_with_f_of_a : List TreeClause → Bool
     starts_with_f_of_a cs = list_any (λ (d : TreeClause). list_any (λ (l : TreeLiteral). tree_eq l.left (f a)) d.literals) cs
+
+-- what the lines of a clause that is cut lead to
+abbrev cut_clause : TreeClause
+cut_clause = clause (p (x 0) ∷ equation (f (x 1)) a ∷ [])
+
+pub whole_result : IsLawful is_predicate connected (cut_apart (cut_clause ∷ [])) → ⊥
+whole_result h =
+    let right = (said_of _ 2 _ (job_on 2 1 (0 ∷ 1 ∷ []) 2) refl h.1.1.0).2.right in
+    let led : cut_clause ≡ right.result = same_Some cut_clause right.result right.reduced.led in
+    let same : ◌≡◌ {A = ℕ} 1 2 = ap (λ (cs : List TreeClause). length cs) (right.given ∙ ap (handed_back true) (sym led)) in
+    absurd (omega (arith, same))
 
 pub others_met :
     IsLawful is_predicate three (event.Claim 1 ∷ return 1 (work.Met (entry (at_roots 0 1) (Dropped Tautology) ∷ []) []) ∷ []) → ⊥

@@ -1,10 +1,11 @@
 -- Where the outcome is Saturated nothing waits and nothing is out: all living clauses have met, so that each inference among them was counted,
 -- and none was set aside. So they are saturated. Where it is Heavy an inference among them was set aside.
-use Rattle.std.proofs.Common.{◌≡◌, ℕ, zero, suc, ◌+◌, ◌<◌, ◌≤◌, ◌⊎◌, Bool, true, false, not, ◌&&◌, ◌||◌, ◌==◌, List, [], ◌∷◌, length, refl, ap, sym, ◌∙◌, subst, inl, inr, ⊎_elim, arith, if◌then◌else◌}
-use Rattle.std.specs.Prelude.{Option, None, Some, cond, is_some, nat_lt, filter, position, option_map, Contains, nat_le}
-use Rattle.std.specs.List.{list_all, list_any, range_with_len}
+use Rattle.std.proofs.Common.{◌≡◌, ℕ, zero, suc, ◌+◌, ◌<◌, ◌≤◌, ◌⊎◌, Bool, true, false, not, ◌&&◌, ◌||◌, ◌==◌, List, [], ◌∷◌, length, take, refl, ap, sym, ◌∙◌, subst, inl, inr, ⊎_elim, arith, if◌then◌else◌}
+use Rattle.std.specs.Prelude.{Option, None, Some, cond, is_some, nat_lt, filter, position, option_map, All, Contains, nat_le}
+use Rattle.std.specs.List.{list_all, list_any, range_with_len, position_or_len, AllByRecursion}
 use Rattle.std.proofs.lemmas.Bool.{true≢false, and_parts, and_from, or_left, or_right, not-true, not_from_false, eqb-true, eq-eqb, ltb-true, cond-true, le-leb, or_cases}
 use Rattle.std.proofs.lemmas.List.Quantifiers.{position-Some}
+use Rattle.std.proofs.lemmas.List.Elements.{All-from_recursion}
 use Rattle.std.proofs.lemmas.Option.{none-some, cond_some}
 use Rattle.fol_base.specs.Clause.{TreeClause}
 use Rattle.fol_base.specs.Symbols.{FunctionSymbols}
@@ -461,6 +462,24 @@ module _ (is_predicate : ℕ → Bool) (mode : SelectionMode) (r : PoolRecord) w
       record { clause = is.clause; there = found-at n is.clause (and_parts (is_member r n) true all).0 is.there; infers = is.infers }
   heavy-among (Replaced n) c heavy all is = is
 
+-- no item before the first that passes does
+none-before : {X : Type 0} (p : X → Bool) (xs : List X) → AllByRecursion (λ x. p x ≡ false) (take (position_or_len p xs) xs)
+none-before p [] = tt
+none-before p (x ∷ xs) = by (p x) refl (none-before p xs)
+  where
+    by :
+        (b : Bool) → p x ≡ b → AllByRecursion (λ y. p y ≡ false) (take (position_or_len p xs) xs)
+        → AllByRecursion (λ y. p y ≡ false) (take (cond (not b) (1 + position_or_len p xs) 0) (x ∷ xs))
+    by true is rest = tt
+    by false is rest =
+        subst (λ n. AllByRecursion (λ y. p y ≡ false) (take n (x ∷ xs)))
+        (let same : suc (position_or_len p xs) ≡ 1 + position_or_len p xs = omega arith in same) (is, rest)
+
+earlier-fail : {X : Type 0} (p : X → Bool) (xs : List X) (n : ℕ) → position p xs ≡ Some n → All (λ x. p x ≡ false) (take n xs)
+earlier-fail p xs n found =
+    subst (λ k. All (λ x. p x ≡ false) (take k xs)) (cond_some (nat_lt (position_or_len p xs) (length xs)) (position_or_len p xs) n found).1
+    (All-from_recursion (λ x. p x ≡ false) (take (position_or_len p xs) xs) (none-before p xs))
+
 pub heavy_is_named : HeavyIsNamed
 heavy_is_named is_predicate origin history place lawful heavy =
     let r : PoolRecord = replay origin history in
@@ -471,4 +490,5 @@ heavy_is_named is_predicate origin history place lawful heavy =
       at.0,
       at.1,
       ((aside.1).0, heavy-among is_predicate (mode_of origin.options.select) r at.0 (aside.1).0 true (passes-at (is_of_living r) r.set_aside place at.0 found at.1) (aside.1).1),
+      earlier-fail (is_of_living r) r.set_aside place found,
     )

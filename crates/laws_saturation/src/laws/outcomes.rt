@@ -30,7 +30,7 @@ pub fn members_have_met()
     ensures { MembersHaveMet }
 {}
 
-/// The outcome Heavy tells an inference among the members that was set aside, since it is too large.
+/// The outcome Heavy tells the first inference among the members that was set aside, since it is too large.
 pub fn heavy_is_named()
     ensures { HeavyIsNamed }
 {}

@@ -1,7 +1,7 @@
-use Rattle.laws_pool_examples.proofs.WorkedExamples.MeetingExample.{r_stays}
+use Rattle.laws_pool_examples.proofs.WorkedExamples.MeetingExample.{r_stays, part_stays}
 use Rattle.laws_pool_examples.proofs.WorkedExamples.EntryExample.{met}
 use Rattle.laws_pool_examples.proofs.WorkedExamples.GoingExample.{rewritten_goes}
-use Rattle.laws_pool_examples.proofs.WorkedExamples.LawfulExamples.{tautology_goes, subsumed_goes, given_up, solver_and_clause}
+use Rattle.laws_pool_examples.proofs.WorkedExamples.LawfulExamples.{tautology_goes, subsumed_goes, given_up, solver_and_clause, log_returned}
 use Rattle.laws_pool_examples.proofs.WorkedExamples.CuttingExample.{cut_goes}
 use Rattle.laws_pool_examples.proofs.WorkedExamples.SteppingExample.{step_met}
 use Rattle.laws_pool_examples.proofs.WorkedExamples.RemovingExample.{removal_met}
@@ -25,6 +25,12 @@ returns-clause-solver_and_clause c = solver_and_clause
 
 pub returns-clause-stays : goal.returns-clause-stays
 returns-clause-stays c = r_stays
+
+pub returns-clause-model : goal.returns-clause-model
+returns-clause-model c = part_stays
+
+pub returns-clause-log : goal.returns-clause-log
+returns-clause-log c = log_returned
 
 pub returns-clause-met : goal.returns-clause-met
 returns-clause-met c = met

@@ -1,5 +1,5 @@
 use Rattle.laws_pool_examples.proofs.WorkedExamples.EntryExample.{itself_left_out, partner_left_out, met_twice}
-use Rattle.laws_pool_examples.proofs.WorkedExamples.LawfulExamples.{number_twice, number_of_solver, number_given_up, justifier_lives, solver_first, nothing_to_solve, not_out, not_void, never_given, justifier_missing}
+use Rattle.laws_pool_examples.proofs.WorkedExamples.LawfulExamples.{number_twice, number_of_solver, number_given_up, justifier_lives, solver_first, nothing_to_solve, not_out, not_void, never_given, justifier_missing, wrong_model, short_model, wrong_log}
 use Rattle.laws_pool_examples.proofs.lawful.unlawful_examples.Goals as goal
 
 pub returns-clause-number_twice : goal.returns-clause-number_twice
@@ -13,6 +13,15 @@ returns-clause-nothing_to_solve c = nothing_to_solve
 
 pub returns-clause-not_out : goal.returns-clause-not_out
 returns-clause-not_out c = not_out
+
+pub returns-clause-wrong_model : goal.returns-clause-wrong_model
+returns-clause-wrong_model c = wrong_model
+
+pub returns-clause-short_model : goal.returns-clause-short_model
+returns-clause-short_model c = short_model
+
+pub returns-clause-wrong_log : goal.returns-clause-wrong_log
+returns-clause-wrong_log c = wrong_log
 
 pub returns-clause-not_void : goal.returns-clause-not_void
 returns-clause-not_void c = not_void

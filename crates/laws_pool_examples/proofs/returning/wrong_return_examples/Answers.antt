@@ -1,4 +1,4 @@
-use Rattle.laws_pool_examples.proofs.WorkedExamples.ReturnExamples.{stays_uncut, left_there, gone_reducible, kept_reducible, small_heavy, no_tautology, subsumed_by_untold, justifies_itself, superfluous_justifier, other_result, others_met, removes_itself, subsumed_by_itself}
+use Rattle.laws_pool_examples.proofs.WorkedExamples.ReturnExamples.{stays_uncut, left_there, gone_reducible, kept_reducible, small_heavy, no_tautology, subsumed_by_untold, justifies_itself, superfluous_justifier, other_result, whole_result, others_met, removes_itself, subsumed_by_itself}
 use Rattle.laws_pool_examples.proofs.returning.wrong_return_examples.Goals as goal
 
 pub returns-clause-stays_uncut : goal.returns-clause-stays_uncut
@@ -30,6 +30,9 @@ returns-clause-superfluous_justifier c = superfluous_justifier
 
 pub returns-clause-other_result : goal.returns-clause-other_result
 returns-clause-other_result c = other_result
+
+pub returns-clause-whole_result : goal.returns-clause-whole_result
+returns-clause-whole_result c = whole_result
 
 pub returns-clause-others_met : goal.returns-clause-others_met
 returns-clause-others_met c = others_met
