@@ -11,10 +11,11 @@ ghost use Rattle.pool_history.specs.declared.batch.Redundancy.TheVariants.{Tauto
 ghost use Rattle.pool_history.specs.declared.batch.Work.TheVariants as work;
 ghost use Rattle.pool_history.specs.declared.event.Event.TheVariants as event;
 
-/// A clause that stays, though a told unit cuts it; one that leaves a told clause that it subsumes; a result that can be reduced further, of a
-/// clause that goes and of an inference; a small inference as a heavy one; one dropped as a tautology, or as subsumed by a clause that wasn't
-/// told; a victim among its justifiers, or a clause that the removal doesn't rest on; another result than the lines lead to; a result that
-/// is handed back whole where its parts are due; an inference of two other clauses; a removal as subsumed by the victim itself; and a removal of the given clause beside its meeting.
+/// A clause stays that a told unit cuts, or beside a told clause that it subsumes. A result can be reduced further: that of a clause that
+/// goes, or of an inference. A small inference is set aside as heavy. One is dropped as a tautology, or as subsumed by a clause that wasn't
+/// told. A victim is among its justifiers, or a clause that the removal doesn't rest on is. The result isn't the one that the lines lead to, or
+/// it is handed back whole where its parts are due. An inference is of two other clauses. A removal is as subsumed by the victim itself, or is of
+/// the given clause beside its meeting.
 pub fn wrong_return_examples()
     ensures stays_uncut { IsLawful is_predicate (pool_of opposites) left_uncut → ⊥ }
     ensures left_there { IsLawful is_predicate subsuming left_subsumed → ⊥ }
