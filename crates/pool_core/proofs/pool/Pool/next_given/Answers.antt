@@ -16,8 +16,8 @@ returns-clause-next c =
     let r : PoolRecord = replay (origin_of c.self.inside) (events_of c.self.inside.history) in
     let choice : c.if-self.choice ≡ next_choice r =
     elim c.if-self.branch [
-      | then-self w ↦ w.choice-is ∙ old-choice r c.self.inside.place c.self.invariant.state.place w.if-self.true
-      | else-self w ↦ w.choice-is ∙ light-choice r c.self.inside.place c.self.invariant.state.place w.if-self.false
+      | then-self w ↦ w.choice-is ∙ old-choice r c.self.inside.place_in_round c.self.invariant.state.place w.if-self.true
+      | else-self w ↦ w.choice-is ∙ light-choice r c.self.inside.place_in_round c.self.invariant.state.place w.if-self.false
     ] in
     peek-is-given r c.self.inside.proof.queue.pairs c.if-self.choice c.peek.result c.self.invariant.state.proof.queue choice
     c.peek.ensures.picked c.peek.ensures.none
