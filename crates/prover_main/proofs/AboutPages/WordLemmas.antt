@@ -169,7 +169,7 @@ commands-fit words command e = subst Fits (sym e) (command-fits words)
 pub mapped-rest :
     {X : Type 0} (f : X → List ℕ) (xs : List X) (i : ℕ) (x : X)
     → i < length xs → x ≡ get_or xs i x → map f (drop i xs) ≡ f x ∷ map f (drop (i + 1) xs)
-mapped-rest f xs i x below there = ap (map f) (drop_more i xs x below ∙ ap (λ y. y ∷ drop (i + 1) xs) (sym there))
+mapped-rest f xs i x below there = ap (map f) (drop_more xs i x below ∙ ap (λ y. y ∷ drop (i + 1) xs) (sym there))
 
 -- an option is no file, and another word is one more
 pub file-skipped :

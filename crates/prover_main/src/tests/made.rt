@@ -1,7 +1,8 @@
 // A problem that no file spells goes through the answer that one from a file has.
 
-ghost use Rattle.std.specs.Prelude.{◌≡◌, IfOk};
+ghost use Rattle.std.specs.Prelude.{◌≡◌, false, IfOk};
 ghost use Rattle.tptp_tree.specs.declared.role.Role.TheVariants.{Axiom, Conjecture};
+ghost use Rattle.pool_history.specs.Inputs.{IsLimit};
 ghost use Rattle.prover_main.specs.AnswerShape.{IsAdmissible};
 ghost use Rattle.prover_main.specs.Examples.{formula_in, made_formulas};
 
@@ -48,26 +49,46 @@ fn made_is_admissible(problem: &Problem)
     ensures { IsAdmissible problem.now.formulas }
 {}
 
-#[test]
-fn made_problems_are_answered(rt: HostRuntime) {
-    let alloc = rt.alloc();
-    let options = Options {
+/// The options of a run whose words name none.
+fn options() -> Options
+    ensures limit { IsLimit result }
+    ensures unsplit { result.split ≡ false }
+{
+    Options {
         select: Selection::Negative,
         split: false,
         inferences: DEFAULT_INFERENCES,
-    };
-    let problem = made_problem(alloc).expect(&rt, "memory");
+    }
+}
+
+/// The status and the report of the problem that is made. It has a clausal form, or memory is out.
+fn made_outcome<R: Wait>(rt: &R, alloc: Global) -> Mem<(u8, Text)> {
+    let problem = made_problem(alloc)?;
     made_is_admissible(&problem);
-    let proved = prove_problem(&rt, alloc, &problem, options)
-        .ok()
-        .expect(&rt, "a pool");
-    assert!(rt; matches!(proved.outcome, Outcome::Refuted));
-    let form = clausal(alloc, &problem).ok().expect(&rt, "a clausal form");
+    let Ok(form) = clausal(alloc, &problem) else {
+        return Err(NoMemory);
+    };
     let formed = FormedProblem { problem, form };
-    let answer = formed_answer(&rt, alloc, "made", &formed, options).expect(&rt, "memory");
-    let report = report_of(alloc, "made", &answer).expect(&rt, "memory");
+    let answer = formed_answer(rt, alloc, "made", &formed, options())?;
+    let report = report_of(alloc, "made", &answer)?;
+    Ok((answer.status(), report))
+}
+
+#[test]
+fn made_problems_are_refuted(rt: HostRuntime) {
+    let problem = made_problem(rt.alloc()).expect(&rt, "memory");
+    made_is_admissible(&problem);
+    let proved = prove_problem(&rt, rt.alloc(), &problem, options());
+    let proved = proved.ok().expect(&rt, "a pool");
+    assert!(rt; matches!(proved.outcome, Outcome::Refuted));
+}
+
+#[test]
+fn made_problems_are_answered(rt: HostRuntime) {
+    let alloc = rt.alloc();
+    let (status, report) = made_outcome(&rt, alloc).expect(&rt, "memory");
     let read = outcome(&rt, alloc, &["prove", "made"], &[("made", SPELLED)]);
-    let (status, sink) = read.expect(&rt, "memory");
-    assert_eq!(rt; answer.status(), status);
+    let (read_status, sink) = read.expect(&rt, "memory");
+    assert_eq!(rt; status, read_status);
     assert!(rt; sink.bytes() == report.as_slice());
 }
