@@ -24,18 +24,19 @@ use subsume::backward;
 use term_bank::Bank;
 use unit_cutting::has_one_literal;
 
-/// The removals of the told clauses that a given one simplifies.
+/// The removals of the told clauses that a given one simplifies, whose results are split or not.
 pub(crate) fn removals_of(
     alloc: Global,
     bank: &Bank,
     store: &Store,
     sets: &Sets,
+    split: bool,
     given: &Member,
 ) -> Mem<Removals>
     requires kept { IsKept bank.now store.now sets.now }
     requires told { AreTold (members_in store.now.slots.items) }
     requires given { Contains (members_in store.now.slots.items) given.now }
-    ensures { IfOk result (AreRemovalsOf (members_in store.now.slots.items) given.now) }
+    ensures { IfOk result (AreRemovalsOf split (members_in store.now.slots.items) given.now) }
 {
     let candidates = candidates_of(alloc, bank, store, sets, given)?;
     let mut removals = Vec::new(alloc);
@@ -45,6 +46,7 @@ pub(crate) fn removals_of(
             bank,
             store,
             sets,
+            split,
             given.number,
             *candidate,
             &mut removals,
@@ -92,13 +94,14 @@ fn consider(
     bank: &Bank,
     store: &Store,
     sets: &Sets,
+    split: bool,
     given: u32,
     candidate: u64,
     removals: &mut Vec<Removal>,
 ) -> Mem<()>
     requires kept { IsKept bank.now store.now sets.now }
     requires told { AreTold (members_in store.now.slots.items) }
-    ensures { IfOk result (λ _. IsConsidered (members_in store.now.slots.items) sets.now.equations sets.now.units sets.now.subsumers
+    ensures { IfOk result (λ _. IsConsidered split (members_in store.now.slots.items) sets.now.equations sets.now.units sets.now.subsumers
         given candidate removals.old.items removals.new.items) }
 {
     if candidate >= CLAUSE_NUMBERS || candidate == u64::from(given) {
@@ -114,7 +117,7 @@ fn consider(
         members: &sets.subsumers,
         left_out: Some(victim.member.number),
     };
-    let gone = removal_of(alloc, &by, victim.member)?;
+    let gone = removal_of(alloc, &by, split, victim.member)?;
     push_gone(removals, gone)?;
     Ok(())
 }

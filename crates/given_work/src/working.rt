@@ -48,7 +48,15 @@ impl Index {
         requires given { IsTrue (has_number number (numbers_of self.now.members)) }
         ensures { IfOk result (IsRightUnder self.now.options self.now.members number left) }
     {
-        let work = work_in(alloc, bank, &self.store, &self.sets, number, left)?;
+        let work = work_in(
+            alloc,
+            bank,
+            &self.store,
+            &self.sets,
+            self.options.split,
+            number,
+            left,
+        )?;
         Ok(work)
     }
 }
@@ -59,13 +67,14 @@ fn work_in(
     bank: &Bank,
     store: &Store,
     sets: &Sets,
+    split: bool,
     number: u32,
     left: u32,
 ) -> Mem<Work>
     requires kept { IsKept bank.now store.now sets.now }
     requires told { AreTold (members_in store.now.slots.items) }
     requires given { IsTrue (has_number number (numbers_of (members_in store.now.slots.items))) }
-    ensures { IfOk result (IsRightWorkOf store.now.partners.mode (members_in store.now.slots.items) number left) }
+    ensures { IfOk result (IsRightWorkOf split store.now.partners.mode (members_in store.now.slots.items) number left) }
 {
     let Some(place) = store.partners.position(number) else {
         unreachable!();
@@ -73,7 +82,7 @@ fn work_in(
     let Some(given) = store.partners.premise(number) else {
         unreachable!();
     };
-    let work = work_at(alloc, bank, store, sets, place, &given, left)?;
+    let work = work_at(alloc, bank, store, sets, split, place, &given, left)?;
     Ok(work)
 }
 
@@ -83,6 +92,7 @@ fn work_at(
     bank: &Bank,
     store: &Store,
     sets: &Sets,
+    split: bool,
     place: usize,
     given: &Premise<'_>,
     left: u32,
@@ -91,7 +101,7 @@ fn work_at(
     requires told { AreTold (members_in store.now.slots.items) }
     requires given { slice_get store.now.slots.items place ≡ Some (Some given.now.member.now) }
     requires sites { AreSitesFor store.now.partners.mode given.now.member.now given.now.sites.now }
-    ensures { IfOk result (IsRightWorkOf store.now.partners.mode (members_in store.now.slots.items) given.now.member.now.number left) }
+    ensures { IfOk result (IsRightWorkOf split store.now.partners.mode (members_in store.now.slots.items) given.now.member.now.number left) }
 {
     let by = Simplifiers {
         bank,
@@ -100,11 +110,11 @@ fn work_at(
         members: &sets.subsumers,
         left_out: Some(given.member.number),
     };
-    let gone = removal_of(alloc, &by, given.member)?;
+    let gone = removal_of(alloc, &by, split, given.member)?;
     match gone {
         Some(removal) => Ok(Work::Gone(removal)),
         None => {
-            let work = met(alloc, bank, store, sets, place, given, left)?;
+            let work = met(alloc, bank, store, sets, split, place, given, left)?;
             Ok(work)
         }
     }
@@ -116,6 +126,7 @@ fn met(
     bank: &Bank,
     store: &Store,
     sets: &Sets,
+    split: bool,
     place: usize,
     given: &Premise<'_>,
     left: u32,
@@ -124,7 +135,7 @@ fn met(
     requires told { AreTold (members_in store.now.slots.items) }
     requires given { slice_get store.now.slots.items place ≡ Some (Some given.now.member.now) }
     requires sites { AreSitesFor store.now.partners.mode given.now.member.now given.now.sites.now }
-    ensures { IfOk result (IsMetBy store.now.partners.mode sets.now (members_in store.now.slots.items)
+    ensures { IfOk result (IsMetBy split store.now.partners.mode sets.now (members_in store.now.slots.items)
         (before_place store.now.slots.items place) given.now.member.now left) }
 {
     let inferences = inferences_of(alloc, bank, store, place, given)?;
@@ -135,13 +146,13 @@ fn met(
         members: &sets.subsumers,
         left_out: None,
     };
-    let entries = entries_of(alloc, &by, inferences, left)?;
+    let entries = entries_of(alloc, &by, split, inferences, left)?;
     if entries.len() >= left as usize {
         return Ok(Work::Met {
             entries,
             removals: Removals::new(alloc),
         });
     }
-    let removals = removals_of(alloc, bank, store, sets, given.member)?;
+    let removals = removals_of(alloc, bank, store, sets, split, given.member)?;
     Ok(Work::Met { entries, removals })
 }

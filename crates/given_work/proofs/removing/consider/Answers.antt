@@ -65,6 +65,6 @@ returns c =
       adds = record {
         gone = c.in_ok-gone.gone;
         added = c.in_ok-push_gone.ensures;
-        right = subst (λ k. IsRemovalOf sets.equations sets.units sets.subsumers k (clause_at m.clause) c.in_ok-gone.gone) there.1 c.in_ok-gone.ensures;
+        right = subst (λ k. IsRemovalOf c.args.split sets.equations sets.units sets.subsumers k (clause_at m.clause) c.in_ok-gone.gone) there.1 c.in_ok-gone.ensures;
       };
     })

@@ -38,17 +38,17 @@ pub returns-in-Some : goal.returns-in-Some
 returns-in-Some c =
     let sets = c.args.sets.now in
     let m : Member = c.args.given.now.member.now in
-    going-right c.args.store.now.partners.mode c.args.store.now sets c.args.place c.args.given.now.member.now c.args.left c.in-Some.removal
+    going-right c.args.split c.args.store.now.partners.mode c.args.store.now sets c.args.place c.args.given.now.member.now c.args.left c.in-Some.removal
     c.requires.kept.kept c.requires.kept.numbered c.requires.given
-    (subst (λ (gone : Option Removal). IsRemovalOf sets.equations sets.units sets.subsumers m.number (clause_at m.clause) gone) c.in-Some.is
+    (subst (λ (gone : Option Removal). IsRemovalOf c.args.split sets.equations sets.units sets.subsumers m.number (clause_at m.clause) gone) c.in-Some.is
     c.in_ok-gone.ensures)
 
 pub returns-in_ok-work-in-None : goal.returns-in_ok-work-in-None
 returns-in_ok-work-in-None c =
     let sets = c.args.sets.now in
     let m : Member = c.args.given.now.member.now in
-    meeting-right c.args.store.now.partners.mode c.args.store.now sets c.args.place c.args.given.now.member.now c.args.left c.in_ok-work-in-None.work
+    meeting-right c.args.split c.args.store.now.partners.mode c.args.store.now sets c.args.place c.args.given.now.member.now c.args.left c.in_ok-work-in-None.work
     c.requires.kept.placed c.requires.kept.kept c.requires.kept.numbered c.requires.given
-    (subst (λ (gone : Option Removal). IsRemovalOf sets.equations sets.units sets.subsumers m.number (clause_at m.clause) gone) c.in-None.is
+    (subst (λ (gone : Option Removal). IsRemovalOf c.args.split sets.equations sets.units sets.subsumers m.number (clause_at m.clause) gone) c.in-None.is
     c.in_ok-gone.ensures)
     c.in_ok-work-in-None.ensures

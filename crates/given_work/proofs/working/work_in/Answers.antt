@@ -32,5 +32,5 @@ returns c =
     given-at c.args.store.now c.args.number c.in-Some.place c.in-Some-premise.given.member.now c.requires.kept.placed
     (sym c.position.ensures ∙ c.in-Some.is)
     (sym c.premise.ensures.member ∙ ap (option_map (λ (p : Premise). p.member.now)) c.in-Some-premise.is) in
-    subst (λ n. IsRightWorkOf c.args.store.now.partners.mode (members_in c.args.store.now.slots.items) n c.args.left c.in_ok-work.work)
+    subst (λ n. IsRightWorkOf c.args.split c.args.store.now.partners.mode (members_in c.args.store.now.slots.items) n c.args.left c.in_ok-work.work)
     at.numbered c.in_ok-work.ensures
