@@ -129,13 +129,7 @@ fn drop_as(dropped: &mut DroppedConclusions, clause: Clause, cause: Redundancy) 
 
 /// A conclusion that is kept, reduced. The line of the inference has the number that the clause that was handed in has in the lines of its
 /// reduction, so these stay as they are.
-fn kept(
-    alloc: Global,
-    split: bool,
-    step: Step,
-    clause: Clause,
-    reduced: Reduced,
-) -> Mem<Fate>
+fn kept(alloc: Global, split: bool, step: Step, clause: Clause, reduced: Reduced) -> Mem<Fate>
     ensures { IfOk result (IsKeptWith split step clause reduced) }
 {
     let Reduced {

@@ -93,12 +93,7 @@ fn dropped(victim: u32, justifiers: Numbers, redundancy: Redundancy) -> Removal
 }
 
 /// A clause with the result of its reduction in its place. None where nothing was reduced.
-fn replaced(
-    alloc: Global,
-    split: bool,
-    victim: u32,
-    reduced: Reduced,
-) -> Mem<Option<Removal>>
+fn replaced(alloc: Global, split: bool, victim: u32, reduced: Reduced) -> Mem<Option<Removal>>
     ensures { IfOk result (IsReplacedOrSame split victim reduced) }
 {
     if reduced.lines.is_empty() {
