@@ -287,11 +287,12 @@ fn written(rt: &impl Abort, alloc: Global, problem: &[u8], name: &str, lines: &D
     text.expect(rt, "memory")
 }
 
-/// The lines are written as an example's, which is accepted.
+/// The lines are written as an example's, which has that many, and the text is accepted.
 fn expect_written(
     rt: &impl Abort,
     alloc: Global,
     example: ExampleName,
+    count: u32,
     name: &str,
     lines: &Derivation,
 )
@@ -306,7 +307,7 @@ fn expect_written(
     }
     assert!(rt; text.as_slice() == wanted.as_slice());
     let found = answer_on(rt, alloc, example.problem, text.as_slice());
-    assert!(rt; found == Outcome::Accepted(example.lines.len() as u32));
+    assert!(rt; found == Outcome::Accepted(count));
 }
 
 #[test]
@@ -316,7 +317,7 @@ fn parts_with_variables_are_written(rt: HostRuntime) {
     let parts = two_parts_table(&rt, alloc);
     let steps = two_parts_steps(&rt, alloc);
     let lines = refutation(alloc, &form, &parts, steps.as_slice()).expect(&rt, "memory");
-    expect_written(&rt, alloc, ExampleName::TwoComponents, "r10.p", &lines);
+    expect_written(&rt, alloc, ExampleName::TwoComponents, 14, "r10.p", &lines);
 }
 
 #[test]
@@ -326,5 +327,5 @@ fn signed_names_are_written(rt: HostRuntime) {
     let parts = four_clauses_table(&rt, alloc);
     let steps = four_clauses_steps(&rt, alloc);
     let lines = refutation(alloc, &form, &parts, steps.as_slice()).expect(&rt, "memory");
-    expect_written(&rt, alloc, ExampleName::SignedNames, "r11.p", &lines);
+    expect_written(&rt, alloc, ExampleName::SignedNames, 19, "r11.p", &lines);
 }
