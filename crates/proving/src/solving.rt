@@ -71,7 +71,12 @@ fn answer_to(alloc: Global, ticket: &PropTicket, last: &LastModel) -> Mem<Answer
 }
 
 /// The model of a right answer, or the last one where that is a refutation.
-fn last_after(alloc: Global, ticket: &PropTicket, last: LastModel, answer: &Answer) -> Mem<LastModel>
+fn last_after(
+    alloc: Global,
+    ticket: &PropTicket,
+    last: LastModel,
+    answer: &Answer,
+) -> Mem<LastModel>
     requires last { IsModelOfFirst ticket.now.clauses last }
     requires right { IsRightAnswer ticket.now.names ticket.now.clauses answer.now }
     ensures { IfOk result (IsModelOfFirst ticket.now.clauses) }
