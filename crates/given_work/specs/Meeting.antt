@@ -19,7 +19,7 @@ use Rattle.eq_rules.specs.Inferences.{AreInferences, IsConcluded, IsMade}
 use Rattle.eq_rules.specs.declared.inference.Inference.{Inference}
 use Rattle.superpose.specs.Pairing.{is_from_into}
 use Rattle.pool_history.specs.Record.{GivenJob}
-use Rattle.pool_history.specs.Reduction.{Lookup}
+use Rattle.pool_history.specs.Reduction.{Lookup, handed_back}
 use Rattle.pool_history.specs.Batches.{IsRightFate}
 use Rattle.pool_history.specs.declared.options.Options.{Options}
 use Rattle.pool_history.specs.declared.batch.Entry.{Entry}

@@ -1,6 +1,6 @@
 -- A worked batch with an entry whose result is handed back in two parts: X0 != a or p(X0) or q(X0), where it is the only clause, resolves to
 -- p(a) or q(a). Handed back whole it isn't right.
-use Rattle.std.proofs.Common.{◌≡◌, ℕ, zero, suc, true, false, ◌&&◌, ◌==◌, List, [], ◌∷◌, length, None, Some, refl, sym, ap, ap₂, ◌∙◌, subst, inl, inr, arith, lit<}
+use Rattle.std.proofs.Common.{◌≡◌, ℕ, zero, suc, Bool, true, false, ◌&&◌, ◌==◌, List, [], ◌∷◌, length, None, Some, refl, sym, ap, ap₂, ◌∙◌, subst, inl, inr, arith, lit<}
 use Rattle.std.specs.Prelude.{slice_get, take, IsTrue, if◌then◌else◌, Contains}
 use Rattle.std.proofs.lemmas.Bool.{true≢false, and_parts, and_from}
 use Rattle.std.proofs.lemmas.Option.{none-some, same_Some}
@@ -88,7 +88,7 @@ no_member d member = none-some d (sym (none_beside member.0) ∙ member.1)
 
 -- literals that differ from those at two places
 unlike : (k n l m : TreeLiteral) → k ≡ l → n ≡ m → equivalent_literals k n ≡ false → equivalent_literals l m ≡ true → ⊥
-unlike k n l m left_is right_is no yes = true≢false (sym yes ∙ sym (ap₂ equivalent_literals left_is right_is) ∙ no)
+unlike k n l m left_is right_is differ same = true≢false (sym same ∙ sym (ap₂ equivalent_literals left_is right_is) ∙ differ)
 
 given_not_trivial : (i : ℕ) (l : TreeLiteral) → slice_get given i ≡ Some l → l.positive ≡ false → l.left ≡ l.right → ⊥
 given_not_trivial zero l at negative same =
