@@ -1,0 +1,304 @@
+-- Parts of forms, and derivations from them.
+use Rattle.std.proofs.Common.{◌≡◌, ℕ, zero, suc, ◌+◌, ◌<◌, ◌≤◌, Bool, true, false, ◌&&◌, List, [], ◌∷◌, ◌++◌, length, map, take, drop, get_or, cond, min, Option, Some, None, sum_by, refl, ap, sym, ◌∙◌, subst, arith}
+use Rattle.std.specs.Prelude.{All, IsTrue, slice_get, option_map, option_and_then, if◌then◌else◌}
+use Rattle.std.specs.List.{list_all}
+use Rattle.std.proofs.lemmas.Bool.{and_parts, and_from}
+use Rattle.std.proofs.lemmas.List.{length_push, append_assoc, get_or_at}
+use Rattle.std.proofs.lemmas.List.Elements.{All-nil, All-cons, All-head, All-tail}
+use Rattle.std.proofs.lemmas.List.Sums.{sum_by-cons}
+use Rattle.fol_base.specs.Clause.{TreeClause, clause_size}
+use Rattle.fol_base.specs.Literal.{literal_of, clause_of}
+use Rattle.fol_base.specs.Term.{tree_of}
+use Rattle.fol_base.specs.declared.term.Term.{Term}
+use Rattle.fol_base.specs.declared.term.Term.TheVariants.{Var, App}
+use Rattle.fol_base.specs.declared.clause.Literal.{Literal}
+use Rattle.fol_base.specs.declared.clause.Clause.{Clause}
+use Rattle.fol_base.proofs.AboutTerms.TreeLemmas.{list_of-trees_of}
+use Rattle.kernel_steps.specs.FromTrees.{term_from, literal_from, clause_from}
+use Rattle.fol_base.specs.WellFormed.{SymbolUse, WellFormed, are_literals_of}
+use Rattle.kernel_steps.specs.Parents.{Parent, Parents}
+use Rattle.kernel_steps.specs.Conclusion.{verdict, concludes}
+use Rattle.kernel_steps.specs.Derivation.{is_clause_step, introduces_name, line_parent, line_parents, is_component_of, component_clause, IsComponent, IsOpposite, ComesBy, IsDerivation}
+use Rattle.kernel_steps.specs.declared.step.Step.{Step}
+use Rattle.kernel_steps.specs.declared.step.Step.TheVariants.{Input, Negate, Clausify, Para, Refl, Factor, Merge, Component, Opposite, Split, Chain}
+use Rattle.kernel_steps.specs.declared.step.Line.{Line}
+use Rattle.axiom_filter.specs.Places.{places_from}
+use Rattle.axiom_filter.specs.Restriction.{beside, kept_clauses, kept_numbers, is_among, reindexed_step, reindexed_line, reindexed, names_entry, PartsDerive, PartsAreInputs}
+
+-- ---- the part
+
+part-all : {X : Type 0} (P : X → Type 0) (test : ℕ → Bool) (ns : List ℕ) (xs : List X) → All P xs → All P (beside test ns xs)
+part-all P test [] xs h = All-nil P
+part-all P test (n ∷ ns) [] h = All-nil P
+part-all {X} P test (n ∷ ns) (x ∷ xs) h = by (test n) (part-all P test ns xs (All-tail P x xs h))
+  where
+    by : (b : Bool) → All P (beside test ns xs) → All P (cond b (x ∷ beside test ns xs) (beside test ns xs))
+    by true rest = All-cons P x (beside test ns xs) (All-head P x xs h) rest
+    by false rest = rest
+
+part-few :
+    (test : ℕ → Bool) (ns : List ℕ) (cs : List TreeClause)
+    → sum_by clause_size (beside test ns cs) + length (beside test ns cs) ≤ sum_by clause_size cs + length cs
+part-few test [] cs = omega arith
+part-few test (n ∷ ns) [] = omega arith
+part-few test (n ∷ ns) (c ∷ cs) = by (test n) (part-few test ns cs)
+  where
+    by :
+        (b : Bool) → sum_by clause_size (beside test ns cs) + length (beside test ns cs) ≤ sum_by clause_size cs + length cs
+        → sum_by clause_size (cond b (c ∷ beside test ns cs) (beside test ns cs)) + length (cond b (c ∷ beside test ns cs) (beside test ns cs)) ≤ sum_by clause_size (c ∷ cs) + length (c ∷ cs)
+    by true rest = omega (arith, rest, sum_by-cons clause_size c cs, sum_by-cons clause_size c (beside test ns cs))
+    by false rest = omega (arith, rest, sum_by-cons clause_size c cs)
+
+part-used :
+    (usage : SymbolUse) (test : ℕ → Bool) (ns : List ℕ) (cs : List TreeClause)
+    → list_all (λ (c : TreeClause). are_literals_of usage c.literals) cs ≡ true → list_all (λ (c : TreeClause). are_literals_of usage c.literals) (beside test ns cs) ≡ true
+part-used usage test [] cs h = refl
+part-used usage test (n ∷ ns) [] h = refl
+part-used usage test (n ∷ ns) (c ∷ cs) h =
+    let parts : (are_literals_of usage c.literals ≡ true) × (list_all (λ (d : TreeClause). are_literals_of usage d.literals) cs ≡ true) = and_parts _ _ h in
+    by (test n) parts.0 (part-used usage test ns cs parts.1)
+  where
+    by :
+        (b : Bool) → are_literals_of usage c.literals ≡ true → list_all (λ (d : TreeClause). are_literals_of usage d.literals) (beside test ns cs) ≡ true
+        → list_all (λ (d : TreeClause). are_literals_of usage d.literals) (cond b (c ∷ beside test ns cs) (beside test ns cs)) ≡ true
+    by true first rest = and_from _ _ first rest
+    by false first rest = rest
+
+pub parts_are_inputs : PartsAreInputs
+parts_are_inputs = record {
+    canonical = λ kept origins clauses h. part-all _ (is_among kept) origins clauses h;
+    no_names = λ kept origins clauses h. part-all (λ (c : TreeClause). c.names ≡ []) (is_among kept) origins clauses h;
+    small = λ kept origins clauses h. part-all _ (is_among kept) origins clauses h;
+    few = λ kept origins clauses. part-few (is_among kept) origins clauses;
+    well_formed = λ kept origins clauses w. (record { usage = w.usage; used = part-used w.usage (is_among kept) origins clauses w.used }, refl);
+  }
+
+-- a clause of the part is the clause of the form with its number
+part-entry :
+    {X : Type 0} (test : ℕ → Bool) (ns : List ℕ) (before xs : List X) (i : ℕ) (x : X)
+    → slice_get (beside test ns xs) i ≡ Some x → slice_get (before ++ xs) (get_or (places_from (length before) test ns) i 0) ≡ Some x
+part-entry test [] before xs i x h = cc
+part-entry test (n ∷ ns) before [] i x h = cc
+part-entry {X} test (n ∷ ns) before (y ∷ xs) i x h = by (test n) i h
+  where
+    here : (before : List X) (z : X) (zs : List X) → slice_get (before ++ z ∷ zs) (length before) ≡ Some z
+    here [] z zs = refl
+    here (b ∷ before) z zs = here before z zs
+
+    later : (j : ℕ) → slice_get (beside test ns xs) j ≡ Some x → slice_get (before ++ y ∷ xs) (get_or (places_from (suc (length before)) test ns) j 0) ≡ Some x
+    later j k =
+        let moved : length (before ++ y ∷ []) ≡ suc (length before) = omega (arith, length_push before y) in
+        ap (λ m. slice_get (before ++ y ∷ xs) (get_or (places_from m test ns) j 0)) (sym moved)
+        ∙ ap (λ zs. slice_get zs (get_or (places_from (length (before ++ y ∷ [])) test ns) j 0)) (sym (append_assoc before (y ∷ []) xs))
+        ∙ part-entry test ns (before ++ y ∷ []) xs j x k
+
+    by :
+        (b : Bool) (j : ℕ) → slice_get (cond b (y ∷ beside test ns xs) (beside test ns xs)) j ≡ Some x
+        → slice_get (before ++ y ∷ xs) (get_or (cond b (length before ∷ places_from (suc (length before)) test ns) (places_from (suc (length before)) test ns)) j 0) ≡ Some x
+    by true zero k = here before y xs ∙ k
+    by true (suc j) k = later j k
+    by false j k = later j k
+
+-- ---- lines with other numbers
+
+clause-step : (numbers : List ℕ) (s : Step) → is_clause_step (reindexed_step numbers s) ≡ is_clause_step s
+clause-step numbers (Input place) = refl
+clause-step numbers (Negate place) = refl
+clause-step numbers (Clausify i) = refl
+clause-step numbers (Para first second from from_side into into_side place first_bind second_bind) = refl
+clause-step numbers (Refl parent literal bind) = refl
+clause-step numbers (Factor parent becomes becomes_side other other_side bind) = refl
+clause-step numbers (Merge parent stays goes bind) = refl
+clause-step numbers (Component name) = refl
+clause-step numbers (Opposite name) = refl
+clause-step numbers (Split parent definitions parts) = refl
+clause-step numbers (Chain parents pivots) = refl
+
+name-step : (numbers : List ℕ) (s : Step) → introduces_name (reindexed_step numbers s) ≡ introduces_name s
+name-step numbers (Input place) = refl
+name-step numbers (Negate place) = refl
+name-step numbers (Clausify i) = refl
+name-step numbers (Para first second from from_side into into_side place first_bind second_bind) = refl
+name-step numbers (Refl parent literal bind) = refl
+name-step numbers (Factor parent becomes becomes_side other other_side bind) = refl
+name-step numbers (Merge parent stays goes bind) = refl
+name-step numbers (Component name) = refl
+name-step numbers (Opposite name) = refl
+name-step numbers (Split parent definitions parts) = refl
+name-step numbers (Chain parents pivots) = refl
+
+component-step : (numbers : List ℕ) (name : ℕ) (s : Step) → is_component_of name (reindexed_step numbers s) ≡ is_component_of name s
+component-step numbers name (Input place) = refl
+component-step numbers name (Negate place) = refl
+component-step numbers name (Clausify i) = refl
+component-step numbers name (Para first second from from_side into into_side place first_bind second_bind) = refl
+component-step numbers name (Refl parent literal bind) = refl
+component-step numbers name (Factor parent becomes becomes_side other other_side bind) = refl
+component-step numbers name (Merge parent stays goes bind) = refl
+component-step numbers name (Component other) = refl
+component-step numbers name (Opposite other) = refl
+component-step numbers name (Split parent definitions parts) = refl
+component-step numbers name (Chain parents pivots) = refl
+
+parent-same : (numbers : List ℕ) (l : Line) → line_parent (reindexed_line numbers l) ≡ line_parent l
+parent-same numbers l =
+    ap (λ b. if b then Some (record { clause = clause_of l.clause; introduces = introduces_name (reindexed_step numbers l.step) }) else None) (clause-step numbers l.step)
+    ∙ ap (λ b. if is_clause_step l.step then Some (record { clause = clause_of l.clause; introduces = b }) else None) (name-step numbers l.step)
+
+parents-at : (numbers : List ℕ) (lines : List Line) (n : ℕ) → line_parents (reindexed numbers lines) n ≡ line_parents lines n
+parents-at numbers [] n = refl
+parents-at numbers (l ∷ lines) zero = parent-same numbers l
+parents-at numbers (l ∷ lines) (suc n) = parents-at numbers lines n
+
+parents-same : (numbers : List ℕ) (lines : List Line) → line_parents (reindexed numbers lines) ≡ line_parents lines
+parents-same numbers lines = λ i. λ n. parents-at numbers lines n i
+
+component-same : (numbers : List ℕ) (name : ℕ) (lines : List Line) → component_clause name (reindexed numbers lines) ≡ component_clause name lines
+component-same numbers name [] = refl
+component-same numbers name (l ∷ lines) =
+    ap (λ b. if b then Some (clause_of l.clause) else component_clause name (reindexed numbers lines)) (component-step numbers name l.step)
+    ∙ ap (λ o. if is_component_of name l.step then Some (clause_of l.clause) else o) (component-same numbers name lines)
+
+component-kept : (numbers : List ℕ) (name : ℕ) (lines : List Line) (c : TreeClause) → IsComponent name lines c → IsComponent name (reindexed numbers lines) c
+component-kept numbers name lines c h =
+    record { is_new = component-same numbers name lines ∙ h.is_new; some_literal = h.some_literal; one_name = h.one_name }
+
+opposite-kept : (numbers : List ℕ) (name : ℕ) (lines : List Line) (c : TreeClause) → IsOpposite name lines c → IsOpposite name (reindexed numbers lines) c
+opposite-kept numbers name lines c h =
+    record {
+      component = h.component;
+      introduced = component-same numbers name lines ∙ h.introduced;
+      literal = h.literal;
+      one_literal = h.one_literal;
+      positive = h.positive;
+      ground = h.ground;
+      complemented = h.complemented;
+      one_name = h.one_name;
+    }
+
+by-rule : (numbers : List ℕ) (s : Step) (lines : List Line) (c : TreeClause) → verdict s (line_parents lines) ≡ concludes c → verdict s (line_parents (reindexed numbers lines)) ≡ concludes c
+by-rule numbers s lines c h = ap (verdict s) (parents-same numbers lines) ∙ h
+
+-- a step from the part is one from the form
+comes-by :
+    (test : ℕ → Bool) (origins : List ℕ) (clauses : List TreeClause) (s : Step) (earlier : List Line) (c : TreeClause)
+    → ComesBy s (beside test origins clauses) earlier c
+    → ComesBy (reindexed_step (places_from 0 test origins) s) clauses (reindexed (places_from 0 test origins) earlier) c
+comes-by test origins clauses (Input place) earlier c h = h
+comes-by test origins clauses (Negate place) earlier c h = h
+comes-by test origins clauses (Clausify i) earlier c h = part-entry test origins [] clauses i c h
+comes-by test origins clauses (Component name) earlier c h = component-kept (places_from 0 test origins) name earlier c h
+comes-by test origins clauses (Opposite name) earlier c h = opposite-kept (places_from 0 test origins) name earlier c h
+comes-by test origins clauses (Para first second from from_side into into_side place first_bind second_bind) earlier c h =
+    by-rule (places_from 0 test origins) (Para first second from from_side into into_side place first_bind second_bind) earlier c h
+comes-by test origins clauses (Refl parent literal bind) earlier c h = by-rule (places_from 0 test origins) (Refl parent literal bind) earlier c h
+comes-by test origins clauses (Factor parent becomes becomes_side other other_side bind) earlier c h =
+    by-rule (places_from 0 test origins) (Factor parent becomes becomes_side other other_side bind) earlier c h
+comes-by test origins clauses (Merge parent stays goes bind) earlier c h = by-rule (places_from 0 test origins) (Merge parent stays goes bind) earlier c h
+comes-by test origins clauses (Split parent definitions parts) earlier c h = by-rule (places_from 0 test origins) (Split parent definitions parts) earlier c h
+comes-by test origins clauses (Chain parents pivots) earlier c h = by-rule (places_from 0 test origins) (Chain parents pivots) earlier c h
+
+-- the line at a place comes from the line there
+line-at :
+    (numbers : List ℕ) (lines : List Line) (n : ℕ) (line : Line) → slice_get (reindexed numbers lines) n ≡ Some line
+    → (l : Line) × (slice_get lines n ≡ Some l) × (reindexed_line numbers l ≡ line)
+line-at numbers [] n line h = cc
+line-at numbers (l ∷ lines) zero line h = (l, refl, inside h)
+  where
+    inside : Some (reindexed_line numbers l) ≡ Some line → reindexed_line numbers l ≡ line
+    inside e = cc
+line-at numbers (l ∷ lines) (suc n) line h = line-at numbers lines n line h
+
+earlier-lines : (numbers : List ℕ) (lines : List Line) (n : ℕ) → take n (reindexed numbers lines) ≡ reindexed numbers (take n lines)
+earlier-lines numbers lines zero = refl
+earlier-lines numbers [] (suc n) = refl
+earlier-lines numbers (l ∷ lines) (suc n) = ap (λ ls. reindexed_line numbers l ∷ ls) (earlier-lines numbers lines n)
+
+pub parts_derive : PartsDerive
+parts_derive kept origins clauses lines h n line e = by (line-at (kept_numbers kept origins) lines n line e)
+  where
+    by : (l : Line) × (slice_get lines n ≡ Some l) × (reindexed_line (kept_numbers kept origins) l ≡ line)
+        → ComesBy line.step clauses (take n (reindexed (kept_numbers kept origins) lines)) (clause_of line.clause)
+    by (l, there, is) =
+        subst (λ (k : Line). ComesBy k.step clauses (take n (reindexed (kept_numbers kept origins) lines)) (clause_of k.clause)) is
+        (subst (λ ls. ComesBy (reindexed_step (kept_numbers kept origins) l.step) clauses ls (clause_of l.clause)) (sym (earlier-lines (kept_numbers kept origins) lines n))
+        (comes-by (is_among kept) origins clauses l.step (take n lines) (clause_of l.clause) (h n l there)))
+
+-- ---- the loops
+
+pub beside-more :
+    {X : Type 0} (test : ℕ → Bool) (ns : List ℕ) (xs : List X) (i : ℕ) (d : X)
+    → i < length ns → i < length xs → beside test (drop i ns) (drop i xs) ≡ cond (test (get_or ns i 0)) (get_or xs i d ∷ beside test (drop (i + 1) ns) (drop (i + 1) xs)) (beside test (drop (i + 1) ns) (drop (i + 1) xs))
+beside-more test [] xs i d l k = absurd (omega arith)
+beside-more test (n ∷ ns) [] i d l k = absurd (omega arith)
+beside-more test (n ∷ ns) (x ∷ xs) zero d l k = refl
+beside-more test (n ∷ ns) (x ∷ xs) (suc i) d l k =
+    let next : suc i + 1 ≡ suc (i + 1) = omega arith in
+    beside-more test ns xs i d (omega arith) (omega arith)
+    ∙ ap (λ j. cond (test (get_or ns i 0)) (get_or xs i d ∷ beside test (drop j (n ∷ ns)) (drop j (x ∷ xs))) (beside test (drop j (n ∷ ns)) (drop j (x ∷ xs)))) (sym next)
+
+pub beside-end : {X : Type 0} (test : ℕ → Bool) (ns : List ℕ) (xs : List X) (i : ℕ) → min (length ns) (length xs) ≤ i → beside test (drop i ns) (drop i xs) ≡ []
+beside-end test [] xs zero h = refl
+beside-end test [] xs (suc i) h = refl
+beside-end test (n ∷ ns) [] zero h = refl
+beside-end test (n ∷ ns) [] (suc i) h = none (drop i ns)
+  where
+    none : (ms : List ℕ) → beside test ms [] ≡ []
+    none [] = refl
+    none (m ∷ ms) = refl
+beside-end test (n ∷ ns) (x ∷ xs) zero h = absurd (omega arith)
+beside-end test (n ∷ ns) (x ∷ xs) (suc i) h = beside-end test ns xs i (omega arith)
+
+-- a step that is no clausify step stays
+pub step-stays : (numbers : List ℕ) (s : Step) → ((i : ℕ) → s ≡ Clausify i → ⊥) → s ≡ reindexed_step numbers s
+step-stays numbers (Input place) h = refl
+step-stays numbers (Negate place) h = refl
+step-stays numbers (Clausify i) h = absurd (h i refl)
+step-stays numbers (Para first second from from_side into into_side place first_bind second_bind) h = refl
+step-stays numbers (Refl parent literal bind) h = refl
+step-stays numbers (Factor parent becomes becomes_side other other_side bind) h = refl
+step-stays numbers (Merge parent stays goes bind) h = refl
+step-stays numbers (Component name) h = refl
+step-stays numbers (Opposite name) h = refl
+step-stays numbers (Split parent definitions parts) h = refl
+step-stays numbers (Chain parents pivots) h = refl
+
+-- ---- copies
+
+term-again : (t : Term) → term_from (tree_of t) ≡ t
+term-again (Var v) = refl
+term-again (App f ts) = ap (λ us. App f us) (list_of-trees_of ts)
+
+literal-again : (l : Literal) → literal_from (literal_of l) ≡ l
+literal-again l = λ i. record { positive = l.positive; left = term-again l.left i; right = term-again l.right i }
+
+literals-again : (ls : List Literal) → map literal_from (map literal_of ls) ≡ ls
+literals-again [] = refl
+literals-again (l ∷ ls) = ap (λ k. k ∷ map literal_from (map literal_of ls)) (literal-again l) ∙ ap (λ ks. l ∷ ks) (literals-again ls)
+
+clause-again : (c : Clause) → clause_from (clause_of c) ≡ c
+clause-again c = λ i. record { literals = literals-again c.literals i; names = c.names }
+
+-- clauses that mean the same are the same
+pub clause-same : (c d : Clause) → clause_of c ≡ clause_of d → c ≡ d
+clause-same c d e = sym (clause-again c) ∙ ap clause_from e ∙ clause-again d
+
+-- a line with a copy of the clause
+pub line-copied : (numbers : List ℕ) (l : Line) (s : Step) (c : Clause) → s ≡ reindexed_step numbers l.step → clause_of c ≡ clause_of l.clause → record { step = s; clause = c } ≡ reindexed_line numbers l
+line-copied numbers l s c e f = let same : c ≡ l.clause = clause-same c l.clause f in λ i. record { step = e i; clause = same i }
+
+-- the entry that a clausify step names
+pub entry-below : (numbers : List ℕ) (lines : List Line) (i : ℕ) (l : Line) → list_all (λ (k : Line). names_entry numbers k.step) lines ≡ true → i < length lines → l ≡ get_or lines i l → names_entry numbers l.step ≡ true
+entry-below numbers [] i l h k e = absurd (omega arith)
+entry-below numbers (m ∷ lines) i l h k e =
+    by i e k
+  where
+    rest : list_all (λ (j : Line). names_entry numbers j.step) lines ≡ true
+    rest = let parts : (names_entry numbers m.step ≡ true) × (list_all (λ (j : Line). names_entry numbers j.step) lines ≡ true) = and_parts _ _ h in parts.1
+
+    first : names_entry numbers m.step ≡ true
+    first = let parts : (names_entry numbers m.step ≡ true) × (list_all (λ (j : Line). names_entry numbers j.step) lines ≡ true) = and_parts _ _ h in parts.0
+
+    by : (j : ℕ) → l ≡ get_or (m ∷ lines) j l → j < suc (length lines) → names_entry numbers l.step ≡ true
+    by zero f q = ap (λ (x : Line). names_entry numbers x.step) f ∙ first
+    by (suc j) f q = entry-below numbers lines j l rest (omega arith) f
