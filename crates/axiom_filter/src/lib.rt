@@ -29,9 +29,9 @@
 mod index;
 pub mod laws;
 mod numbering;
-mod select;
+mod selection;
 mod spread;
 mod triggers;
 mod walk;
 
-pub use select::select;
+pub use selection::select;
