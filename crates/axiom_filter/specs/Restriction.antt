@@ -5,7 +5,7 @@ use Rattle.fol_base.specs.Clause.{TreeClause, clause_size}
 use Rattle.fol_base.specs.Canonical.{IsCanonical}
 use Rattle.fol_base.specs.WellFormed.{WellFormed}
 use Rattle.fol_base.specs.declared.limits.TheConstants.{MOST_SYMBOLS}
-use Rattle.kernel_steps.specs.Derivation.{IsDerivation}
+use Rattle.kernel_steps.specs.Derivation.{IsDerivation, IsRefutation}
 use Rattle.kernel_steps.specs.declared.step.Step.{Step}
 use Rattle.kernel_steps.specs.declared.step.Step.TheVariants.{Clausify}
 use Rattle.kernel_steps.specs.declared.step.Line.{Line}
@@ -49,16 +49,28 @@ abbrev pub names_entry : List ℕ → Step → Bool
 names_entry numbers (Clausify i) = nat_lt i (length numbers)
 names_entry numbers step = true
 
-abbrev pub NamesEntries : List ℕ → List Line → Type 0
-NamesEntries numbers lines = IsTrue (list_all (λ (l : Line). names_entry numbers l.step) lines)
+abbrev pub NameEntries : List ℕ → List Step → Type 0
+NameEntries numbers steps = IsTrue (list_all (names_entry numbers) steps)
+
+abbrev pub steps_of : List Line → List Step
+steps_of lines = map (λ (l : Line). l.step) lines
 
 -- ---- laws
 
--- derivations from the part become derivations from the form
-abbrev pub PartsDerive : Type 0
-PartsDerive =
-    (kept origins : List ℕ) (clauses : List TreeClause) (lines : List Line)
-    → IsDerivation (kept_clauses kept origins clauses) lines → IsDerivation clauses (reindexed (kept_numbers kept origins) lines)
+-- Derivations from the part become derivations from the form, refutations refutations. Each clausify step names an entry, and the steps
+-- become those of the lines.
+pub record PartsDerive : Type 0 where
+  pub derivations :
+      (kept origins : List ℕ) (clauses : List TreeClause) (lines : List Line)
+      → IsDerivation (kept_clauses kept origins clauses) lines → IsDerivation clauses (reindexed (kept_numbers kept origins) lines)
+  pub refutations :
+      (kept origins : List ℕ) (clauses : List TreeClause) (lines : List Line)
+      → IsRefutation (kept_clauses kept origins clauses) lines → IsRefutation clauses (reindexed (kept_numbers kept origins) lines)
+  pub entries :
+      (kept origins : List ℕ) (clauses : List TreeClause) (lines : List Line)
+      → IsDerivation (kept_clauses kept origins clauses) lines → NameEntries (kept_numbers kept origins) (steps_of lines)
+  pub steps :
+      (numbers : List ℕ) (lines : List Line) → steps_of (reindexed numbers lines) ≡ map (reindexed_step numbers) (steps_of lines)
 
 -- the part has what a saturation may begin with where the form has it
 pub record PartsAreInputs : Type 0 where

@@ -15,8 +15,8 @@
 //! what older symbols trigger is marked already.
 //!
 //! **The part of a form.** A selection leaves formulas out of the search and not out of the problem. `restrict` gives the clauses of the whole
-//! clausal form that come from kept formulas, with their numbers in the form, and `reindex` turns a derivation from these clauses into
-//! one from the form (`parts.rt`). So what is printed is a derivation of the problem as it stands.
+//! clausal form that come from kept formulas, with their numbers in the form, and `reindex` turns the steps of a derivation from these
+//! clauses into those of one from the form (`parts.rt`). So what is printed is a derivation of the problem as it stands.
 //!
 //! **What is proved.** `select` gives exactly the places that the definition in `specs/Selection.antt` keeps, `restrict` and `reindex` what
 //! `specs/Restriction.antt` says. Kernel steps from a part become kernel steps from the form, and a part has all that a pool asks of its

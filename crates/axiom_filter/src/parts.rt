@@ -1,15 +1,15 @@
-// The part of a form that comes from kept formulas, and derivations from it.
+// The part of a form that comes from kept formulas, and the steps of derivations from it.
 
 ghost use Rattle.std.specs.Prelude.{◌≡◌, ℕ, map, IfOk, IsTrue, nat_eq};
 ghost use Rattle.std.specs.HashSet.{contains};
 ghost use Rattle.fol_base.specs.Literal.{clause_of};
-ghost use Rattle.axiom_filter.specs.Restriction.{beside, kept_clauses, kept_numbers, names_entry, reindexed, reindexed_step as step_reindexed, NamesEntries};
+ghost use Rattle.axiom_filter.specs.Restriction.{beside, kept_clauses, kept_numbers, names_entry, reindexed_step as step_reindexed, NameEntries};
 ghost use Rattle.axiom_filter.specs.Places.{places_from};
 ghost use Rattle.axiom_filter.specs.Tables.{has_number};
 
 use clausal_form::Clausal;
 use fol_base::{Clause, Clauses};
-use kernel_steps::{Derivation, Line, Step};
+use kernel_steps::Step;
 use plain_types::{Mem, Numbers};
 use std::alloc::Global;
 use std::collections::HashSet;
@@ -33,16 +33,15 @@ pub fn restrict(alloc: Global, form: &Clausal, kept: &Numbers) -> Mem<Restricted
     Ok(Restricted { clauses, numbers })
 }
 
-/// The derivation with the numbers of its clausify lines looked up: number i becomes entry i.
-pub fn reindex(alloc: Global, lines: &Derivation, numbers: &Numbers) -> Mem<Derivation>
-    requires { NamesEntries numbers.now lines.now }
-    ensures { IfOk result (λ made. made ≡ reindexed numbers.now lines.now) }
+/// Steps with the numbers of their clausify steps looked up: number i becomes entry i.
+pub fn reindex(alloc: Global, steps: &[Step], numbers: &Numbers) -> Mem<Vec<Step>>
+    requires { NameEntries numbers.now steps.now }
+    ensures { IfOk result (λ made. made.items ≡ map (step_reindexed numbers.now) steps.now) }
 {
-    let mut made = Derivation::new(alloc);
-    for line in lines.as_slice() {
-        let step = reindexed_step(alloc, &line.step, numbers.as_slice())?;
-        let clause = line.clause.copy(alloc)?;
-        made.push(Line { step, clause })?;
+    let numbers = numbers.as_slice();
+    let mut made = Vec::with_capacity(alloc, steps.len())?;
+    for step in steps {
+        made.push(reindexed_step(alloc, step, numbers)?)?;
     }
     Ok(made)
 }

@@ -1,29 +1,22 @@
 -- Parts of forms, and derivations from them.
-use Rattle.std.proofs.Common.{◌≡◌, ℕ, zero, suc, ◌+◌, ◌<◌, ◌≤◌, Bool, true, false, ◌&&◌, List, [], ◌∷◌, ◌++◌, length, map, take, drop, get_or, cond, min, Option, Some, None, sum_by, refl, ap, sym, ◌∙◌, subst, arith}
+use Rattle.std.proofs.Common.{◌≡◌, ℕ, zero, suc, ◌+◌, ◌<◌, ◌≤◌, Bool, true, false, ◌&&◌, List, [], ◌∷◌, ◌++◌, length, map, take, drop, get_or, cond, min, Option, Some, None, sum_by, refl, ap, sym, ◌∙◌, subst, lt-ltb, arith}
 use Rattle.std.specs.Prelude.{All, IsTrue, slice_get, option_map, option_and_then, if◌then◌else◌}
 use Rattle.std.specs.List.{list_all}
 use Rattle.std.proofs.lemmas.Bool.{and_parts, and_from}
-use Rattle.std.proofs.lemmas.List.{length_push, append_assoc, get_or_at}
+use Rattle.std.proofs.lemmas.List.{length_push, append_assoc, get_or_at, map-append}
 use Rattle.std.proofs.lemmas.List.Elements.{All-nil, All-cons, All-head, All-tail}
 use Rattle.std.proofs.lemmas.List.Sums.{sum_by-cons}
 use Rattle.fol_base.specs.Clause.{TreeClause, clause_size}
-use Rattle.fol_base.specs.Literal.{literal_of, clause_of}
-use Rattle.fol_base.specs.Term.{tree_of}
-use Rattle.fol_base.specs.declared.term.Term.{Term}
-use Rattle.fol_base.specs.declared.term.Term.TheVariants.{Var, App}
-use Rattle.fol_base.specs.declared.clause.Literal.{Literal}
-use Rattle.fol_base.specs.declared.clause.Clause.{Clause}
-use Rattle.fol_base.proofs.AboutTerms.TreeLemmas.{list_of-trees_of}
-use Rattle.kernel_steps.specs.FromTrees.{term_from, literal_from, clause_from}
+use Rattle.fol_base.specs.Literal.{clause_of}
 use Rattle.fol_base.specs.WellFormed.{SymbolUse, WellFormed, are_literals_of}
 use Rattle.kernel_steps.specs.Parents.{Parent, Parents}
 use Rattle.kernel_steps.specs.Conclusion.{verdict, concludes}
-use Rattle.kernel_steps.specs.Derivation.{is_clause_step, introduces_name, line_parent, line_parents, is_component_of, component_clause, IsComponent, IsOpposite, ComesBy, IsDerivation}
+use Rattle.kernel_steps.specs.Derivation.{is_clause_step, introduces_name, line_parent, line_parents, is_component_of, component_clause, IsComponent, IsOpposite, ComesBy, IsDerivation, IsRefutation}
 use Rattle.kernel_steps.specs.declared.step.Step.{Step}
 use Rattle.kernel_steps.specs.declared.step.Step.TheVariants.{Input, Negate, Clausify, Para, Refl, Factor, Merge, Component, Opposite, Split, Chain}
 use Rattle.kernel_steps.specs.declared.step.Line.{Line}
 use Rattle.axiom_filter.specs.Places.{places_from}
-use Rattle.axiom_filter.specs.Restriction.{beside, kept_clauses, kept_numbers, is_among, reindexed_step, reindexed_line, reindexed, names_entry, PartsDerive, PartsAreInputs}
+use Rattle.axiom_filter.specs.Restriction.{beside, kept_clauses, kept_numbers, is_among, reindexed_step, reindexed_line, reindexed, steps_of, names_entry, PartsDerive, PartsAreInputs}
 
 -- ---- the part
 
@@ -214,8 +207,10 @@ earlier-lines numbers lines zero = refl
 earlier-lines numbers [] (suc n) = refl
 earlier-lines numbers (l ∷ lines) (suc n) = ap (λ ls. reindexed_line numbers l ∷ ls) (earlier-lines numbers lines n)
 
-pub parts_derive : PartsDerive
-parts_derive kept origins clauses lines h n line e = by (line-at (kept_numbers kept origins) lines n line e)
+parts-derived :
+    (kept origins : List ℕ) (clauses : List TreeClause) (lines : List Line)
+    → IsDerivation (kept_clauses kept origins clauses) lines → IsDerivation clauses (reindexed (kept_numbers kept origins) lines)
+parts-derived kept origins clauses lines h n line e = by (line-at (kept_numbers kept origins) lines n line e)
   where
     by : (l : Line) × (slice_get lines n ≡ Some l) × (reindexed_line (kept_numbers kept origins) l ≡ line)
         → ComesBy line.step clauses (take n (reindexed (kept_numbers kept origins) lines)) (clause_of line.clause)
@@ -223,6 +218,76 @@ parts_derive kept origins clauses lines h n line e = by (line-at (kept_numbers k
         subst (λ (k : Line). ComesBy k.step clauses (take n (reindexed (kept_numbers kept origins) lines)) (clause_of k.clause)) is
         (subst (λ ls. ComesBy (reindexed_step (kept_numbers kept origins) l.step) clauses ls (clause_of l.clause)) (sym (earlier-lines (kept_numbers kept origins) lines n))
         (comes-by (is_among kept) origins clauses l.step (take n lines) (clause_of l.clause) (h n l there)))
+
+parts-refuted :
+    (kept origins : List ℕ) (clauses : List TreeClause) (lines : List Line)
+    → IsRefutation (kept_clauses kept origins clauses) lines → IsRefutation clauses (reindexed (kept_numbers kept origins) lines)
+parts-refuted kept origins clauses lines h =
+    let numbers : List ℕ = kept_numbers kept origins in
+    record {
+      derived = parts-derived kept origins clauses lines h.derived;
+      before = reindexed numbers h.before;
+      last = reindexed_line numbers h.last;
+      ends = ap (reindexed numbers) h.ends ∙ map-append (reindexed_line numbers) h.before (h.last ∷ []);
+      is_clause = clause-step numbers h.last.step ∙ h.is_clause;
+      is_empty = h.is_empty;
+    }
+
+-- ---- the numbers of clausify steps
+
+-- the numbers are at least as many as the clauses
+numbers-enough : {X : Type 0} (first : ℕ) (test : ℕ → Bool) (ns : List ℕ) (xs : List X) → length (beside test ns xs) ≤ length (places_from first test ns)
+numbers-enough first test [] xs = omega arith
+numbers-enough first test (n ∷ ns) [] = omega arith
+numbers-enough {X} first test (n ∷ ns) (x ∷ xs) = by (test n) (numbers-enough (suc first) test ns xs)
+  where
+    by :
+        (b : Bool) → length (beside test ns xs) ≤ length (places_from (suc first) test ns)
+        → length (cond b (x ∷ beside test ns xs) (beside test ns xs)) ≤ length (cond b (first ∷ places_from (suc first) test ns) (places_from (suc first) test ns))
+    by true rest = omega (arith, rest)
+    by false rest = rest
+
+entry-there : {X : Type 0} (xs : List X) (i : ℕ) (x : X) → slice_get xs i ≡ Some x → i < length xs
+entry-there [] i x h = cc
+entry-there (y ∷ xs) zero x h = omega arith
+entry-there (y ∷ xs) (suc i) x h = omega (arith, entry-there xs i x h)
+
+names-step :
+    (numbers : List ℕ) (part : List TreeClause) (s : Step) (earlier : List Line) (c : TreeClause)
+    → length part ≤ length numbers → ComesBy s part earlier c → names_entry numbers s ≡ true
+names-step numbers part (Clausify i) earlier c l h = lt-ltb i (length numbers) (omega (arith, l, entry-there part i c h))
+names-step numbers part (Input place) earlier c l h = refl
+names-step numbers part (Negate place) earlier c l h = refl
+names-step numbers part (Component name) earlier c l h = refl
+names-step numbers part (Opposite name) earlier c l h = refl
+names-step numbers part (Para first second from from_side into into_side place first_bind second_bind) earlier c l h = refl
+names-step numbers part (Refl parent literal bind) earlier c l h = refl
+names-step numbers part (Factor parent becomes becomes_side other other_side bind) earlier c l h = refl
+names-step numbers part (Merge parent stays goes bind) earlier c l h = refl
+names-step numbers part (Split parent definitions parts) earlier c l h = refl
+names-step numbers part (Chain parents pivots) earlier c l h = refl
+
+all-name :
+    (numbers : List ℕ) (lines : List Line)
+    → ((n : ℕ) (l : Line) → slice_get lines n ≡ Some l → names_entry numbers l.step ≡ true) → list_all (names_entry numbers) (steps_of lines) ≡ true
+all-name numbers [] h = refl
+all-name numbers (l ∷ lines) h = and_from (names_entry numbers l.step) (list_all (names_entry numbers) (steps_of lines)) (h 0 l refl) (all-name numbers lines (λ n m e. h (suc n) m e))
+
+parts-entries :
+    (kept origins : List ℕ) (clauses : List TreeClause) (lines : List Line)
+    → IsDerivation (kept_clauses kept origins clauses) lines → list_all (names_entry (kept_numbers kept origins)) (steps_of lines) ≡ true
+parts-entries kept origins clauses lines h =
+    all-name (kept_numbers kept origins) lines
+    (λ n l e.
+    names-step (kept_numbers kept origins) (kept_clauses kept origins clauses) l.step (take n lines) (clause_of l.clause)
+    (numbers-enough 0 (is_among kept) origins clauses) (h n l e))
+
+steps-reindexed : (numbers : List ℕ) (lines : List Line) → steps_of (reindexed numbers lines) ≡ map (reindexed_step numbers) (steps_of lines)
+steps-reindexed numbers [] = refl
+steps-reindexed numbers (l ∷ lines) = ap (λ ss. reindexed_step numbers l.step ∷ ss) (steps-reindexed numbers lines)
+
+pub parts_derive : PartsDerive
+parts_derive = record { derivations = parts-derived; refutations = parts-refuted; entries = parts-entries; steps = steps-reindexed }
 
 -- ---- the loops
 
@@ -262,43 +327,3 @@ step-stays numbers (Component name) h = refl
 step-stays numbers (Opposite name) h = refl
 step-stays numbers (Split parent definitions parts) h = refl
 step-stays numbers (Chain parents pivots) h = refl
-
--- ---- copies
-
-term-again : (t : Term) → term_from (tree_of t) ≡ t
-term-again (Var v) = refl
-term-again (App f ts) = ap (λ us. App f us) (list_of-trees_of ts)
-
-literal-again : (l : Literal) → literal_from (literal_of l) ≡ l
-literal-again l = λ i. record { positive = l.positive; left = term-again l.left i; right = term-again l.right i }
-
-literals-again : (ls : List Literal) → map literal_from (map literal_of ls) ≡ ls
-literals-again [] = refl
-literals-again (l ∷ ls) = ap (λ k. k ∷ map literal_from (map literal_of ls)) (literal-again l) ∙ ap (λ ks. l ∷ ks) (literals-again ls)
-
-clause-again : (c : Clause) → clause_from (clause_of c) ≡ c
-clause-again c = λ i. record { literals = literals-again c.literals i; names = c.names }
-
--- clauses that mean the same are the same
-pub clause-same : (c d : Clause) → clause_of c ≡ clause_of d → c ≡ d
-clause-same c d e = sym (clause-again c) ∙ ap clause_from e ∙ clause-again d
-
--- a line with a copy of the clause
-pub line-copied : (numbers : List ℕ) (l : Line) (s : Step) (c : Clause) → s ≡ reindexed_step numbers l.step → clause_of c ≡ clause_of l.clause → record { step = s; clause = c } ≡ reindexed_line numbers l
-line-copied numbers l s c e f = let same : c ≡ l.clause = clause-same c l.clause f in λ i. record { step = e i; clause = same i }
-
--- the entry that a clausify step names
-pub entry-below : (numbers : List ℕ) (lines : List Line) (i : ℕ) (l : Line) → list_all (λ (k : Line). names_entry numbers k.step) lines ≡ true → i < length lines → l ≡ get_or lines i l → names_entry numbers l.step ≡ true
-entry-below numbers [] i l h k e = absurd (omega arith)
-entry-below numbers (m ∷ lines) i l h k e =
-    by i e k
-  where
-    rest : list_all (λ (j : Line). names_entry numbers j.step) lines ≡ true
-    rest = let parts : (names_entry numbers m.step ≡ true) × (list_all (λ (j : Line). names_entry numbers j.step) lines ≡ true) = and_parts _ _ h in parts.1
-
-    first : names_entry numbers m.step ≡ true
-    first = let parts : (names_entry numbers m.step ≡ true) × (list_all (λ (j : Line). names_entry numbers j.step) lines ≡ true) = and_parts _ _ h in parts.0
-
-    by : (j : ℕ) → l ≡ get_or (m ∷ lines) j l → j < suc (length lines) → names_entry numbers l.step ≡ true
-    by zero f q = ap (λ (x : Line). names_entry numbers x.step) f ∙ first
-    by (suc j) f q = entry-below numbers lines j l rest (omega arith) f
