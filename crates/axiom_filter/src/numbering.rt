@@ -25,7 +25,6 @@ pub(crate) struct Rows {
 type SymbolList = Sequence<Symbol>;
 
 /// The symbols of each formula by their numbers. A symbol that is met for the first time gets the next number.
-#[tactic(none)]
 pub(crate) fn numbered(alloc: Global, formulas: &[Annotated]) -> Mem<Rows>
     ensures rows { IfOk result (λ numbered. numbered.rows.items ≡ formula_rows [] formulas.now) }
     ensures symbols { IfOk result (λ numbered. numbered.symbols ≡ length (fold with_symbol [] (flat_map annotated_symbols formulas.now))) }
@@ -56,7 +55,6 @@ fn formula_row(
 }
 
 /// The numbers of symbols; new ones become known.
-#[tactic(none)]
 fn numbers_of(alloc: Global, symbols: Vec<Symbol>, known: &mut IndexSet<Symbol>) -> Mem<Numbers>
     ensures row { IfOk result (λ row. row ≡ met_numbers known.old.keys symbols.items) }
     ensures known { IfOk result (λ _. known.new.keys ≡ fold with_symbol known.old.keys symbols.items) }

@@ -25,7 +25,6 @@ pub fn select(alloc: Global, problem: &Problem, tolerance: u32, depth: u32) -> M
 }
 
 /// Which formulas are kept.
-#[tactic(none)]
 fn kept_marks(alloc: Global, formulas: &[Annotated], tolerance: u32, depth: u32) -> Mem<Vec<bool>>
     ensures { IfOk result (λ marks. marks.items ≡ map (is_kept tolerance depth formulas.now) formulas.now) }
 {
@@ -40,7 +39,6 @@ fn kept_marks(alloc: Global, formulas: &[Annotated], tolerance: u32, depth: u32)
 }
 
 /// The places of the goals, rising.
-#[tactic(none)]
 fn goal_places(alloc: Global, formulas: &[Annotated]) -> Mem<Numbers>
     ensures { IfOk result (λ goals. goals ≡ places_from 0 goal_is formulas.now) }
 {
@@ -54,7 +52,6 @@ fn goal_places(alloc: Global, formulas: &[Annotated]) -> Mem<Numbers>
 }
 
 /// Marks what is kept besides the formulas that are taken: the goals and the formulas without symbols, or everything.
-#[tactic(none)]
 fn mark_others(formulas: &[Annotated], rows: &[Numbers], everything: bool, marks: &mut [bool])
     requires rows { length rows.now ≡ length formulas.now }
     requires marks { length marks.old ≡ length formulas.now }

@@ -12,7 +12,6 @@ use std::alloc::Global;
 ///
 /// A symbol is in the queue at the level at which it is reached first, and a formula is looked at when it is taken. So each row of the two tables is
 /// read at most once, those of the goals twice.
-#[tactic(none)]
 pub(crate) fn walk(
     alloc: Global,
     rows: &[Numbers],

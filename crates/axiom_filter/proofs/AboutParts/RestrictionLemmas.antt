@@ -1,26 +1,28 @@
 -- Parts of forms, and derivations from them.
 use Rattle.std.proofs.Common.{◌≡◌, ℕ, zero, suc, ◌+◌, ◌<◌, ◌≤◌, Bool, true, false, ◌&&◌, List, [], ◌∷◌, ◌++◌, length, map, take, drop, get_or, cond, min, Option, Some, None, sum_by, refl, ap, sym, ◌∙◌, subst, lt-ltb, arith}
-use Rattle.std.specs.Prelude.{All, IsTrue, slice_get, option_map, option_and_then, if◌then◌else◌}
+use Rattle.std.specs.Prelude.{All, IsTrue, slice_get, slice_index, option_map, option_and_then, if◌then◌else◌}
 use Rattle.std.specs.List.{list_all}
 use Rattle.std.proofs.lemmas.Bool.{and_parts, and_from}
 use Rattle.std.proofs.lemmas.List.{length_push, append_assoc, get_or_at, map-append}
 use Rattle.std.proofs.lemmas.List.Elements.{All-nil, All-cons, All-head, All-tail}
 use Rattle.std.proofs.lemmas.List.Sums.{sum_by-cons}
+use Rattle.fol_base.specs.Canonical.{IsCanonical}
 use Rattle.fol_base.specs.Clause.{TreeClause, clause_size}
 use Rattle.fol_base.specs.Literal.{clause_of}
-use Rattle.fol_base.specs.WellFormed.{SymbolUse, WellFormed, are_literals_of}
+use Rattle.fol_base.specs.WellFormed.{WellFormed, are_literals_of}
+use Rattle.fol_base.specs.declared.limits.TheConstants.{MOST_SYMBOLS}
 use Rattle.kernel_steps.specs.Parents.{Parent, Parents}
 use Rattle.kernel_steps.specs.Conclusion.{verdict, concludes}
 use Rattle.kernel_steps.specs.Derivation.{is_clause_step, introduces_name, line_parent, line_parents, is_component_of, component_clause, IsComponent, IsOpposite, ComesBy, IsDerivation, IsRefutation}
 use Rattle.kernel_steps.specs.declared.step.Step.{Step}
-use Rattle.kernel_steps.specs.declared.step.Step.TheVariants.{Input, Negate, Clausify, Para, Refl, Factor, Merge, Component, Opposite, Split, Chain}
+use Rattle.kernel_steps.specs.declared.step.Step.TheVariants.{Input, Negate, Clausify, Component, Opposite}
 use Rattle.kernel_steps.specs.declared.step.Line.{Line}
 use Rattle.axiom_filter.specs.Places.{places_from}
 use Rattle.axiom_filter.specs.Restriction.{beside, kept_clauses, kept_numbers, is_among, reindexed_step, reindexed_line, reindexed, steps_of, names_entry, PartsDerive, PartsAreInputs}
 
 -- ---- the part
 
-part-all : {X : Type 0} (P : X → Type 0) (test : ℕ → Bool) (ns : List ℕ) (xs : List X) → All P xs → All P (beside test ns xs)
+pub part-all : {X : Type 0} (P : X → Type 0) (test : ℕ → Bool) (ns : List ℕ) (xs : List X) → All P xs → All P (beside test ns xs)
 part-all P test [] xs h = All-nil P
 part-all P test (n ∷ ns) [] h = All-nil P
 part-all {X} P test (n ∷ ns) (x ∷ xs) h = by (test n) (part-all P test ns xs (All-tail P x xs h))
@@ -42,28 +44,24 @@ part-few test (n ∷ ns) (c ∷ cs) = by (test n) (part-few test ns cs)
     by true rest = omega (arith, rest, sum_by-cons clause_size c cs, sum_by-cons clause_size c (beside test ns cs))
     by false rest = omega (arith, rest, sum_by-cons clause_size c cs)
 
-part-used :
-    (usage : SymbolUse) (test : ℕ → Bool) (ns : List ℕ) (cs : List TreeClause)
-    → list_all (λ (c : TreeClause). are_literals_of usage c.literals) cs ≡ true → list_all (λ (c : TreeClause). are_literals_of usage c.literals) (beside test ns cs) ≡ true
-part-used usage test [] cs h = refl
-part-used usage test (n ∷ ns) [] h = refl
-part-used usage test (n ∷ ns) (c ∷ cs) h =
-    let parts : (are_literals_of usage c.literals ≡ true) × (list_all (λ (d : TreeClause). are_literals_of usage d.literals) cs ≡ true) = and_parts _ _ h in
-    by (test n) parts.0 (part-used usage test ns cs parts.1)
+-- what each clause of the form passes, those of the part pass
+pub part-passes : {X : Type 0} (passes : X → Bool) (test : ℕ → Bool) (ns : List ℕ) (xs : List X) → list_all passes xs ≡ true → list_all passes (beside test ns xs) ≡ true
+part-passes passes test [] xs h = refl
+part-passes passes test (n ∷ ns) [] h = refl
+part-passes {X} passes test (n ∷ ns) (x ∷ xs) h =
+    let parts = and_parts (passes x) (list_all passes xs) h in by (test n) parts.0 (part-passes passes test ns xs parts.1)
   where
-    by :
-        (b : Bool) → are_literals_of usage c.literals ≡ true → list_all (λ (d : TreeClause). are_literals_of usage d.literals) (beside test ns cs) ≡ true
-        → list_all (λ (d : TreeClause). are_literals_of usage d.literals) (cond b (c ∷ beside test ns cs) (beside test ns cs)) ≡ true
-    by true first rest = and_from _ _ first rest
+    by : (b : Bool) → passes x ≡ true → list_all passes (beside test ns xs) ≡ true → list_all passes (cond b (x ∷ beside test ns xs) (beside test ns xs)) ≡ true
+    by true first rest = and_from (passes x) (list_all passes (beside test ns xs)) first rest
     by false first rest = rest
 
 pub parts_are_inputs : PartsAreInputs
 parts_are_inputs = record {
-    canonical = λ kept origins clauses h. part-all _ (is_among kept) origins clauses h;
+    canonical = λ kept origins clauses h. part-all IsCanonical (is_among kept) origins clauses h;
     no_names = λ kept origins clauses h. part-all (λ (c : TreeClause). c.names ≡ []) (is_among kept) origins clauses h;
-    small = λ kept origins clauses h. part-all _ (is_among kept) origins clauses h;
+    small = λ kept origins clauses h. part-all (λ (c : TreeClause). clause_size c ≤ MOST_SYMBOLS) (is_among kept) origins clauses h;
     few = λ kept origins clauses. part-few (is_among kept) origins clauses;
-    well_formed = λ kept origins clauses w. (record { usage = w.usage; used = part-used w.usage (is_among kept) origins clauses w.used }, refl);
+    well_formed = λ kept origins clauses w. (record { usage = w.usage; used = part-passes (λ (c : TreeClause). are_literals_of w.usage c.literals) (is_among kept) origins clauses w.used }, refl);
   }
 
 -- a clause of the part is the clause of the form with its number
@@ -72,66 +70,45 @@ part-entry :
     → slice_get (beside test ns xs) i ≡ Some x → slice_get (before ++ xs) (get_or (places_from (length before) test ns) i 0) ≡ Some x
 part-entry test [] before xs i x h = cc
 part-entry test (n ∷ ns) before [] i x h = cc
-part-entry {X} test (n ∷ ns) before (y ∷ xs) i x h = by (test n) i h
+part-entry {X} test (n ∷ ns) before (y ∷ xs) i x h =
+    let moved : length (before ++ y ∷ []) ≡ suc (length before) = omega (arith, length_push before y) in
+    by (test n) i h
+    (λ j k.
+    ap (λ m. slice_get (before ++ y ∷ xs) (get_or (places_from m test ns) j 0)) (sym moved)
+    ∙ ap (λ zs. slice_get zs (get_or (places_from (length (before ++ y ∷ [])) test ns) j 0)) (sym (append_assoc before (y ∷ []) xs))
+    ∙ part-entry test ns (before ++ y ∷ []) xs j x k)
   where
+    abbrev Later : Type 0
+    Later = (j : ℕ) → slice_get (beside test ns xs) j ≡ Some x → slice_get (before ++ y ∷ xs) (get_or (places_from (suc (length before)) test ns) j 0) ≡ Some x
+
     here : (before : List X) (z : X) (zs : List X) → slice_get (before ++ z ∷ zs) (length before) ≡ Some z
     here [] z zs = refl
     here (b ∷ before) z zs = here before z zs
 
-    later : (j : ℕ) → slice_get (beside test ns xs) j ≡ Some x → slice_get (before ++ y ∷ xs) (get_or (places_from (suc (length before)) test ns) j 0) ≡ Some x
-    later j k =
-        let moved : length (before ++ y ∷ []) ≡ suc (length before) = omega (arith, length_push before y) in
-        ap (λ m. slice_get (before ++ y ∷ xs) (get_or (places_from m test ns) j 0)) (sym moved)
-        ∙ ap (λ zs. slice_get zs (get_or (places_from (length (before ++ y ∷ [])) test ns) j 0)) (sym (append_assoc before (y ∷ []) xs))
-        ∙ part-entry test ns (before ++ y ∷ []) xs j x k
-
     by :
-        (b : Bool) (j : ℕ) → slice_get (cond b (y ∷ beside test ns xs) (beside test ns xs)) j ≡ Some x
+        (b : Bool) (j : ℕ) → slice_get (cond b (y ∷ beside test ns xs) (beside test ns xs)) j ≡ Some x → Later
         → slice_get (before ++ y ∷ xs) (get_or (cond b (length before ∷ places_from (suc (length before)) test ns) (places_from (suc (length before)) test ns)) j 0) ≡ Some x
-    by true zero k = here before y xs ∙ k
-    by true (suc j) k = later j k
-    by false j k = later j k
+    by true zero k later = here before y xs ∙ k
+    by true (suc j) k later = later j k
+    by false j k later = later j k
 
 -- ---- lines with other numbers
 
+-- what is told of each kind of step stays
+pub reindexed-same :
+    {X : Type 0} (told : Step → X) → ((i j : ℕ) → told (Clausify i) ≡ told (Clausify j)) → (numbers : List ℕ) (s : Step)
+    → told (reindexed_step numbers s) ≡ told s
+reindexed-same told same numbers (Clausify i) = same (slice_index numbers i) i
+reindexed-same told same numbers _ = refl
+
 clause-step : (numbers : List ℕ) (s : Step) → is_clause_step (reindexed_step numbers s) ≡ is_clause_step s
-clause-step numbers (Input place) = refl
-clause-step numbers (Negate place) = refl
-clause-step numbers (Clausify i) = refl
-clause-step numbers (Para first second from from_side into into_side place first_bind second_bind) = refl
-clause-step numbers (Refl parent literal bind) = refl
-clause-step numbers (Factor parent becomes becomes_side other other_side bind) = refl
-clause-step numbers (Merge parent stays goes bind) = refl
-clause-step numbers (Component name) = refl
-clause-step numbers (Opposite name) = refl
-clause-step numbers (Split parent definitions parts) = refl
-clause-step numbers (Chain parents pivots) = refl
+clause-step numbers s = reindexed-same is_clause_step (λ i j. refl) numbers s
 
 name-step : (numbers : List ℕ) (s : Step) → introduces_name (reindexed_step numbers s) ≡ introduces_name s
-name-step numbers (Input place) = refl
-name-step numbers (Negate place) = refl
-name-step numbers (Clausify i) = refl
-name-step numbers (Para first second from from_side into into_side place first_bind second_bind) = refl
-name-step numbers (Refl parent literal bind) = refl
-name-step numbers (Factor parent becomes becomes_side other other_side bind) = refl
-name-step numbers (Merge parent stays goes bind) = refl
-name-step numbers (Component name) = refl
-name-step numbers (Opposite name) = refl
-name-step numbers (Split parent definitions parts) = refl
-name-step numbers (Chain parents pivots) = refl
+name-step numbers s = reindexed-same introduces_name (λ i j. refl) numbers s
 
 component-step : (numbers : List ℕ) (name : ℕ) (s : Step) → is_component_of name (reindexed_step numbers s) ≡ is_component_of name s
-component-step numbers name (Input place) = refl
-component-step numbers name (Negate place) = refl
-component-step numbers name (Clausify i) = refl
-component-step numbers name (Para first second from from_side into into_side place first_bind second_bind) = refl
-component-step numbers name (Refl parent literal bind) = refl
-component-step numbers name (Factor parent becomes becomes_side other other_side bind) = refl
-component-step numbers name (Merge parent stays goes bind) = refl
-component-step numbers name (Component other) = refl
-component-step numbers name (Opposite other) = refl
-component-step numbers name (Split parent definitions parts) = refl
-component-step numbers name (Chain parents pivots) = refl
+component-step numbers name s = reindexed-same (is_component_of name) (λ i j. refl) numbers s
 
 parent-same : (numbers : List ℕ) (l : Line) → line_parent (reindexed_line numbers l) ≡ line_parent l
 parent-same numbers l =
@@ -182,17 +159,10 @@ comes-by test origins clauses (Negate place) earlier c h = h
 comes-by test origins clauses (Clausify i) earlier c h = part-entry test origins [] clauses i c h
 comes-by test origins clauses (Component name) earlier c h = component-kept (places_from 0 test origins) name earlier c h
 comes-by test origins clauses (Opposite name) earlier c h = opposite-kept (places_from 0 test origins) name earlier c h
-comes-by test origins clauses (Para first second from from_side into into_side place first_bind second_bind) earlier c h =
-    by-rule (places_from 0 test origins) (Para first second from from_side into into_side place first_bind second_bind) earlier c h
-comes-by test origins clauses (Refl parent literal bind) earlier c h = by-rule (places_from 0 test origins) (Refl parent literal bind) earlier c h
-comes-by test origins clauses (Factor parent becomes becomes_side other other_side bind) earlier c h =
-    by-rule (places_from 0 test origins) (Factor parent becomes becomes_side other other_side bind) earlier c h
-comes-by test origins clauses (Merge parent stays goes bind) earlier c h = by-rule (places_from 0 test origins) (Merge parent stays goes bind) earlier c h
-comes-by test origins clauses (Split parent definitions parts) earlier c h = by-rule (places_from 0 test origins) (Split parent definitions parts) earlier c h
-comes-by test origins clauses (Chain parents pivots) earlier c h = by-rule (places_from 0 test origins) (Chain parents pivots) earlier c h
+comes-by test origins clauses s earlier c h = by-rule (places_from 0 test origins) s earlier c h
 
 -- the line at a place comes from the line there
-line-at :
+pub line-at :
     (numbers : List ℕ) (lines : List Line) (n : ℕ) (line : Line) → slice_get (reindexed numbers lines) n ≡ Some line
     → (l : Line) × (slice_get lines n ≡ Some l) × (reindexed_line numbers l ≡ line)
 line-at numbers [] n line h = cc
@@ -256,16 +226,7 @@ names-step :
     (numbers : List ℕ) (part : List TreeClause) (s : Step) (earlier : List Line) (c : TreeClause)
     → length part ≤ length numbers → ComesBy s part earlier c → names_entry numbers s ≡ true
 names-step numbers part (Clausify i) earlier c l h = lt-ltb i (length numbers) (omega (arith, l, entry-there part i c h))
-names-step numbers part (Input place) earlier c l h = refl
-names-step numbers part (Negate place) earlier c l h = refl
-names-step numbers part (Component name) earlier c l h = refl
-names-step numbers part (Opposite name) earlier c l h = refl
-names-step numbers part (Para first second from from_side into into_side place first_bind second_bind) earlier c l h = refl
-names-step numbers part (Refl parent literal bind) earlier c l h = refl
-names-step numbers part (Factor parent becomes becomes_side other other_side bind) earlier c l h = refl
-names-step numbers part (Merge parent stays goes bind) earlier c l h = refl
-names-step numbers part (Split parent definitions parts) earlier c l h = refl
-names-step numbers part (Chain parents pivots) earlier c l h = refl
+names-step numbers part _ earlier c l h = refl
 
 all-name :
     (numbers : List ℕ) (lines : List Line)
@@ -302,28 +263,20 @@ beside-more test (n ∷ ns) (x ∷ xs) (suc i) d l k =
     beside-more test ns xs i d (omega arith) (omega arith)
     ∙ ap (λ j. cond (test (get_or ns i 0)) (get_or xs i d ∷ beside test (drop j (n ∷ ns)) (drop j (x ∷ xs))) (beside test (drop j (n ∷ ns)) (drop j (x ∷ xs)))) (sym next)
 
+beside-none : {X : Type 0} (test : ℕ → Bool) (ns : List ℕ) (xs : List X) → length xs ≡ 0 → beside test ns xs ≡ []
+beside-none test [] xs h = refl
+beside-none test (n ∷ ns) [] h = refl
+beside-none test (n ∷ ns) (x ∷ xs) h = absurd (omega (arith, h))
+
 pub beside-end : {X : Type 0} (test : ℕ → Bool) (ns : List ℕ) (xs : List X) (i : ℕ) → min (length ns) (length xs) ≤ i → beside test (drop i ns) (drop i xs) ≡ []
 beside-end test [] xs zero h = refl
 beside-end test [] xs (suc i) h = refl
 beside-end test (n ∷ ns) [] zero h = refl
-beside-end test (n ∷ ns) [] (suc i) h = none (drop i ns)
-  where
-    none : (ms : List ℕ) → beside test ms [] ≡ []
-    none [] = refl
-    none (m ∷ ms) = refl
+beside-end {X} test (n ∷ ns) [] (suc i) h = let none : List X = [] in beside-none test (drop i ns) none (omega arith)
 beside-end test (n ∷ ns) (x ∷ xs) zero h = absurd (omega arith)
 beside-end test (n ∷ ns) (x ∷ xs) (suc i) h = beside-end test ns xs i (omega arith)
 
 -- a step that is no clausify step stays
 pub step-stays : (numbers : List ℕ) (s : Step) → ((i : ℕ) → s ≡ Clausify i → ⊥) → s ≡ reindexed_step numbers s
-step-stays numbers (Input place) h = refl
-step-stays numbers (Negate place) h = refl
 step-stays numbers (Clausify i) h = absurd (h i refl)
-step-stays numbers (Para first second from from_side into into_side place first_bind second_bind) h = refl
-step-stays numbers (Refl parent literal bind) h = refl
-step-stays numbers (Factor parent becomes becomes_side other other_side bind) h = refl
-step-stays numbers (Merge parent stays goes bind) h = refl
-step-stays numbers (Component name) h = refl
-step-stays numbers (Opposite name) h = refl
-step-stays numbers (Split parent definitions parts) h = refl
-step-stays numbers (Chain parents pivots) h = refl
+step-stays numbers _ h = refl

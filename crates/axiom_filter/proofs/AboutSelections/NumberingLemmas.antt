@@ -52,7 +52,7 @@ place-found :
     {X : Type 0} (p : X → Bool) (xs : List X) (d : X)
     → list_any p xs ≡ true → (position_or_len p xs < length xs) × (p (get_or xs (position_or_len p xs) d) ≡ true)
 place-found p [] d h = cc
-place-found {X} p (x ∷ xs) d h = by (p x) refl h
+place-found {X} p (x ∷ xs) d h = by (p x) refl h (λ k. place-found p xs d k)
   where
     later :
         (position_or_len p xs < length xs) × (p (get_or xs (position_or_len p xs) d) ≡ true)
@@ -63,9 +63,10 @@ place-found {X} p (x ∷ xs) d h = by (p x) refl h
 
     by :
         (b : Bool) → p x ≡ b → (b || list_any p xs) ≡ true
+        → (list_any p xs ≡ true → (position_or_len p xs < length xs) × (p (get_or xs (position_or_len p xs) d) ≡ true))
         → (cond (not b) (1 + position_or_len p xs) 0 < suc (length xs)) × (p (get_or (x ∷ xs) (cond (not b) (1 + position_or_len p xs) 0) d) ≡ true)
-    by true e k = (omega arith, e)
-    by false e k = later (place-found p xs d k)
+    by true e k found = (omega arith, e)
+    by false e k found = later (found k)
 
 place-none : {X : Type 0} (p : X → Bool) (xs : List X) → list_any p xs ≡ false → position_or_len p xs ≡ length xs
 place-none p [] h = refl

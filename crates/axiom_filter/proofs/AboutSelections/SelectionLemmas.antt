@@ -183,11 +183,11 @@ all-holds : (p : Symbol → Bool) (ss : List Symbol) (s : Symbol) → has_symbol
 all-holds p [] s m h = cc
 all-holds p (t ∷ ss) s m h =
     let parts : (p t ≡ true) × (list_all p ss ≡ true) = and_parts _ _ h in
-    by (same_symbol s t) refl m parts.0 parts.1
+    by (same_symbol s t) refl m parts.0 (λ k. all-holds p ss s k parts.1)
   where
-    by : (b : Bool) → same_symbol s t ≡ b → (b || has_symbol s ss) ≡ true → p t ≡ true → list_all p ss ≡ true → p s ≡ true
-    by true e k a r = ap p (same_symbol-true s t e) ∙ a
-    by false e k a r = all-holds p ss s k r
+    by : (b : Bool) → same_symbol s t ≡ b → (b || has_symbol s ss) ≡ true → p t ≡ true → (has_symbol s ss ≡ true → p s ≡ true) → p s ≡ true
+    by true e k a later = ap p (same_symbol-true s t e) ∙ a
+    by false e k a later = later k
 
 -- ---- triggers
 
@@ -265,11 +265,11 @@ triggered-is tolerance fs final rows index triggered n f d t l k =
 
 member-below : (bound n : ℕ) (ns : List ℕ) → AreBelow bound ns → has_number n ns ≡ true → n < bound
 member-below bound n [] h m = cc
-member-below bound n (k ∷ ns) h m = by (n == k) refl m
+member-below bound n (k ∷ ns) h m = by (n == k) refl m (λ t. member-below bound n ns (All-tail (λ j. j < bound) k ns h) t)
   where
-    by : (b : Bool) → (n == k) ≡ b → (b || has_number n ns) ≡ true → n < bound
-    by true e t = omega (arith, eqb-true n k e, All-head (λ j. j < bound) k ns h)
-    by false e t = member-below bound n ns (All-tail (λ j. j < bound) k ns h) t
+    by : (b : Bool) → (n == k) ≡ b → (b || has_number n ns) ≡ true → (has_number n ns ≡ true → n < bound) → n < bound
+    by true e t later = omega (arith, eqb-true n k e, All-head (λ j. j < bound) k ns h)
+    by false e t later = later t
 
 row-of-below : (bound : ℕ) (table : List (List ℕ)) (n : ℕ) → AreRowsBelow bound table → AreBelow bound (row_of table n)
 row-of-below bound [] n h = All-nil (λ k. k < bound)

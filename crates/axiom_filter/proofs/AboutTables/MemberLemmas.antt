@@ -39,24 +39,28 @@ pub any-member :
     {X : Type 0} (same : X → X → Bool) → ((x y : X) → same x y ≡ true → x ≡ y)
     → (p : X → Bool) (xs : List X) (x : X) → list_any (same x) xs ≡ true → p x ≡ true → list_any p xs ≡ true
 any-member same sound p [] x m h = m
-any-member same sound p (y ∷ ys) x m h = by (same x y) refl m
+any-member same sound p (y ∷ ys) x m h = by (same x y) refl m (λ k. any-member same sound p ys x k h)
   where
-    by : (b : Bool) → same x y ≡ b → (b || list_any (same x) ys) ≡ true → (p y || list_any p ys) ≡ true
-    by true e k = or-left (p y) (list_any p ys) (ap p (sym (sound x y e)) ∙ h)
-    by false e k = or-right (p y) (list_any p ys) (any-member same sound p ys x k h)
+    by :
+        (b : Bool) → same x y ≡ b → (b || list_any (same x) ys) ≡ true → (list_any (same x) ys ≡ true → list_any p ys ≡ true)
+        → (p y || list_any p ys) ≡ true
+    by true e k later = or-left (p y) (list_any p ys) (ap p (sym (sound x y e)) ∙ h)
+    by false e k later = or-right (p y) (list_any p ys) (later k)
 
 pub any-found :
     {X : Type 0} (same : X → X → Bool) → ((x : X) → same x x ≡ true)
     → (p : X → Bool) (xs : List X) → list_any p xs ≡ true → (x : X) × (list_any (same x) xs ≡ true) × (p x ≡ true)
 any-found same itself p [] h = cc
-any-found {X} same itself p (y ∷ ys) h = by (p y) refl h
+any-found {X} same itself p (y ∷ ys) h = by (p y) refl h (λ k. any-found same itself p ys k)
   where
     later : (x : X) × (list_any (same x) ys ≡ true) × (p x ≡ true) → (x : X) × (list_any (same x) (y ∷ ys) ≡ true) × (p x ≡ true)
     later (x, m, k) = (x, or-right (same x y) (list_any (same x) ys) m, k)
 
-    by : (b : Bool) → p y ≡ b → (b || list_any p ys) ≡ true → (x : X) × (list_any (same x) (y ∷ ys) ≡ true) × (p x ≡ true)
-    by true e k = (y, or-left (same y y) (list_any (same y) ys) (itself y), e)
-    by false e k = later (any-found same itself p ys k)
+    by :
+        (b : Bool) → p y ≡ b → (b || list_any p ys) ≡ true → (list_any p ys ≡ true → (x : X) × (list_any (same x) ys ≡ true) × (p x ≡ true))
+        → (x : X) × (list_any (same x) (y ∷ ys) ≡ true) × (p x ≡ true)
+    by true e k found = (y, or-left (same y y) (list_any (same y) ys) (itself y), e)
+    by false e k found = later (found k)
 
 pub any-more :
     {X : Type 0} (same : X → X → Bool) → ((x : X) → same x x ≡ true) → ((x y : X) → same x y ≡ true → x ≡ y)

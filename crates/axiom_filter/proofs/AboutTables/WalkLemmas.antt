@@ -52,13 +52,14 @@ taken-reached rows triggers goals zero n s h k = cc
 taken-reached rows triggers goals (suc level) n s h k =
     let now = neighbours triggers (reached_numbers rows triggers goals level) in
     has-append s (reached_numbers rows triggers goals level) (neighbours rows now)
-    ∙ by (or-cases _ _ (sym (has-append n (taken_numbers rows triggers goals level) now) ∙ h))
+    ∙ by (λ e. taken-reached rows triggers goals level n s e k) (or-cases _ _ (sym (has-append n (taken_numbers rows triggers goals level) now) ∙ h))
   where
     by :
+        (has_number n (taken_numbers rows triggers goals level) ≡ true → has_number s (reached_numbers rows triggers goals level) ≡ true) →
         (has_number n (taken_numbers rows triggers goals level) ≡ true) ⊎ (has_number n (neighbours triggers (reached_numbers rows triggers goals level)) ≡ true)
         → (has_number s (reached_numbers rows triggers goals level) || has_number s (neighbours rows (neighbours triggers (reached_numbers rows triggers goals level)))) ≡ true
-    by (inl e) = or-left _ _ (taken-reached rows triggers goals level n s e k)
-    by (inr e) = or-right _ _ (neighbour s n rows (neighbours triggers (reached_numbers rows triggers goals level)) e k)
+    by before (inl e) = or-left _ _ (before e)
+    by before (inr e) = or-right _ _ (neighbour s n rows (neighbours triggers (reached_numbers rows triggers goals level)) e k)
 
 -- a list of those of a set that are new
 split-new : (r b f : Bool) → f ≡ (r && not b) → r ≡ true → (b ≡ true) ⊎ (f ≡ true)

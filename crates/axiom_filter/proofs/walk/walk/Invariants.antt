@@ -3,8 +3,8 @@ use Rattle.axiom_filter.specs.Tables.{AreBelow}
 use Rattle.axiom_filter.proofs.AboutTables.WalkLemmas.{Walked}
 use Rattle.axiom_filter.proofs.walk.walk.Given as goal
 
-abbrev pub invariant-loop-_level : goal.invariant-loop-_level
-invariant-loop-_level l = record {
+abbrev pub invariant-loop-level : goal.invariant-loop-level
+invariant-loop-level l = record {
     walked : Walked l.rows l.triggers l.goals l._level l.reached.items l.taken.items l.frontier.items;
     reached : length l.reached.items ≡ length l.triggers;
     taken : length l.taken.items ≡ length l.rows;
