@@ -3,12 +3,13 @@ use Rattle.std.proofs.Common.{◌≡◌, ℕ, zero, suc, ◌+◌, ◌<◌, ◌�
 use Rattle.std.specs.Prelude.{All, IsTrue, slice_get, slice_index, option_map, option_and_then, if◌then◌else◌}
 use Rattle.std.specs.List.{list_all}
 use Rattle.std.proofs.lemmas.Bool.{and_parts, and_from}
-use Rattle.std.proofs.lemmas.List.{length_push, append_assoc, get_or_at, map-append}
+use Rattle.std.proofs.lemmas.List.{length_push, append_assoc, append-nil, get_or_at, get_or-map, length-map, map-append}
 use Rattle.std.proofs.lemmas.List.Elements.{All-nil, All-cons, All-head, All-tail}
 use Rattle.std.proofs.lemmas.List.Sums.{sum_by-cons}
 use Rattle.fol_base.specs.Canonical.{IsCanonical}
 use Rattle.fol_base.specs.Clause.{TreeClause, clause_size}
 use Rattle.fol_base.specs.Literal.{clause_of}
+use Rattle.fol_base.specs.declared.clause.Clause.{Clause}
 use Rattle.fol_base.specs.WellFormed.{WellFormed, are_literals_of}
 use Rattle.fol_base.specs.declared.limits.TheConstants.{MOST_SYMBOLS}
 use Rattle.kernel_steps.specs.Parents.{Parent, Parents}
@@ -78,7 +79,7 @@ part-entry {X} test (n ∷ ns) before (y ∷ xs) i x h =
     ∙ ap (λ zs. slice_get zs (get_or (places_from (length (before ++ y ∷ [])) test ns) j 0)) (sym (append_assoc before (y ∷ []) xs))
     ∙ part-entry test ns (before ++ y ∷ []) xs j x k)
   where
-    abbrev Later : Type 0
+    Later : Type 0
     Later = (j : ℕ) → slice_get (beside test ns xs) j ≡ Some x → slice_get (before ++ y ∷ xs) (get_or (places_from (suc (length before)) test ns) j 0) ≡ Some x
 
     here : (before : List X) (z : X) (zs : List X) → slice_get (before ++ z ∷ zs) (length before) ≡ Some z
@@ -275,6 +276,42 @@ beside-end test (n ∷ ns) [] zero h = refl
 beside-end {X} test (n ∷ ns) [] (suc i) h = let none : List X = [] in beside-none test (drop i ns) none (omega arith)
 beside-end test (n ∷ ns) (x ∷ xs) zero h = absurd (omega arith)
 beside-end test (n ∷ ns) (x ∷ xs) (suc i) h = beside-end test ns xs i (omega arith)
+
+-- the step of a loop that keeps what passes, and its end
+pub clause-kept :
+    (test : ℕ → Bool) (ns : List ℕ) (cs : List Clause) (i : ℕ) (c k : Clause) (made more : List Clause) (total : List TreeClause)
+    → i < length ns → i < length cs → c ≡ get_or cs i c → clause_of k ≡ clause_of c → test (get_or ns i 0) ≡ true → more ≡ made ++ k ∷ []
+    → map clause_of made ++ beside test (drop i ns) (drop i (map clause_of cs)) ≡ total
+    → map clause_of more ++ beside test (drop (i + 1) ns) (drop (i + 1) (map clause_of cs)) ≡ total
+clause-kept test ns cs i c k made more total l m r e t p h =
+    let rest : List TreeClause = beside test (drop (i + 1) ns) (drop (i + 1) (map clause_of cs)) in
+    let inside : i < length (map clause_of cs) = omega (arith, m, length-map cs clause_of) in
+    let here : get_or (map clause_of cs) i (clause_of c) ≡ clause_of k = get_or-map clause_of cs i c (clause_of c) m ∙ ap clause_of (sym r) ∙ sym e in
+    ap (λ ds. map clause_of ds ++ rest) p ∙ ap (λ ds. ds ++ rest) (map-append clause_of made (k ∷ []))
+    ∙ append_assoc (map clause_of made) (clause_of k ∷ []) rest
+    ∙ ap (λ d. map clause_of made ++ d ∷ rest) (sym here)
+    ∙ ap (λ b. map clause_of made ++ cond b (get_or (map clause_of cs) i (clause_of c) ∷ rest) rest) (sym t)
+    ∙ ap (λ ds. map clause_of made ++ ds) (sym (beside-more test ns (map clause_of cs) i (clause_of c) l inside)) ∙ h
+
+pub clause-skipped :
+    (test : ℕ → Bool) (ns : List ℕ) (cs : List Clause) (i : ℕ) (c : Clause) (made more : List Clause) (total : List TreeClause)
+    → i < length ns → i < length cs → test (get_or ns i 0) ≡ false → more ≡ made
+    → map clause_of made ++ beside test (drop i ns) (drop i (map clause_of cs)) ≡ total
+    → map clause_of more ++ beside test (drop (i + 1) ns) (drop (i + 1) (map clause_of cs)) ≡ total
+clause-skipped test ns cs i c made more total l m t p h =
+    let rest : List TreeClause = beside test (drop (i + 1) ns) (drop (i + 1) (map clause_of cs)) in
+    let inside : i < length (map clause_of cs) = omega (arith, m, length-map cs clause_of) in
+    ap (λ ds. map clause_of ds ++ rest) p
+    ∙ ap (λ b. map clause_of made ++ cond b (get_or (map clause_of cs) i (clause_of c) ∷ rest) rest) (sym t)
+    ∙ ap (λ ds. map clause_of made ++ ds) (sym (beside-more test ns (map clause_of cs) i (clause_of c) l inside)) ∙ h
+
+pub clauses-done :
+    (test : ℕ → Bool) (ns : List ℕ) (cs : List Clause) (i : ℕ) (made : List Clause) (total : List TreeClause)
+    → min (length ns) (length cs) ≤ i
+    → map clause_of made ++ beside test (drop i ns) (drop i (map clause_of cs)) ≡ total → map clause_of made ≡ total
+clauses-done test ns cs i made total l h =
+    sym (append-nil (map clause_of made))
+    ∙ ap (λ ds. map clause_of made ++ ds) (sym (beside-end test ns (map clause_of cs) i (omega (arith, l, length-map cs clause_of)))) ∙ h
 
 -- a step that is no clausify step stays
 pub step-stays : (numbers : List ℕ) (s : Step) → ((i : ℕ) → s ≡ Clausify i → ⊥) → s ≡ reindexed_step numbers s

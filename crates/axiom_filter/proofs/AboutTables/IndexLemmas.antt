@@ -52,6 +52,35 @@ places-below first test (x ∷ xs) =
     by true rest here = All-cons (λ n. n < first + suc (length xs)) first (places_from (suc first) test xs) here rest
     by false rest here = rest
 
+-- the step of a loop that lists the places of what passes
+places-next :
+    {X : Type 0} (test : X → Bool) (xs : List X) (i : ℕ) (d : X)
+    → i < length xs → places_from 0 test (take (i + 1) xs) ≡ places_from 0 test (take i xs) ++ cond (test (get_or xs i d)) (i ∷ []) []
+places-next test xs i d l =
+    let so_far : 0 + length (take i xs) ≡ i = omega (arith, length-take-le i xs (omega (arith, l))) in
+    ap (places_from 0 test) (take_more xs i d l) ∙ places-end 0 test (take i xs) (get_or xs i d)
+    ∙ ap (λ n. places_from 0 test (take i xs) ++ cond (test (get_or xs i d)) (n ∷ []) []) so_far
+
+pub place-listed :
+    {X : Type 0} (test : X → Bool) (xs : List X) (i : ℕ) (d : X) (places more : List ℕ)
+    → i < length xs → test (get_or xs i d) ≡ true → more ≡ places ++ i ∷ [] → places ≡ places_from 0 test (take i xs)
+    → more ≡ places_from 0 test (take (i + 1) xs)
+place-listed test xs i d places more l t m h =
+    m ∙ ap (λ ns. ns ++ i ∷ []) h ∙ ap (λ b. places_from 0 test (take i xs) ++ cond b (i ∷ []) []) (sym t) ∙ sym (places-next test xs i d l)
+
+pub place-skipped :
+    {X : Type 0} (test : X → Bool) (xs : List X) (i : ℕ) (d : X) (places more : List ℕ)
+    → i < length xs → test (get_or xs i d) ≡ false → more ≡ places → places ≡ places_from 0 test (take i xs)
+    → more ≡ places_from 0 test (take (i + 1) xs)
+place-skipped test xs i d places more l t m h =
+    m ∙ h ∙ sym (append-nil (places_from 0 test (take i xs)))
+    ∙ ap (λ b. places_from 0 test (take i xs) ++ cond b (i ∷ []) []) (sym t) ∙ sym (places-next test xs i d l)
+
+pub places-listed :
+    {X : Type 0} (test : X → Bool) (xs : List X) (i : ℕ) (places : List ℕ)
+    → length xs ≤ i → places ≡ places_from 0 test (take i xs) → places ≡ places_from 0 test xs
+places-listed test xs i places l h = h ∙ ap (places_from 0 test) (take_all i xs l)
+
 -- ---- the end of a list
 
 pub ends-with-end : (ns : List ℕ) (n : ℕ) → ends_with_number (ns ++ n ∷ []) n ≡ true

@@ -1,5 +1,5 @@
 -- The walk level by level: what is marked, and what is new.
-use Rattle.std.proofs.Common.{◌≡◌, ℕ, zero, suc, Bool, true, false, not, ◌&&◌, ◌||◌, List, [], ◌++◌, refl, ap, sym, ◌∙◌, inl, inr, ◌⊎◌}
+use Rattle.std.proofs.Common.{◌≡◌, ℕ, zero, suc, ◌+◌, Bool, true, false, not, ◌&&◌, ◌||◌, List, [], ◌++◌, refl, ap, sym, ◌∙◌, subst, inl, inr, ◌⊎◌, arith}
 use Rattle.std.proofs.lemmas.Bool.{and_parts}
 use Rattle.axiom_filter.specs.Tables.{has_number, is_marked, row_of, neighbours}
 use Rattle.axiom_filter.specs.Walk.{reached_numbers, taken_numbers}
@@ -145,3 +145,31 @@ walked-step rows triggers goals level reached taken reached1 taken1 frontier fou
         ∙ or-same (has_number n symbols) (has_number n (neighbours rows found)) (has_number n (neighbours rows (neighbours triggers symbols)))
         (neighbours-grow n rows found (neighbours triggers symbols) found_triggered) (spread_of n)
         ∙ sym (has-append n symbols (neighbours rows (neighbours triggers symbols)))
+
+-- the step of the loop over the levels, by what was lent
+pub walked-more :
+    (rows triggers : List (List ℕ)) (goals : List ℕ) (level : ℕ) (reached taken lent_reached lent_taken reached1 taken1 : List Bool)
+    (frontier found next lent_frontier lent_found : List ℕ)
+    → lent_taken ≡ taken → lent_frontier ≡ frontier → lent_reached ≡ reached → lent_found ≡ found
+    → Walked rows triggers goals level reached taken frontier
+    → ((n : ℕ) → is_marked taken1 n ≡ (is_marked lent_taken n || has_number n (neighbours triggers lent_frontier)))
+    → ((n : ℕ) → has_number n found ≡ (is_marked taken1 n && not (is_marked lent_taken n)))
+    → ((n : ℕ) → is_marked reached1 n ≡ (is_marked lent_reached n || has_number n (neighbours rows lent_found)))
+    → ((n : ℕ) → has_number n next ≡ (is_marked reached1 n && not (is_marked lent_reached n)))
+    → (left_reached left_taken : List Bool) → left_reached ≡ reached1 → left_taken ≡ taken1
+    → Walked rows triggers goals (level + 1) left_reached left_taken next
+walked-more rows triggers goals level reached taken lent_reached lent_taken reached1 taken1 frontier found next lent_frontier lent_found
+    t f r g is took new marked fresh left_reached left_taken reached_is taken_is =
+    let more : suc level ≡ level + 1 = omega arith in
+    subst (λ k. Walked rows triggers goals k left_reached left_taken next) more
+    (subst (λ ms. Walked rows triggers goals (suc level) ms left_taken next) (sym reached_is)
+    (subst (λ ms. Walked rows triggers goals (suc level) reached1 ms next) (sym taken_is)
+    (walked-step rows triggers goals level reached taken reached1 taken1 frontier found next is
+    (λ n.
+    took n ∙ ap (λ ms. is_marked ms n || has_number n (neighbours triggers lent_frontier)) t
+    ∙ ap (λ ns. is_marked taken n || has_number n (neighbours triggers ns)) f)
+    (λ n. new n ∙ ap (λ ms. is_marked taken1 n && not (is_marked ms n)) t)
+    (λ n.
+    marked n ∙ ap (λ ms. is_marked ms n || has_number n (neighbours rows lent_found)) r
+    ∙ ap (λ ns. is_marked reached n || has_number n (neighbours rows ns)) g)
+    (λ n. fresh n ∙ ap (λ ms. is_marked reached1 n && not (is_marked ms n)) r))))
