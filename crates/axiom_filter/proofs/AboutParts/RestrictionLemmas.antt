@@ -13,7 +13,7 @@ use Rattle.fol_base.specs.declared.clause.Clause.{Clause}
 use Rattle.fol_base.specs.WellFormed.{WellFormed, are_literals_of}
 use Rattle.fol_base.specs.declared.limits.TheConstants.{MOST_SYMBOLS}
 use Rattle.kernel_steps.specs.Parents.{Parent, Parents}
-use Rattle.kernel_steps.specs.Conclusion.{verdict, concludes}
+use Rattle.kernel_steps.specs.Conclusion.{empty_clause, verdict, concludes}
 use Rattle.kernel_steps.specs.Derivation.{is_clause_step, introduces_name, line_parent, line_parents, is_component_of, component_clause, IsComponent, IsOpposite, ComesBy, IsDerivation, IsRefutation}
 use Rattle.kernel_steps.specs.declared.step.Step.{Step}
 use Rattle.kernel_steps.specs.declared.step.Step.TheVariants.{Input, Negate, Clausify, Component, Opposite}
@@ -294,16 +294,16 @@ clause-kept test ns cs i c k made more total l m r e t p h =
     ∙ ap (λ ds. map clause_of made ++ ds) (sym (beside-more test ns (map clause_of cs) i (clause_of c) l inside)) ∙ h
 
 pub clause-skipped :
-    (test : ℕ → Bool) (ns : List ℕ) (cs : List Clause) (i : ℕ) (c : Clause) (made more : List Clause) (total : List TreeClause)
+    (test : ℕ → Bool) (ns : List ℕ) (cs : List Clause) (i : ℕ) (made more : List Clause) (total : List TreeClause)
     → i < length ns → i < length cs → test (get_or ns i 0) ≡ false → more ≡ made
     → map clause_of made ++ beside test (drop i ns) (drop i (map clause_of cs)) ≡ total
     → map clause_of more ++ beside test (drop (i + 1) ns) (drop (i + 1) (map clause_of cs)) ≡ total
-clause-skipped test ns cs i c made more total l m t p h =
+clause-skipped test ns cs i made more total l m t p h =
     let rest : List TreeClause = beside test (drop (i + 1) ns) (drop (i + 1) (map clause_of cs)) in
     let inside : i < length (map clause_of cs) = omega (arith, m, length-map cs clause_of) in
     ap (λ ds. map clause_of ds ++ rest) p
-    ∙ ap (λ b. map clause_of made ++ cond b (get_or (map clause_of cs) i (clause_of c) ∷ rest) rest) (sym t)
-    ∙ ap (λ ds. map clause_of made ++ ds) (sym (beside-more test ns (map clause_of cs) i (clause_of c) l inside)) ∙ h
+    ∙ ap (λ b. map clause_of made ++ cond b (get_or (map clause_of cs) i empty_clause ∷ rest) rest) (sym t)
+    ∙ ap (λ ds. map clause_of made ++ ds) (sym (beside-more test ns (map clause_of cs) i empty_clause l inside)) ∙ h
 
 pub clauses-done :
     (test : ℕ → Bool) (ns : List ℕ) (cs : List Clause) (i : ℕ) (made : List Clause) (total : List TreeClause)

@@ -14,7 +14,7 @@ loop-number-preserved c =
           _ c.loop-number.made c.if-contains.made _ origin clause w.index-clauses-number.is w.in_ok-copy.ensures
           (sym c.contains.ensures ∙ w.if-contains.true) (w.made-is ∙ w.in_ok-push.ensures.ok) c.loop-number.invariant
       | else-contains w ↦
-          clause-skipped (contains nat_eq c.args.kept.now) c.args.origins.now c.args.clauses.now c.loop-number.number _
+          clause-skipped (contains nat_eq c.args.kept.now) c.args.origins.now c.args.clauses.now c.loop-number.number
           c.loop-number.made c.if-contains.made _ origin clause (sym c.contains.ensures ∙ w.if-contains.false) w.made-is c.loop-number.invariant
     ]
 
