@@ -29,12 +29,15 @@ fn kept_marks(alloc: Global, formulas: &[Annotated], tolerance: u32, depth: u32)
     ensures { IfOk result (λ marks. marks.items ≡ map (is_kept tolerance depth formulas.now) formulas.now) }
 {
     let goals = goal_places(alloc, formulas)?;
+    let goals = goals.as_slice();
     let Rows { rows, symbols } = numbered(alloc, formulas)?;
-    let index = symbol_index(alloc, rows.as_slice(), symbols)?;
-    let rarest = rarest_counts(alloc, rows.as_slice(), index.as_slice())?;
-    let triggers = triggered(alloc, index.as_slice(), rarest.as_slice(), tolerance)?;
-    let mut marks = walk(alloc, rows.as_slice(), triggers.as_slice(), goals.as_slice(), depth)?;
-    mark_others(formulas, rows.as_slice(), goals.is_empty(), marks.as_mut_slice());
+    let rows = rows.as_slice();
+    let index = symbol_index(alloc, rows, symbols)?;
+    let index = index.as_slice();
+    let rarest = rarest_counts(alloc, rows, index)?;
+    let triggers = triggered(alloc, index, rarest.as_slice(), tolerance)?;
+    let mut marks = walk(alloc, rows, triggers.as_slice(), goals, depth)?;
+    mark_others(formulas, rows, goals.is_empty(), marks.as_mut_slice());
     Ok(marks)
 }
 

@@ -1,5 +1,5 @@
 -- What is kept.
-use Rattle.std.proofs.Common.{◌≡◌, ℕ, zero, suc, ◌+◌, ◌<◌, ◌≤◌, ◌^◌, Bool, true, false, not, ◌||◌, ◌==◌, List, [], ◌∷◌, ◌++◌, length, map, get_or, set, cond, refl, ap, sym, ◌∙◌, subst, get_or-set_same, get_or-set_other, arith}
+use Rattle.std.proofs.Common.{◌≡◌, ℕ, zero, suc, ◌+◌, ◌<◌, ◌≤◌, ◌^◌, Bool, true, false, not, ◌||◌, ◌==◌, List, [], ◌∷◌, ◌++◌, length, map, get_or, set, cond, refl, ap, sym, ◌∙◌, subst, get_or-set_same, get_or-set_other, zero-add, inl, inr, arith}
 use Rattle.std.specs.List.{list_any}
 use Rattle.std.proofs.lemmas.List.{same_lists, get_or-map, length-map, get_or_default}
 use Rattle.std.proofs.lemmas.Bool.{cases_lt}
@@ -9,11 +9,12 @@ use Rattle.signature.specs.declared.symbol.Symbol.{Symbol}
 use Rattle.signature.specs.Occurrences.{annotated_symbols}
 use Rattle.axiom_filter.specs.Places.{places_from}
 use Rattle.axiom_filter.specs.Selection.{is_goal, has_no_symbols, is_taken, is_kept}
-use Rattle.axiom_filter.specs.Tables.{has_number, is_marked, row_of, is_empty_row}
+use Rattle.axiom_filter.specs.Numbering.{formula_rows}
+use Rattle.axiom_filter.specs.Tables.{has_number, is_marked, row_of, is_empty_row, rows_with, rare_enough, least_length, AreBelow, AreRowsBelow}
 use Rattle.axiom_filter.specs.Walk.{taken_numbers}
-use Rattle.axiom_filter.proofs.AboutTables.MemberLemmas.{or-right}
-use Rattle.axiom_filter.proofs.AboutSelections.NumberingLemmas.{symbol_at, Stands, Fits, row-fits, fits-length}
-use Rattle.axiom_filter.proofs.AboutSelections.SelectionLemmas.{AreTables, taken-agree}
+use Rattle.axiom_filter.proofs.AboutTables.IndexLemmas.{IsIndex, places-below}
+use Rattle.axiom_filter.proofs.AboutSelections.NumberingLemmas.{Stands, Fits, row-fits, rows-fit-all, symbols_met, symbols-differ, rows-below, rows-length, symbol_at}
+use Rattle.axiom_filter.proofs.AboutSelections.SelectionLemmas.{AreTables, taken-agree, index-below, triggered-below}
 
 -- the places that pass are those that are marked
 pub places-marked : {X : Type 0} (first : ℕ) (test : X → Bool) (xs : List X) → marked_numbers first (map test xs) ≡ places_from first test xs
@@ -118,3 +119,53 @@ kept-marks tolerance depth fs final rows index triggered everything taken marks 
     kept-lists (g ∷ gs) (m ∷ ms) l h =
         ap (λ x. x ∷ ms) (h 0 g (omega arith))
         ∙ ap (λ xs. is_kept tolerance depth fs g ∷ xs) (kept-lists gs ms (omega (arith, l)) (λ n d k. h (suc n) d (omega (arith, k))))
+
+-- ---- by what the calls gave
+
+module _
+    (tolerance : ℕ) (fs : List Annotated) (symbols : ℕ) (rows index : List (List ℕ))
+    (rows_are : rows ≡ formula_rows [] fs) (symbols_are : symbols ≡ length (symbols_met fs)) (count : length index ≡ symbols)
+    (lists : (n : ℕ) → n < symbols → row_of index n ≡ rows_with n rows)
+  where
+    -- an index of the rows
+    indexed : IsIndex (length (symbols_met fs)) rows index
+    indexed = subst (λ k. IsIndex k rows index) symbols_are (record { count = count; lists = lists })
+
+    pub rows-in : AreRowsBelow (length index) rows
+    rows-in = subst (λ k. AreRowsBelow k rows) (sym count) (rows-below fs rows symbols rows_are symbols_are)
+
+    pub places-in : AreRowsBelow (length rows) index
+    places-in = index-below (length (symbols_met fs)) rows index indexed
+
+    pub triggered-in :
+        (rarest : List ℕ) (triggered : List (List ℕ)) → triggered ≡ map (rare_enough tolerance rarest) index → AreRowsBelow (length rows) triggered
+    triggered-in rarest triggered e = subst (AreRowsBelow (length rows)) (sym e) (triggered-below (length rows) tolerance rarest index places-in)
+
+    pub goals-in : (goals : List ℕ) → goals ≡ places_from 0 is_goal fs → AreBelow (length rows) goals
+    goals-in goals e =
+        subst (λ k. AreBelow k goals) (sym (rows-length fs rows rows_are))
+        (subst (AreBelow (length fs)) (sym e)
+        (subst (λ k. AreBelow k (places_from 0 is_goal fs)) (zero-add (length fs)) (places-below 0 is_goal fs)))
+
+    tables : (rarest : List ℕ) (triggered : List (List ℕ)) → length fs < 2 ^ 64 → rarest ≡ map (least_length index) rows
+        → triggered ≡ map (rare_enough tolerance rarest) index → AreTables tolerance fs (symbols_met fs) rows index triggered
+    tables rarest triggered few r e = record {
+      different = symbols-differ fs;
+      fits = subst (λ rs. Fits (symbols_met fs) rs fs) (sym rows_are) (rows-fit-all fs);
+      few = few;
+      index_is = indexed;
+      triggered_is = e ∙ ap (λ ns. map (rare_enough tolerance ns) index) r;
+    }
+
+    pub marks-are :
+        (depth : ℕ) (rarest goals : List ℕ) (triggered : List (List ℕ)) (everything : Bool) (taken marks : List Bool)
+        → length fs < 2 ^ 64 → rarest ≡ map (least_length index) rows → triggered ≡ map (rare_enough tolerance rarest) index
+        → goals ≡ places_from 0 is_goal fs → everything ≡ (length goals == 0)
+        → ((n : ℕ) → is_marked taken n ≡ has_number n (taken_numbers rows triggered goals depth))
+        → ((n : ℕ) (d : Annotated) → n < length fs
+        → is_marked marks n ≡ (everything || (is_goal (get_or fs n d) || (is_empty_row (row_of rows n) || is_marked taken n))))
+        → length marks ≡ length fs → marks ≡ map (is_kept tolerance depth fs) fs
+    marks-are depth rarest goals triggered everything taken marks few r e g every walked marked size =
+        kept-marks tolerance depth fs (symbols_met fs) rows index triggered everything taken marks (tables rarest triggered few r e)
+        (every ∙ ap (λ ns. length ns == 0) g ∙ no-places 0 is_goal fs)
+        (λ n. walked n ∙ ap (λ ns. has_number n (taken_numbers rows triggered ns depth)) g) marked size
