@@ -50,13 +50,13 @@ ToleranceTakesMore = (kept_places 100 1 with_frequent_symbols ≡ 2 ∷ []) × (
 
 -- the first axiom is reached through the second
 abbrev pub DepthTakesMore : Type 0
-DepthTakesMore = (kept_places 200 1 in_two_steps ≡ 1 ∷ 2 ∷ []) × (kept_places 1000 50 in_two_steps ≡ 0 ∷ 1 ∷ 2 ∷ [])
+DepthTakesMore = (kept_places 200 1 in_two_steps ≡ 1 ∷ 2 ∷ []) × (kept_places 1000 2 in_two_steps ≡ 0 ∷ 1 ∷ 2 ∷ [])
 
 abbrev pub KeepsWithoutGoal : Type 0
 KeepsWithoutGoal = kept_places 100 1 (fof_axiom (of_one (codes "p") (constant (codes "a"))) ∷ (fof_axiom (of_one (codes "r") (constant (codes "b"))) ∷ [])) ≡ 0 ∷ 1 ∷ []
 
 abbrev pub KeepsWithoutSymbols : Type 0
-KeepsWithoutSymbols = kept_places 100 50 with_truth ≡ 0 ∷ 2 ∷ []
+KeepsWithoutSymbols = kept_places 100 1 with_truth ≡ 0 ∷ 2 ∷ []
 
 -- the clauses of the formulas 0 and 2, by the origins of all
 abbrev pub PartOfForm : Type 0
