@@ -19,6 +19,7 @@ use Rattle.kernel_steps.specs.declared.step.Step.{Step}
 use Rattle.kernel_steps.specs.declared.step.Step.TheVariants.{Input, Negate, Clausify, Component, Opposite}
 use Rattle.kernel_steps.specs.declared.step.Line.{Line}
 use Rattle.axiom_filter.specs.Places.{places_from}
+use Rattle.axiom_filter.specs.Tables.{has_number}
 use Rattle.axiom_filter.specs.Restriction.{beside, kept_clauses, kept_numbers, is_among, reindexed_step, reindexed_line, reindexed, steps_of, names_entry, PartsDerive, PartsAreInputs}
 
 -- ---- the part
@@ -312,6 +313,23 @@ pub clauses-done :
 clauses-done test ns cs i made total l h =
     sym (append-nil (map clause_of made))
     ∙ ap (λ ds. map clause_of made ++ ds) (sym (beside-end test ns (map clause_of cs) i (omega (arith, l, length-map cs clause_of)))) ∙ h
+
+-- the part by any test that says what is kept
+pub clauses-among :
+    (test : ℕ → Bool) (kept numbers origins slice : List ℕ) (clauses lent : List Clause)
+    → ((n : ℕ) → test n ≡ has_number n numbers) → numbers ≡ kept → slice ≡ origins → lent ≡ clauses
+    → beside test slice (map clause_of lent) ≡ kept_clauses kept origins (map clause_of clauses)
+clauses-among test kept numbers origins slice clauses lent same k o c =
+    let among : test ≡ is_among numbers = λ i. λ n. same n i in
+    ap (λ t. beside t slice (map clause_of lent)) among ∙ ap (λ ns. beside (is_among ns) slice (map clause_of lent)) k
+    ∙ ap (λ ns. beside (is_among kept) ns (map clause_of lent)) o ∙ ap (λ cs. beside (is_among kept) origins (map clause_of cs)) c
+
+pub numbers-among :
+    (test : ℕ → Bool) (kept numbers origins slice : List ℕ)
+    → ((n : ℕ) → test n ≡ has_number n numbers) → numbers ≡ kept → slice ≡ origins → places_from 0 test slice ≡ kept_numbers kept origins
+numbers-among test kept numbers origins slice same k o =
+    let among : test ≡ is_among numbers = λ i. λ n. same n i in
+    ap (λ t. places_from 0 t slice) among ∙ ap (λ ns. places_from 0 (is_among ns) slice) k ∙ ap (λ ns. places_from 0 (is_among kept) ns) o
 
 -- a step that is no clausify step stays
 pub step-stays : (numbers : List ℕ) (s : Step) → ((i : ℕ) → s ≡ Clausify i → ⊥) → s ≡ reindexed_step numbers s
