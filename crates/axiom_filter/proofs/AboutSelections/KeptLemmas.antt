@@ -1,7 +1,7 @@
 -- What is kept.
 use Rattle.std.proofs.Common.{◌≡◌, ℕ, zero, suc, ◌+◌, ◌<◌, ◌≤◌, ◌^◌, Bool, true, false, not, ◌||◌, ◌==◌, List, [], ◌∷◌, ◌++◌, length, map, get_or, set, cond, refl, ap, sym, ◌∙◌, subst, get_or-set_same, get_or-set_other, zero-add, inl, inr, arith}
 use Rattle.std.specs.List.{list_any}
-use Rattle.std.proofs.lemmas.List.{same_lists, get_or-map, length-map, get_or_default}
+use Rattle.std.proofs.lemmas.List.{length-map, get_or_default}
 use Rattle.std.proofs.lemmas.Bool.{cases_lt}
 use Rattle.tptp_tree.specs.declared.problem.Annotated.{Annotated}
 use Rattle.kernel_steps.specs.Marks.{marked_numbers}
@@ -12,7 +12,7 @@ use Rattle.axiom_filter.specs.Selection.{is_goal, has_no_symbols, is_taken, is_k
 use Rattle.axiom_filter.specs.Numbering.{formula_rows}
 use Rattle.axiom_filter.specs.Tables.{has_number, is_marked, row_of, is_empty_row, rows_with, rare_enough, least_length, AreBelow, AreRowsBelow}
 use Rattle.axiom_filter.specs.Walk.{taken_numbers}
-use Rattle.axiom_filter.proofs.AboutTables.IndexLemmas.{IsIndex, places-below}
+use Rattle.axiom_filter.proofs.AboutTables.IndexLemmas.{IsIndex, places-below, not-equal-above}
 use Rattle.axiom_filter.proofs.AboutSelections.NumberingLemmas.{Stands, Fits, row-fits, rows-fit-all, symbols_met, symbols-differ, rows-below, rows-length, symbol_at}
 use Rattle.axiom_filter.proofs.AboutSelections.SelectionLemmas.{AreTables, taken-agree, index-below, triggered-below}
 
@@ -36,7 +36,7 @@ no-places first test (x ∷ xs) = by (test x) (no-places (suc first) test xs)
     by :
         (b : Bool) → (length (places_from (suc first) test xs) == 0) ≡ not (list_any test xs)
         → (length (cond b (first ∷ places_from (suc first) test xs) (places_from (suc first) test xs)) == 0) ≡ not (b || list_any test xs)
-    by true e = refl
+    by true e = not-equal-above (suc (length (places_from (suc first) test xs))) 0 (omega arith)
     by false e = e
 
 empty-stands : (final : List Symbol) (row : List ℕ) (a : Annotated) → Stands final row (annotated_symbols a) → is_empty_row row ≡ has_no_symbols a
@@ -52,21 +52,40 @@ pub record KeptBelow (everything : Bool) (fs : List Annotated) (rows : List (Lis
 pub kept-none : (everything : Bool) (fs : List Annotated) (rows : List (List ℕ)) (old : List Bool) → KeptBelow everything fs rows 0 old old
 kept-none everything fs rows old = record { done = λ n d h. absurd (omega arith); left = λ n h. refl }
 
+-- the mark of a place, by whether it is kept besides
+abbrev pub IsKeptBesides : Bool → Bool → List Annotated → List (List ℕ) → ℕ → Type 0
+IsKeptBesides keeps everything fs rows place =
+    (d : Annotated) → keeps ≡ (everything || (is_goal (get_or fs place d) || is_empty_row (row_of rows place)))
+
+pub keeps-all :
+    (keeps everything : Bool) (fs : List Annotated) (rows : List (List ℕ)) (place : ℕ)
+    → keeps ≡ true → everything ≡ true → IsKeptBesides keeps everything fs rows place
+keeps-all keeps everything fs rows place k e d = k ∙ sym (ap (λ b. b || (is_goal (get_or fs place d) || is_empty_row (row_of rows place))) e)
+
+pub keeps-some :
+    (keeps everything always : Bool) (fs : List Annotated) (rows : List (List ℕ)) (place : ℕ) (a : Annotated) (row : List ℕ)
+    → place < length fs → place < length rows → a ≡ get_or fs place a → row ≡ get_or rows place row
+    → keeps ≡ always → always ≡ (is_goal a || is_empty_row row) → everything ≡ false → IsKeptBesides keeps everything fs rows place
+keeps-some keeps everything always fs rows place a row l m r s k e f d =
+    let formula : a ≡ get_or fs place d = r ∙ get_or_default fs place a d l in
+    let list : row ≡ row_of rows place = s ∙ get_or_default rows place row [] m in
+    k ∙ e ∙ ap (λ x. is_goal x || is_empty_row row) formula ∙ ap (λ x. is_goal (get_or fs place d) || is_empty_row x) list
+    ∙ sym (ap (λ b. b || (is_goal (get_or fs place d) || is_empty_row (row_of rows place))) f)
+
 pub kept-more :
-    (everything : Bool) (fs : List Annotated) (rows : List (List ℕ)) (place : ℕ) (old marks new : List Bool) (a : Annotated) (row : List ℕ) (keeps : Bool)
-    → place < length fs → place < length rows → place < length marks → a ≡ get_or fs place a → row ≡ get_or rows place row
-    → keeps ≡ (everything || (is_goal a || is_empty_row row)) → new ≡ cond keeps (set marks place true) marks
+    (everything : Bool) (fs : List Annotated) (rows : List (List ℕ)) (place : ℕ) (old marks new : List Bool) (keeps : Bool)
+    → place < length marks → IsKeptBesides keeps everything fs rows place → new ≡ cond keeps (set marks place true) marks
     → KeptBelow everything fs rows place old marks → KeptBelow everything fs rows (place + 1) old new
-kept-more everything fs rows place old marks new a row keeps l k m r s e n is = record { done = done; left = left }
+kept-more everything fs rows place old marks new keeps m e n is = record { done = done; left = left }
   where
     chain : (p q t u : Bool) → ((p || (q || t)) || u) ≡ (p || (q || (t || u)))
     chain true q t u = refl
     chain false true t u = refl
     chain false false t u = refl
 
-    at_place : (b : Bool) → keeps ≡ b → is_marked (cond b (set marks place true) marks) place ≡ (b || is_marked old place)
-    at_place true f = get_or-set_same marks place true false m
-    at_place false f = is.left place (omega arith)
+    at_place : (b : Bool) → is_marked (cond b (set marks place true) marks) place ≡ (b || is_marked old place)
+    at_place true = get_or-set_same marks place true false m
+    at_place false = is.left place (omega arith)
 
     elsewhere : (b : Bool) (i : ℕ) → (i ≡ place → ⊥) → is_marked (cond b (set marks place true) marks) i ≡ is_marked marks i
     elsewhere true i ne = get_or-set_other marks place i true false ne
@@ -74,10 +93,7 @@ kept-more everything fs rows place old marks new a row keeps l k m r s e n is = 
 
     here : (d : Annotated) → is_marked new place ≡ (everything || (is_goal (get_or fs place d) || (is_empty_row (row_of rows place) || is_marked old place)))
     here d =
-        let formula : a ≡ get_or fs place d = r ∙ get_or_default fs place a d l in
-        let list : row ≡ row_of rows place = s ∙ get_or_default rows place row [] k in
-        ap (λ ms. is_marked ms place) n ∙ at_place keeps refl
-        ∙ ap (λ b. b || is_marked old place) (e ∙ ap (λ x. everything || (is_goal x || is_empty_row row)) formula ∙ ap (λ x. everything || (is_goal (get_or fs place d) || is_empty_row x)) list)
+        ap (λ ms. is_marked ms place) n ∙ at_place keeps ∙ ap (λ b. b || is_marked old place) (e d)
         ∙ chain everything (is_goal (get_or fs place d)) (is_empty_row (row_of rows place)) (is_marked old place)
 
     done : (i : ℕ) (d : Annotated) → i < place + 1 → is_marked new i ≡ (everything || (is_goal (get_or fs i d) || (is_empty_row (row_of rows i) || is_marked old i)))

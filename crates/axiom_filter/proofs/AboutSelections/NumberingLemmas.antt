@@ -277,23 +277,21 @@ pub passing-neighbours :
 passing-neighbours p [] before [] l = refl
 passing-neighbours p [] before (a ∷ fs) l = absurd (omega (arith, l))
 passing-neighbours p (row ∷ rows) before [] l = absurd (omega (arith, l))
-passing-neighbours p (row ∷ rows) before (a ∷ fs) l = by (p a)
+passing-neighbours p (row ∷ rows) before (a ∷ fs) l =
+    let moved : length (before ++ row ∷ []) ≡ suc (length before) = omega (arith, length_push before row) in
+    by (p a)
+    (ap (λ k. flat_map (row_of (before ++ row ∷ rows)) (places_from k p fs)) (sym moved)
+    ∙ ap (λ ts. flat_map (row_of ts) (places_from (length (before ++ row ∷ [])) p fs)) (sym (append_assoc before (row ∷ []) rows))
+    ∙ passing-neighbours p rows (before ++ row ∷ []) fs (omega (arith, l)))
   where
-    rest : flat_map (row_of (before ++ row ∷ rows)) (places_from (suc (length before)) p fs) ≡ flat_rows p rows fs
-    rest =
-        let moved : length (before ++ row ∷ []) ≡ suc (length before) = omega (arith, length_push before row) in
-        ap (λ k. flat_map (row_of (before ++ row ∷ rows)) (places_from k p fs)) (sym moved)
-        ∙ ap (λ ts. flat_map (row_of ts) (places_from (length (before ++ row ∷ [])) p fs)) (sym (append_assoc before (row ∷ []) rows))
-        ∙ passing-neighbours p rows (before ++ row ∷ []) fs (omega (arith, l))
-
     by :
-        (b : Bool)
+        (b : Bool) → flat_map (row_of (before ++ row ∷ rows)) (places_from (suc (length before)) p fs) ≡ flat_rows p rows fs
         → flat_map (row_of (before ++ row ∷ rows)) (cond b (length before ∷ places_from (suc (length before)) p fs) (places_from (suc (length before)) p fs))
         ≡ cond b (row ++ flat_rows p rows fs) (flat_rows p rows fs)
-    by true =
+    by true rest =
         ap (λ xs. xs ++ flat_map (row_of (before ++ row ∷ rows)) (places_from (suc (length before)) p fs)) (get_or_at before row rows [] (length before) refl)
         ∙ ap (λ xs. row ++ xs) rest
-    by false = rest
+    by false rest = rest
 
 -- ---- the loops
 
@@ -332,12 +330,12 @@ pub rows-done :
     (known : List Symbol) (fs : List Annotated) (i : ℕ) (rows total : List (List ℕ))
     → length fs ≤ i → rows ++ formula_rows known (drop i fs) ≡ total → rows ≡ total
 rows-done known fs i rows total l h =
-    sym (append-nil rows) ∙ ap (λ gs. rows ++ formula_rows known gs) (sym (drop_all fs i l)) ∙ h
+    sym (append-nil rows) ∙ ap (λ gs. rows ++ formula_rows known gs) (sym (drop_all i fs l)) ∙ h
 
 pub known-done :
     (known : List Symbol) (fs : List Annotated) (i : ℕ) (total : List Symbol)
     → length fs ≤ i → fold with_symbol known (flat_map annotated_symbols (drop i fs)) ≡ total → known ≡ total
-known-done known fs i total l h = ap (λ gs. fold with_symbol known (flat_map annotated_symbols gs)) (sym (drop_all fs i l)) ∙ h
+known-done known fs i total l h = ap (λ gs. fold with_symbol known (flat_map annotated_symbols gs)) (sym (drop_all i fs l)) ∙ h
 
 -- ---- the rows of a problem
 

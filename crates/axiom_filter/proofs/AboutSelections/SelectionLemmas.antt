@@ -97,8 +97,8 @@ length-places first test (x ∷ xs) = by (test x) refl (length-places (suc first
     by :
         (b : Bool) → test x ≡ b → length (places_from (suc first) test xs) ≡ count_by test xs
         → length (cond b (first ∷ places_from (suc first) test xs) (places_from (suc first) test xs)) ≡ count_by test (x ∷ xs)
-    by true e h = omega (arith, h, sum_by-cons (λ y. cond (test y) 1 0) x xs, ap (λ b. cond b 1 0) e)
-    by false e h = omega (arith, h, sum_by-cons (λ y. cond (test y) 1 0) x xs, ap (λ b. cond b 1 0) e)
+    by true e h = omega (arith, h, sum_by-cons (λ y. cond (test y) 1 0) x xs, ap {B = ℕ} (λ b. cond b 1 0) e)
+    by false e h = omega (arith, h, sum_by-cons (λ y. cond (test y) 1 0) x xs, ap {B = ℕ} (λ b. cond b 1 0) e)
 
 count-fits :
     (final : List Symbol) (rows : List (List ℕ)) (fs : List Annotated) (n : ℕ) → AreDifferent final → n < length final → Fits final rows fs
@@ -114,7 +114,7 @@ count-fits final (row ∷ rows) (a ∷ fs) n d l h =
         sum_by-cons (λ r. cond (has_number n r) 1 0) row rows in
     let right : occurrence_count (a ∷ fs) (symbol_at final n) ≡ cond (occurs (symbol_at final n) a) 1 0 + occurrence_count fs (symbol_at final n) =
         sum_by-cons (λ b. cond (occurs (symbol_at final n) b) 1 0) a fs in
-    omega (arith, left, right, there, ap (λ b. cond b 1 0) here)
+    omega (arith, left, right, there, ap {B = ℕ} (λ b. cond b 1 0) here)
 
 -- ---- what the walk knows
 
@@ -236,7 +236,7 @@ triggered-is tolerance fs final rows index triggered n f d t l k =
     listed : has_number f (row_of index n) ≡ occurs s a
     listed =
         ap (has_number f) ((t.index_is).lists n l)
-        ∙ has-place 0 (has_number n) rows f [] inside
+        ∙ ap (λ k. has_number k (rows_with n rows)) (sym (zero-add f)) ∙ has-place 0 (has_number n) rows f [] inside
         ∙ has-stands final n (row_of rows f) t.different l stands.below
         ∙ ap (has_symbol s) stands.symbols
 
