@@ -40,11 +40,7 @@ pub(crate) fn numbered(alloc: Global, formulas: &[Annotated]) -> Mem<Rows>
 }
 
 /// The numbers of a formula's symbols; new ones become known.
-fn formula_row(
-    alloc: Global,
-    formula: &Formula,
-    known: &mut IndexSet<Symbol>,
-) -> Mem<Numbers>
+fn formula_row(alloc: Global, formula: &Formula, known: &mut IndexSet<Symbol>) -> Mem<Numbers>
     ensures row { IfOk result (λ row. row ≡ met_numbers known.old.keys (formula_symbols (formula_of formula.now))) }
     ensures known { IfOk result (λ _. known.new.keys ≡ fold with_symbol known.old.keys (formula_symbols (formula_of formula.now))) }
 {
@@ -94,7 +90,13 @@ fn push_term_symbols(alloc: Global, term: &TreeTerm, symbols: &mut SymbolList) -
         TreeTerm::Var(_) => Ok(()),
         TreeTerm::App(name, arguments) => {
             let arguments = arguments.as_slice();
-            push_head(alloc, SymbolKind::Function, name.as_slice(), arguments, symbols)?;
+            push_head(
+                alloc,
+                SymbolKind::Function,
+                name.as_slice(),
+                arguments,
+                symbols,
+            )?;
             push_terms_symbols(alloc, arguments, symbols)
         }
     }
@@ -120,7 +122,13 @@ fn push_formula_symbols(alloc: Global, formula: &Formula, symbols: &mut SymbolLi
         Formula::True | Formula::False => Ok(()),
         Formula::Pred(name, arguments) => {
             let arguments = arguments.as_slice();
-            push_head(alloc, SymbolKind::Predicate, name.as_slice(), arguments, symbols)?;
+            push_head(
+                alloc,
+                SymbolKind::Predicate,
+                name.as_slice(),
+                arguments,
+                symbols,
+            )?;
             push_terms_symbols(alloc, arguments, symbols)
         }
         Formula::Equal(left, right) | Formula::NotEqual(left, right) => {
@@ -147,11 +155,7 @@ fn push_formula_symbols(alloc: Global, formula: &Formula, symbols: &mut SymbolLi
 
 /// Adds those of formulas.
 #[cycle(push_formula_symbols)]
-fn push_formulas_symbols(
-    alloc: Global,
-    formulas: &[Formula],
-    symbols: &mut SymbolList,
-) -> Mem<()>
+fn push_formulas_symbols(alloc: Global, formulas: &[Formula], symbols: &mut SymbolList) -> Mem<()>
     ensures { IfOk result (λ _. symbols.new ≡ symbols.old ++ formulas_symbols (formulas_of (map formula_of formulas.now))) }
 {
     for formula in formulas {

@@ -6,9 +6,7 @@ use plain_types::{Numbers, Text};
 use sample::Random;
 use std::alloc::Global;
 use std::process::Abort;
-use tptp_tree::{
-    Annotated, AnnotatedList, FileName, Formula, Formulas, Problem, Role, TreeTerms,
-};
+use tptp_tree::{Annotated, AnnotatedList, FileName, Formula, Formulas, Problem, Role, TreeTerms};
 
 /// A formula that has one nullary predicate for each symbol, named by its number.
 fn formula_of(rt: &impl Abort, alloc: Global, symbols: &Numbers) -> Formula {
@@ -29,7 +27,11 @@ fn problem_of(rt: &impl Abort, alloc: Global, outlines: &[Outline]) -> Problem {
     for outline in outlines {
         let annotated = Annotated {
             name: Text::new(alloc),
-            role: if outline.goal { Role::NegatedConjecture } else { Role::Axiom },
+            role: if outline.goal {
+                Role::NegatedConjecture
+            } else {
+                Role::Axiom
+            },
             clause: false,
             formula: formula_of(rt, alloc, &outline.symbols),
             file: FileName::empty(),

@@ -59,12 +59,12 @@ part-passes {X} passes test (n ∷ ns) (x ∷ xs) h =
 
 pub parts_are_inputs : PartsAreInputs
 parts_are_inputs = record {
-    canonical = λ kept origins clauses h. part-all IsCanonical (is_among kept) origins clauses h;
-    no_names = λ kept origins clauses h. part-all (λ (c : TreeClause). c.names ≡ []) (is_among kept) origins clauses h;
-    small = λ kept origins clauses h. part-all (λ (c : TreeClause). clause_size c ≤ MOST_SYMBOLS) (is_among kept) origins clauses h;
-    few = λ kept origins clauses. part-few (is_among kept) origins clauses;
-    well_formed = λ kept origins clauses w. (record { usage = w.usage; used = part-passes (λ (c : TreeClause). are_literals_of w.usage c.literals) (is_among kept) origins clauses w.used }, refl);
-  }
+  canonical = λ kept origins clauses h. part-all IsCanonical (is_among kept) origins clauses h;
+  no_names = λ kept origins clauses h. part-all (λ (c : TreeClause). c.names ≡ []) (is_among kept) origins clauses h;
+  small = λ kept origins clauses h. part-all (λ (c : TreeClause). clause_size c ≤ MOST_SYMBOLS) (is_among kept) origins clauses h;
+  few = λ kept origins clauses. part-few (is_among kept) origins clauses;
+  well_formed = λ kept origins clauses w. (record { usage = w.usage; used = part-passes (λ (c : TreeClause). are_literals_of w.usage c.literals) (is_among kept) origins clauses w.used }, refl);
+}
 
 -- a clause of the part is the clause of the form with its number
 part-entry :

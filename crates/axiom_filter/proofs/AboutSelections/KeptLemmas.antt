@@ -98,11 +98,11 @@ kept-more everything fs rows place old marks new keeps m e n is = record { done 
 
     done : (i : ℕ) (d : Annotated) → i < place + 1 → is_marked new i ≡ (everything || (is_goal (get_or fs i d) || (is_empty_row (row_of rows i) || is_marked old i)))
     done i d h = elim (cases_lt i place) [
-        inl j ↦ ap (λ ms. is_marked ms i) n ∙ elsewhere keeps i (λ same. omega (arith, j, same)) ∙ is.done i d j
+      | inl j ↦ ap (λ ms. is_marked ms i) n ∙ elsewhere keeps i (λ same. omega (arith, j, same)) ∙ is.done i d j
       | inr j ↦
           let same : place ≡ i = omega (arith, h, j) in
           subst (λ x. is_marked new x ≡ (everything || (is_goal (get_or fs x d) || (is_empty_row (row_of rows x) || is_marked old x)))) same (here d)
-      ]
+    ]
 
     left : (i : ℕ) → place + 1 ≤ i → is_marked new i ≡ is_marked old i
     left i h = ap (λ ms. is_marked ms i) n ∙ elsewhere keeps i (λ same. omega (arith, h, same)) ∙ is.left i (omega (arith, h))
@@ -119,11 +119,11 @@ pub kept-marks :
 kept-marks tolerance depth fs final rows index triggered everything taken marks t every walked marked count =
     kept-lists fs marks count
     (λ n d l.
-      marked n d l
-      ∙ ap (λ b. b || (is_goal (get_or fs n d) || (is_empty_row (row_of rows n) || is_marked taken n))) every
-      ∙ ap (λ b. not (list_any is_goal fs) || (is_goal (get_or fs n d) || (b || is_marked taken n))) (empty-stands final (row_of rows n) (get_or fs n d) (row-fits final rows fs n d t.fits l))
-      ∙ ap (λ b. not (list_any is_goal fs) || (is_goal (get_or fs n d) || (has_no_symbols (get_or fs n d) || b)))
-        (walked n ∙ taken-agree tolerance fs final rows index triggered d depth n t l))
+    marked n d l
+    ∙ ap (λ b. b || (is_goal (get_or fs n d) || (is_empty_row (row_of rows n) || is_marked taken n))) every
+    ∙ ap (λ b. not (list_any is_goal fs) || (is_goal (get_or fs n d) || (b || is_marked taken n))) (empty-stands final (row_of rows n) (get_or fs n d) (row-fits final rows fs n d t.fits l))
+    ∙ ap (λ b. not (list_any is_goal fs) || (is_goal (get_or fs n d) || (has_no_symbols (get_or fs n d) || b)))
+    (walked n ∙ taken-agree tolerance fs final rows index triggered d depth n t l))
   where
     -- lists of marks are equal where they agree at each formula
     kept-lists :

@@ -96,11 +96,10 @@ number-stands known final s h = by (has_symbol s known) refl h
     new : number_of known s ≡ length known → (more : List Symbol) → final ≡ (known ++ s ∷ []) ++ more
         → (number_of known s < length final) × (symbol_at final (number_of known s) ≡ s)
     new e more is =
-        let inside : length known < length (known ++ s ∷ []) = omega (arith, length_push known s) in
-        (
+        let inside : length known < length (known ++ s ∷ []) = omega (arith, length_push known s) in (
           omega (arith, e, ap length is, length-append (known ++ s ∷ []) more, length_push known s),
           ap (λ ks. symbol_at ks (number_of known s)) is ∙ ap (symbol_at ((known ++ s ∷ []) ++ more)) e
-          ∙ get_or_append_left (known ++ s ∷ []) more true_symbol (length known) inside ∙ get_or_push known s true_symbol (length known) refl,
+              ∙ get_or_append_left (known ++ s ∷ []) more true_symbol (length known) inside ∙ get_or_push known s true_symbol (length known) refl,
         )
 
     by : (b : Bool) → has_symbol s known ≡ b → Extends (if b then known else known ++ s ∷ []) final → (number_of known s < length final) × (symbol_at final (number_of known s) ≡ s)
@@ -123,9 +122,9 @@ met-stand known (s ∷ ss) final h =
     by : (number_of known s < length final) × (symbol_at final (number_of known s) ≡ s) → Stands final (met_numbers (with_symbol known s) ss) ss
         → Stands final (number_of known s ∷ met_numbers (with_symbol known s) ss) (s ∷ ss)
     by (l, e) rest = record {
-        below = All-cons (λ n. n < length final) (number_of known s) (met_numbers (with_symbol known s) ss) l rest.below;
-        symbols = ap (λ x. x ∷ map (symbol_at final) (met_numbers (with_symbol known s) ss)) e ∙ ap (λ xs. s ∷ xs) rest.symbols;
-      }
+      below = All-cons (λ n. n < length final) (number_of known s) (met_numbers (with_symbol known s) ss) l rest.below;
+      symbols = ap (λ x. x ∷ map (symbol_at final) (met_numbers (with_symbol known s) ss)) e ∙ ap (λ xs. s ∷ xs) rest.symbols;
+    }
 
 -- each row stands for the symbols of its formula
 abbrev pub Fits : List Symbol → List (List ℕ) → List Annotated → Type 0
@@ -139,8 +138,7 @@ rows-fit known [] final h = tt
 rows-fit known (a ∷ fs) final h =
     let met = fold with_symbol known (annotated_symbols a) in
     let rest : Extends (fold with_symbol met (flat_map annotated_symbols fs)) final =
-        subst (λ ks. Extends ks final) (folded known (annotated_symbols a) (flat_map annotated_symbols fs)) h in
-    (
+    subst (λ ks. Extends ks final) (folded known (annotated_symbols a) (flat_map annotated_symbols fs)) h in (
       met-stand known (annotated_symbols a) final (extends-then met (fold with_symbol met (flat_map annotated_symbols fs)) final (extends-fold met (flat_map annotated_symbols fs)) rest),
       rows-fit met fs final rest,
     )
@@ -265,9 +263,9 @@ passing-stand final p (row ∷ rows) (a ∷ fs) h = by (p a) h.0 (passing-stand 
     by : (b : Bool) → Stands final row (annotated_symbols a) → Stands final (flat_rows p rows fs) (flat_map annotated_symbols (filter p fs))
         → Stands final (cond b (row ++ flat_rows p rows fs) (flat_rows p rows fs)) (flat_map annotated_symbols (cond b (a ∷ filter p fs) (filter p fs)))
     by true s rest = record {
-        below = All-append (λ n. n < length final) row (flat_rows p rows fs) s.below rest.below;
-        symbols = map-append (symbol_at final) row (flat_rows p rows fs) ∙ ap (λ xs. xs ++ map (symbol_at final) (flat_rows p rows fs)) s.symbols ∙ ap (λ xs. annotated_symbols a ++ xs) rest.symbols;
-      }
+      below = All-append (λ n. n < length final) row (flat_rows p rows fs) s.below rest.below;
+      symbols = map-append (symbol_at final) row (flat_rows p rows fs) ∙ ap (λ xs. xs ++ map (symbol_at final) (flat_rows p rows fs)) s.symbols ∙ ap (λ xs. annotated_symbols a ++ xs) rest.symbols;
+    }
     by false s rest = rest
 
 -- what the rows at the places of such formulas have

@@ -53,7 +53,7 @@ has-place {X} first test (x ∷ xs) zero d l = by (test x) (earlier (suc first) 
 has-place first test (x ∷ xs) (suc i) d l =
     let moved : suc first + i ≡ first + suc i = omega arith in
     let rest : has_number (first + suc i) (places_from (suc first) test xs) ≡ test (get_or xs i d) =
-        ap (λ k. has_number k (places_from (suc first) test xs)) (sym moved) ∙ has-place (suc first) test xs i d (omega arith) in
+    ap (λ k. has_number k (places_from (suc first) test xs)) (sym moved) ∙ has-place (suc first) test xs i d (omega arith) in
     by (test x) rest
   where
     other : (first + suc i == first) ≡ false
@@ -108,12 +108,12 @@ count-fits final [] (a ∷ fs) n d l h = absurd h
 count-fits final (row ∷ rows) [] n d l h = absurd h
 count-fits final (row ∷ rows) (a ∷ fs) n d l h =
     let here : has_number n row ≡ occurs (symbol_at final n) a =
-        has-stands final n row d l (h.0).below ∙ ap (has_symbol (symbol_at final n)) (h.0).symbols in
+    has-stands final n row d l (h.0).below ∙ ap (has_symbol (symbol_at final n)) (h.0).symbols in
     let there : count_by (has_number n) rows ≡ occurrence_count fs (symbol_at final n) = count-fits final rows fs n d l h.1 in
     let left : count_by (has_number n) (row ∷ rows) ≡ cond (has_number n row) 1 0 + count_by (has_number n) rows =
-        sum_by-cons (λ r. cond (has_number n r) 1 0) row rows in
+    sum_by-cons (λ r. cond (has_number n r) 1 0) row rows in
     let right : occurrence_count (a ∷ fs) (symbol_at final n) ≡ cond (occurs (symbol_at final n) a) 1 0 + occurrence_count fs (symbol_at final n) =
-        sum_by-cons (λ b. cond (occurs (symbol_at final n) b) 1 0) a fs in
+    sum_by-cons (λ b. cond (occurs (symbol_at final n) b) 1 0) a fs in
     omega (arith, left, right, there, ap {B = ℕ} (λ b. cond b 1 0) here)
 
 -- ---- what the walk knows
@@ -285,8 +285,8 @@ neighbours-below bound table (x ∷ from) h =
 pub index-below : (symbols : ℕ) (rows index : List (List ℕ)) → IsIndex symbols rows index → AreRowsBelow (length rows) index
 index-below symbols rows index is =
     All-from_get_or (AreBelow (length rows)) index [] (λ n h.
-      subst (AreBelow (length rows)) (sym (is.lists n (omega (arith, h, is.count))))
-      (subst (λ k. AreBelow k (rows_with n rows)) (zero-add (length rows)) (places-below 0 (has_number n) rows)))
+    subst (AreBelow (length rows)) (sym (is.lists n (omega (arith, h, is.count))))
+    (subst (λ k. AreBelow k (rows_with n rows)) (zero-add (length rows)) (places-below 0 (has_number n) rows)))
 
 pub triggered-below : (bound tolerance : ℕ) (rarest : List ℕ) (index : List (List ℕ)) → AreRowsBelow bound index → AreRowsBelow bound (map (rare_enough tolerance rarest) index)
 triggered-below bound tolerance rarest [] h = All-nil (AreBelow bound)
@@ -325,7 +325,7 @@ triggered-agree tolerance fs final rows index triggered numbers symbols f d t g 
     let p : Symbol → Bool = λ s. triggers tolerance fs s (get_or fs f d) in
     any-flat (λ m. f == m) (row_of triggered) numbers
     ∙ any-agree (λ n. n < length final) (λ n. has_number f (row_of triggered n)) (λ n. p (symbol_at final n)) numbers
-      (λ n h. triggered-is tolerance fs final rows index triggered n f d t h l) g.below
+    (λ n h. triggered-is tolerance fs final rows index triggered n f d t h l) g.below
     ∙ sym (any-map p (symbol_at final) numbers)
     ∙ any-members p (map (symbol_at final) numbers) symbols g.members
 
@@ -375,11 +375,11 @@ agree-append final ns ms ss ts f g =
     record {
       below = All-append (λ k. k < length final) ns ms f.below g.below;
       members = λ s.
-        ap (has_symbol s) (map-append (symbol_at final) ns ms)
-        ∙ list_any-append (same_symbol s) (map (symbol_at final) ns) (map (symbol_at final) ms)
-        ∙ ap (λ t. t || has_symbol s (map (symbol_at final) ms)) (f.members s)
-        ∙ ap (λ t. has_symbol s ss || t) (g.members s)
-        ∙ sym (list_any-append (same_symbol s) ss ts);
+          ap (has_symbol s) (map-append (symbol_at final) ns ms)
+          ∙ list_any-append (same_symbol s) (map (symbol_at final) ns) (map (symbol_at final) ms)
+          ∙ ap (λ t. t || has_symbol s (map (symbol_at final) ms)) (f.members s)
+          ∙ ap (λ t. has_symbol s ss || t) (g.members s)
+          ∙ sym (list_any-append (same_symbol s) ss ts);
     }
 
 tables-below :
@@ -401,7 +401,7 @@ levels-agree tolerance fs final rows index triggered d zero t =
     (λ i l. has-place-at is_goal fs i d l)
 levels-agree tolerance fs final rows index triggered d (suc level) t =
     let before : Agree final (reached_numbers rows triggered (places_from 0 is_goal fs) level) (reached tolerance fs level) =
-        levels-agree tolerance fs final rows index triggered d level t in
+    levels-agree tolerance fs final rows index triggered d level t in
     agree-append final _ _ _ _ before
     (passing-agree final rows fs (is_triggered tolerance fs (reached tolerance fs level)) (neighbours triggered (reached_numbers rows triggered (places_from 0 is_goal fs) level)) d t.fits
     (tables-below tolerance fs final rows index triggered _ t)
@@ -418,5 +418,5 @@ taken-agree tolerance fs final rows index triggered d (suc level) f t l =
     has-append f (taken_numbers rows triggered goals level) (neighbours triggered (reached_numbers rows triggered goals level))
     ∙ ap (λ b. b || has_number f (neighbours triggered (reached_numbers rows triggered goals level))) (taken-agree tolerance fs final rows index triggered d level f t l)
     ∙ ap (λ b. is_taken tolerance fs level (get_or fs f d) || b)
-      (triggered-agree tolerance fs final rows index triggered (reached_numbers rows triggered goals level) (reached tolerance fs level) f d t
-      (levels-agree tolerance fs final rows index triggered d level t) l)
+    (triggered-agree tolerance fs final rows index triggered (reached_numbers rows triggered goals level) (reached tolerance fs level) f d t
+    (levels-agree tolerance fs final rows index triggered d level t) l)

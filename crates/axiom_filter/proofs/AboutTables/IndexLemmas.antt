@@ -25,7 +25,7 @@ places-end first test (y ∷ xs) x =
     let rest = places-end (suc first) test xs x in
     let moved : suc first + length xs ≡ first + suc (length xs) = omega arith in
     let end : places_from (suc first) test (xs ++ x ∷ []) ≡ places_from (suc first) test xs ++ cond (test x) ((first + suc (length xs)) ∷ []) [] =
-        rest ∙ ap (λ n. places_from (suc first) test xs ++ cond (test x) (n ∷ []) []) moved in
+    rest ∙ ap (λ n. places_from (suc first) test xs ++ cond (test x) (n ∷ []) []) moved in
     by (test y) end
   where
     by :
@@ -158,7 +158,7 @@ entered-again place y row old cur new l is ends = record { count = is.count; lis
         is.lists n h ∙ ap (λ t. row_of old n ++ cond t (place ∷ []) []) has
     by n h false e =
         let has : has_number n row ≡ has_number n (row ++ y ∷ []) =
-            sym (or-false (has_number n row)) ∙ ap (λ t. has_number n row || t) (sym e) ∙ sym (has-end n y row) in
+        sym (or-false (has_number n row)) ∙ ap (λ t. has_number n row || t) (sym e) ∙ sym (has-end n y row) in
         is.lists n h ∙ ap (λ t. row_of old n ++ cond t (place ∷ []) []) has
 
 -- a number that comes for the first time
@@ -196,7 +196,7 @@ entered-first place y row old cur l is ends =
         ∙ ap (λ t. row_of old n ++ cond t (place ∷ []) []) (sym has)
     by n h false e =
         let has : has_number n row ≡ has_number n (row ++ y ∷ []) =
-            sym (or-false (has_number n row)) ∙ ap (λ t. has_number n row || t) (sym e) ∙ sym (has-end n y row) in
+        sym (or-false (has_number n row)) ∙ ap (λ t. has_number n row || t) (sym e) ∙ sym (has-end n y row) in
         get_or-set_other cur y n (row_of cur y ++ place ∷ []) [] (other n e)
         ∙ is.lists n h ∙ ap (λ t. row_of old n ++ cond t (place ∷ []) []) has
 
@@ -216,9 +216,9 @@ pub record IsIndex (symbols : ℕ) (rows : List (List ℕ)) (index : List (List 
 -- the place of the next row ends no list
 pub index-is-before : (symbols : ℕ) (rows index : List (List ℕ)) → IsIndex symbols rows index → (n : ℕ) → ends_with_number (row_of index n) (length rows) ≡ false
 index-is-before symbols rows index is n = elim (cases_lt n symbols) [
-    inl h ↦ ap (λ ns. ends_with_number ns (length rows)) (is.lists n h) ∙ ends-below (rows_with n rows) (length rows) (subst (λ k. AreBelow k (rows_with n rows)) (zero-add (length rows)) (places-below 0 (has_number n) rows))
+  | inl h ↦ ap (λ ns. ends_with_number ns (length rows)) (is.lists n h) ∙ ends-below (rows_with n rows) (length rows) (subst (λ k. AreBelow k (rows_with n rows)) (zero-add (length rows)) (places-below 0 (has_number n) rows))
   | inr h ↦ ap (λ ns. ends_with_number ns (length rows)) (get_or_past index n [] (omega (arith, h, is.count)))
-  ]
+]
 
 pub index-none : (symbols : ℕ) (index : List (List ℕ)) → length index ≡ symbols → ((n : ℕ) → row_of index n ≡ []) → IsIndex symbols [] index
 index-none symbols index l e = record { count = l; lists = λ n h. e n }
@@ -232,10 +232,10 @@ index-more symbols rows row old new is count lists =
     record {
       count = count ∙ is.count;
       lists = λ n h.
-        lists n (omega (arith, h, is.count))
-        ∙ ap (λ ns. ns ++ cond (has_number n row) (length rows ∷ []) []) (is.lists n h)
-        ∙ ap (λ k. rows_with n rows ++ cond (has_number n row) (k ∷ []) []) (sym (zero-add (length rows)))
-        ∙ sym (places-end 0 (has_number n) rows row);
+          lists n (omega (arith, h, is.count))
+          ∙ ap (λ ns. ns ++ cond (has_number n row) (length rows ∷ []) []) (is.lists n h)
+          ∙ ap (λ k. rows_with n rows ++ cond (has_number n row) (k ∷ []) []) (sym (zero-add (length rows)))
+          ∙ sym (places-end 0 (has_number n) rows row);
     }
 
 -- the step of the loop over the rows

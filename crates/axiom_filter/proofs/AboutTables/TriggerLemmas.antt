@@ -17,7 +17,7 @@ pub least-more :
     → min (min least count) (least_length index (drop (i + 1) row)) ≡ min least (least_length index (drop i row))
 least-more index row i least count list l inside r c =
     let next : least_length index (drop i row) ≡ min (length (row_of index (get_or row i 0))) (least_length index (drop (i + 1) row)) =
-        ap (least_length index) (drop_more row i 0 l) in
+    ap (least_length index) (drop_more row i 0 l) in
     let same : count ≡ length (row_of index (get_or row i 0)) = c ∙ ap length (get_or_read index (get_or row i 0) list inside r []) in
     omega (arith, next, same)
 

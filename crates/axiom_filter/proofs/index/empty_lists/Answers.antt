@@ -9,9 +9,9 @@ loop-i-init c = record { count = ap length c.in_ok-lists.ensures.items; empty = 
 
 pub loop-i-preserved : goal.loop-i-preserved
 loop-i-preserved c = record {
-    count = omega (arith, ap length c.in_ok-push.ensures.items, length_push c.loop-i.lists.items c.new.result, c.loop-i.invariant.count);
-    empty = λ n. ap (λ (ls : List (List ℕ)). row_of ls n) c.in_ok-push.ensures.items ∙ empty-push c.loop-i.lists.items c.new.result n c.loop-i.invariant.empty c.new.ensures;
-  }
+  count = omega (arith, ap length c.in_ok-push.ensures.items, length_push c.loop-i.lists.items c.new.result, c.loop-i.invariant.count);
+  empty = λ n. ap (λ (ls : List (List ℕ)). row_of ls n) c.in_ok-push.ensures.items ∙ empty-push c.loop-i.lists.items c.new.result n c.loop-i.invariant.empty c.new.ensures;
+}
 
 pub returns-clause-count : goal.returns-clause-count
 returns-clause-count c = omega arith

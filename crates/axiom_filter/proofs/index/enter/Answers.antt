@@ -16,7 +16,7 @@ offset_bounds-index-symbol c = record { fits = omega (arith, c.requires.row c.lo
 pub loop-symbol-preserved : goal.loop-symbol-preserved
 loop-symbol-preserved c =
     let inside : get_or c.args.row.now c.loop-symbol.symbol-index 0 < length c.args.index.now =
-        omega (arith, c.requires.row c.loop-symbol.symbol-index 0 c.loop-symbol-test.true) in
+    omega (arith, c.requires.row c.loop-symbol.symbol-index 0 c.loop-symbol-test.true) in
     elim c.if-not-ends_with.branch [
       | then-not-ends_with+in_ok-push w ↦
           enter-pushed c.args.place c.loop-symbol.symbol-index c.args.row.now c.args.index.now c.loop-symbol.index c.if-not-ends_with.index

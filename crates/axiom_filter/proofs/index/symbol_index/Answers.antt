@@ -10,8 +10,8 @@ loop-place-init c = index-none c.args.symbols c.in_ok-index.index.items c.in_ok-
 pub enter-requires-clause-row : goal.enter-requires-clause-row
 enter-requires-clause-row c =
     let low : AreBelow c.args.symbols c.as_slice.result.now =
-        row-below c.args.symbols c.args.rows.now c.loop-place.place c.index-rows-place.result c.as_slice.result.now
-        c.requires c.loop-place-test.true c.index-rows-place.is c.as_slice.ensures in
+    row-below c.args.symbols c.args.rows.now c.loop-place.place c.index-rows-place.result c.as_slice.result.now
+    c.requires c.loop-place-test.true c.index-rows-place.is c.as_slice.ensures in
     λ k d h. omega (arith, low k d h, ap length c.as_mut_slice.ensures.value, c.loop-place.invariant.count)
 
 pub enter-requires-clause-new : goal.enter-requires-clause-new

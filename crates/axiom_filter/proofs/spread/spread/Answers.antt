@@ -6,9 +6,9 @@ use Rattle.axiom_filter.proofs.spread.spread.Goals as goal
 
 pub loop-number-init : goal.loop-number-init
 loop-number-init c = record {
-    spread = subst (λ ns. Spread [] c.args.marks.now [] c.args.marks.now ns) (sym c.new-found.ensures.items) (spread-none c.args.marks.now []);
-    below = subst (AreBelow (length c.args.marks.now)) (sym c.new-found.ensures.items) (λ k d h. absurd (omega arith));
-  }
+  spread = subst (λ ns. Spread [] c.args.marks.now [] c.args.marks.now ns) (sym c.new-found.ensures.items) (spread-none c.args.marks.now []);
+  below = subst (AreBelow (length c.args.marks.now)) (sym c.new-found.ensures.items) (λ k d h. absurd (omega arith));
+}
 
 pub bounds-table-number : goal.bounds-table-number
 bounds-table-number c = omega (arith, c.requires.from c.loop-number.number-index 0 c.loop-number-test.true)

@@ -16,22 +16,22 @@ bounds-marks-place-then-not-marks-place c = omega (arith, c.requires.row c.loop-
 pub loop-number-preserved : goal.loop-number-preserved
 loop-number-preserved c =
     let inside : get_or c.args.row.now c.loop-number.number-index 0 < length c.loop-number.marks =
-        omega (arith, c.requires.row c.loop-number.number-index 0 c.loop-number-test.true) in
+    omega (arith, c.requires.row c.loop-number.number-index 0 c.loop-number-test.true) in
     elim c.if-not-marks-place.branch [
       | then-not-marks-place+in_ok-push w ↦ record {
-            spread =
-                row-new c.args.row.now c.loop-number.number-index c.args.marks.now c.args.found.now.items _ _ _ _
-                c.loop-number-test.true inside w.if-not-marks-place.true w.marks-is (ap (λ (v : Vec ℕ Global). v.items) w.found-is ∙ w.in_ok-push.ensures.items) c.loop-number.invariant.spread;
-            below =
-                below-push c.loop-number.marks _ c.loop-number.found.items _ (get_or c.args.row.now c.loop-number.number-index 0)
-                inside w.marks-is (ap (λ (v : Vec ℕ Global). v.items) w.found-is ∙ w.in_ok-push.ensures.items) c.loop-number.invariant.below;
-          }
+        spread =
+            row-new c.args.row.now c.loop-number.number-index c.args.marks.now c.args.found.now.items _ _ _ _
+            c.loop-number-test.true inside w.if-not-marks-place.true w.marks-is (ap (λ (v : Vec ℕ Global). v.items) w.found-is ∙ w.in_ok-push.ensures.items) c.loop-number.invariant.spread;
+        below =
+            below-push c.loop-number.marks _ c.loop-number.found.items _ (get_or c.args.row.now c.loop-number.number-index 0)
+            inside w.marks-is (ap (λ (v : Vec ℕ Global). v.items) w.found-is ∙ w.in_ok-push.ensures.items) c.loop-number.invariant.below;
+      }
       | else-not-marks-place w ↦ record {
-            spread =
-                row-marked c.args.row.now c.loop-number.number-index c.args.marks.now c.args.found.now.items _ _ _ _
-                c.loop-number-test.true w.if-not-marks-place.false w.marks-is (ap (λ (v : Vec ℕ Global). v.items) w.found-is) c.loop-number.invariant.spread;
-            below = below-same c.loop-number.marks _ c.loop-number.found.items _ w.marks-is (ap (λ (v : Vec ℕ Global). v.items) w.found-is) c.loop-number.invariant.below;
-          }
+        spread =
+            row-marked c.args.row.now c.loop-number.number-index c.args.marks.now c.args.found.now.items _ _ _ _
+            c.loop-number-test.true w.if-not-marks-place.false w.marks-is (ap (λ (v : Vec ℕ Global). v.items) w.found-is) c.loop-number.invariant.spread;
+        below = below-same c.loop-number.marks _ c.loop-number.found.items _ w.marks-is (ap (λ (v : Vec ℕ Global). v.items) w.found-is) c.loop-number.invariant.below;
+      }
     ]
 
 pub returns-clause-marked : goal.returns-clause-marked

@@ -26,7 +26,7 @@ pub loop-place-preserved : goal.loop-place-preserved
 loop-place-preserved c =
     let place : ℕ = get_or c.args.places.now c.loop-place.place-index 0 in
     let product : c.from.result * c.from-in-loop-place.result ≡ c.args.tolerance * get_or c.args.rarest.now place 0 =
-        ap (λ k. k * c.from-in-loop-place.result) c.from.ensures ∙ ap (λ k. c.args.tolerance * k) c.from-in-loop-place.ensures in
+    ap (λ k. k * c.from-in-loop-place.result) c.from.ensures ∙ ap (λ k. c.args.tolerance * k) c.from-in-loop-place.ensures in
     elim c.if-count-from.branch [
       | then-count-from+in_ok-push w ↦
           filter-passes (passes c.args.places.now c.args.rarest.now c.args.tolerance) c.args.places.now c.loop-place.place-index c.loop-place.list c.if-count-from.list

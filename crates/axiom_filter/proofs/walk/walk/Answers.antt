@@ -6,9 +6,9 @@ use Rattle.axiom_filter.proofs.walk.walk.Goals as goal
 pub loop-level-preserved : goal.loop-level-preserved
 loop-level-preserved c =
     let taken_size : length c.spread-in-loop-level.new.marks ≡ c.loop-level.taken.len =
-        omega (arith, c.spread-in-loop-level.auto.marks, c.as_mut_slice-in-loop-level.ensures.len) in
+    omega (arith, c.spread-in-loop-level.auto.marks, c.as_mut_slice-in-loop-level.ensures.len) in
     let reached_size : length c.spread-in-loop-level-2.new.marks ≡ c.loop-level.reached.len =
-        omega (arith, c.spread-in-loop-level-2.auto.marks, c.as_mut_slice-in-loop-level-2.ensures.len) in
+    omega (arith, c.spread-in-loop-level-2.auto.marks, c.as_mut_slice-in-loop-level-2.ensures.len) in
     let taken_is = with_items_is c.loop-level.taken c.spread-in-loop-level.new.marks taken_size in
     let reached_is = with_items_is c.loop-level.reached c.spread-in-loop-level-2.new.marks reached_size in
     record {
