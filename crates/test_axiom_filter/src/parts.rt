@@ -1,9 +1,9 @@
-// A part of a form, and a derivation from it with the form's numbers.
+// A part of a form, and steps with the form's numbers.
 
 use crate::rows::problem_of;
 use axiom_filter::{reindex, restrict, select};
 use clausal_form::clausal;
-use kernel_steps::{Derivation, Line, Step};
+use kernel_steps::Step;
 use plain_types::Numbers;
 
 /// Of `p(a)`, `r(b)` with `s(b)`, and the goal, the second formula's two clauses are left out.
@@ -21,19 +21,15 @@ fn parts_of_forms_keep_their_numbers(rt: HostRuntime) {
     let part = restrict(alloc, &form, &kept).expect(&rt, "memory");
     assert!(rt; part.numbers.as_slice() == [0, 3].as_slice());
     assert_eq!(rt; part.clauses.len(), 2);
-    let mut lines = Derivation::new(alloc);
-    for (number, clause) in part.clauses.iter().enumerate() {
-        let clause = clause.copy(alloc).expect(&rt, "memory");
-        let step = Step::Clausify(number as u64);
-        lines.push(Line { step, clause }).expect(&rt, "memory");
-    }
-    let mut numbers = Numbers::new(alloc);
-    for number in [7u64, 9] {
-        numbers.push(number).expect(&rt, "memory");
-    }
-    assert_eq!(rt; lines.len(), 2);
-    let made = reindex(alloc, &lines, &numbers).expect(&rt, "memory");
-    for (line, wanted) in made.iter().zip([7u64, 9]) {
-        assert!(rt; matches!(line.step, Step::Clausify(number) if number == wanted));
-    }
+}
+
+#[test]
+fn steps_get_the_numbers_of_the_form(rt: HostRuntime) {
+    let alloc = rt.alloc();
+    let numbers = Numbers::from_slice(alloc, &[7, 9]).expect(&rt, "memory");
+    let steps = [Step::Clausify(1), Step::Input(1), Step::Clausify(0)];
+    let made = reindex(alloc, &steps, &numbers).expect(&rt, "memory");
+    assert_eq!(rt; made.len(), 3);
+    assert!(rt; matches!(made.first(), Some(Step::Clausify(9))));
+    assert!(rt; matches!(made.last(), Some(Step::Clausify(7))));
 }
