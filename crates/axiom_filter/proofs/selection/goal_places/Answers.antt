@@ -1,4 +1,4 @@
-use Rattle.std.proofs.Common.{◌≡◌, get_or, ap, sym, ◌∙◌}
+use Rattle.std.proofs.Common.{◌≡◌, get_or, sym, ◌∙◌}
 use Rattle.axiom_filter.specs.Selection.{is_goal}
 use Rattle.axiom_filter.proofs.AboutTables.IndexLemmas.{place-listed, place-skipped}
 use Rattle.axiom_filter.proofs.selection.goal_places.Goals as goal
@@ -7,7 +7,7 @@ use Rattle.axiom_filter.proofs.selection.goal_places.Goals.{then-is_goal+in_ok-p
 pub loop-place-preserved : goal.loop-place-preserved
 loop-place-preserved c =
     let read : is_goal (get_or c.args.formulas.now c.loop-place.place c.index-formulas-place.result) ≡ c.is_goal.result =
-    ap is_goal (sym c.index-formulas-place.is) ∙ sym c.is_goal.ensures in
+    sym c.is_goal.ensures in
     elim c.if-is_goal.branch [
       | then-is_goal+in_ok-push w ↦
           place-listed is_goal c.args.formulas.now c.loop-place.place c.index-formulas-place.result c.loop-place.goals c.if-is_goal.goals

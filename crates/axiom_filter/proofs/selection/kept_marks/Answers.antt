@@ -1,5 +1,4 @@
-use Rattle.std.proofs.Common.{Global, ◌≡◌, ℕ, ◌<◌, List, [], length, ap, sym, ◌∙◌, subst, arith}
-use Rattle.std.specs.declared.vec.Vec.{Vec}
+use Rattle.std.proofs.Common.{◌≡◌, ℕ, ◌<◌, List, [], length, ap, sym, ◌∙◌, subst, arith}
 use Rattle.std.proofs.lemmas.List.{length-map, with_items_is}
 use Rattle.axiom_filter.specs.Numbering.{formula_rows}
 use Rattle.axiom_filter.specs.Tables.{is_marked, row_of, rows_with, rare_enough, least_length, AreRowsBelow}
@@ -10,13 +9,13 @@ use Rattle.axiom_filter.proofs.selection.kept_marks.Goals as goal
 pub symbol_index-requires : goal.symbol_index-requires
 symbol_index-requires c =
     let rows_are : c.as_slice-rows.result.now ≡ formula_rows [] c.args.formulas.now =
-    c.as_slice-rows.ensures.value ∙ ap (λ (v : Vec (List ℕ) Global). v.items) c.in_ok-rows.rows-is ∙ c.in_ok-rows.ensures.rows in
+    c.as_slice-rows.ensures.value ∙ c.in_ok-rows.ensures.rows in
     rows-below c.args.formulas.now c.as_slice-rows.result.now c.in_ok-rows.field-0.symbols rows_are c.in_ok-rows.ensures.symbols
 
 pub rarest_counts-requires : goal.rarest_counts-requires
 rarest_counts-requires c =
     let rows_are : c.as_slice-rows.result.now ≡ formula_rows [] c.args.formulas.now =
-    c.as_slice-rows.ensures.value ∙ ap (λ (v : Vec (List ℕ) Global). v.items) c.in_ok-rows.rows-is ∙ c.in_ok-rows.ensures.rows in
+    c.as_slice-rows.ensures.value ∙ c.in_ok-rows.ensures.rows in
     let count : length c.as_slice-index.result.now ≡ c.in_ok-rows.field-0.symbols = ap length c.as_slice-index.ensures.value ∙ c.in_ok-index.ensures.symbols in
     let lists : (n : ℕ) → n < c.in_ok-rows.field-0.symbols → row_of c.as_slice-index.result.now n ≡ rows_with n c.as_slice-rows.result.now =
     λ n h. ap (λ (ts : List (List ℕ)). row_of ts n) c.as_slice-index.ensures.value ∙ c.in_ok-index.ensures.lists n h in
@@ -26,7 +25,7 @@ rarest_counts-requires c =
 pub triggered-requires : goal.triggered-requires
 triggered-requires c =
     let rows_are : c.as_slice-rows.result.now ≡ formula_rows [] c.args.formulas.now =
-    c.as_slice-rows.ensures.value ∙ ap (λ (v : Vec (List ℕ) Global). v.items) c.in_ok-rows.rows-is ∙ c.in_ok-rows.ensures.rows in
+    c.as_slice-rows.ensures.value ∙ c.in_ok-rows.ensures.rows in
     let count : length c.as_slice-index.result.now ≡ c.in_ok-rows.field-0.symbols = ap length c.as_slice-index.ensures.value ∙ c.in_ok-index.ensures.symbols in
     let lists : (n : ℕ) → n < c.in_ok-rows.field-0.symbols → row_of c.as_slice-index.result.now n ≡ rows_with n c.as_slice-rows.result.now =
     λ n h. ap (λ (ts : List (List ℕ)). row_of ts n) c.as_slice-index.ensures.value ∙ c.in_ok-index.ensures.lists n h in
@@ -40,7 +39,7 @@ triggered-requires c =
 pub walk-requires-clause-goals : goal.walk-requires-clause-goals
 walk-requires-clause-goals c =
     let rows_are : c.as_slice-rows.result.now ≡ formula_rows [] c.args.formulas.now =
-    c.as_slice-rows.ensures.value ∙ ap (λ (v : Vec (List ℕ) Global). v.items) c.in_ok-rows.rows-is ∙ c.in_ok-rows.ensures.rows in
+    c.as_slice-rows.ensures.value ∙ c.in_ok-rows.ensures.rows in
     let count : length c.as_slice-index.result.now ≡ c.in_ok-rows.field-0.symbols = ap length c.as_slice-index.ensures.value ∙ c.in_ok-index.ensures.symbols in
     let lists : (n : ℕ) → n < c.in_ok-rows.field-0.symbols → row_of c.as_slice-index.result.now n ≡ rows_with n c.as_slice-rows.result.now =
     λ n h. ap (λ (ts : List (List ℕ)). row_of ts n) c.as_slice-index.ensures.value ∙ c.in_ok-index.ensures.lists n h in
@@ -51,7 +50,7 @@ walk-requires-clause-goals c =
 pub walk-requires-clause-rows : goal.walk-requires-clause-rows
 walk-requires-clause-rows c =
     let rows_are : c.as_slice-rows.result.now ≡ formula_rows [] c.args.formulas.now =
-    c.as_slice-rows.ensures.value ∙ ap (λ (v : Vec (List ℕ) Global). v.items) c.in_ok-rows.rows-is ∙ c.in_ok-rows.ensures.rows in
+    c.as_slice-rows.ensures.value ∙ c.in_ok-rows.ensures.rows in
     let count : length c.as_slice-index.result.now ≡ c.in_ok-rows.field-0.symbols = ap length c.as_slice-index.ensures.value ∙ c.in_ok-index.ensures.symbols in
     let lists : (n : ℕ) → n < c.in_ok-rows.field-0.symbols → row_of c.as_slice-index.result.now n ≡ rows_with n c.as_slice-rows.result.now =
     λ n h. ap (λ (ts : List (List ℕ)). row_of ts n) c.as_slice-index.ensures.value ∙ c.in_ok-index.ensures.lists n h in
@@ -65,7 +64,7 @@ walk-requires-clause-rows c =
 pub walk-requires-clause-triggers : goal.walk-requires-clause-triggers
 walk-requires-clause-triggers c =
     let rows_are : c.as_slice-rows.result.now ≡ formula_rows [] c.args.formulas.now =
-    c.as_slice-rows.ensures.value ∙ ap (λ (v : Vec (List ℕ) Global). v.items) c.in_ok-rows.rows-is ∙ c.in_ok-rows.ensures.rows in
+    c.as_slice-rows.ensures.value ∙ c.in_ok-rows.ensures.rows in
     let count : length c.as_slice-index.result.now ≡ c.in_ok-rows.field-0.symbols = ap length c.as_slice-index.ensures.value ∙ c.in_ok-index.ensures.symbols in
     let lists : (n : ℕ) → n < c.in_ok-rows.field-0.symbols → row_of c.as_slice-index.result.now n ≡ rows_with n c.as_slice-rows.result.now =
     λ n h. ap (λ (ts : List (List ℕ)). row_of ts n) c.as_slice-index.ensures.value ∙ c.in_ok-index.ensures.lists n h in
@@ -76,19 +75,19 @@ walk-requires-clause-triggers c =
 pub mark_others-requires-clause-rows : goal.mark_others-requires-clause-rows
 mark_others-requires-clause-rows c =
     let rows_are : c.as_slice-rows.result.now ≡ formula_rows [] c.args.formulas.now =
-    c.as_slice-rows.ensures.value ∙ ap (λ (v : Vec (List ℕ) Global). v.items) c.in_ok-rows.rows-is ∙ c.in_ok-rows.ensures.rows in
+    c.as_slice-rows.ensures.value ∙ c.in_ok-rows.ensures.rows in
     rows-length c.args.formulas.now c.as_slice-rows.result.now rows_are
 
 pub mark_others-requires-clause-marks : goal.mark_others-requires-clause-marks
 mark_others-requires-clause-marks c =
     let rows_are : c.as_slice-rows.result.now ≡ formula_rows [] c.args.formulas.now =
-    c.as_slice-rows.ensures.value ∙ ap (λ (v : Vec (List ℕ) Global). v.items) c.in_ok-rows.rows-is ∙ c.in_ok-rows.ensures.rows in
+    c.as_slice-rows.ensures.value ∙ c.in_ok-rows.ensures.rows in
     ap length c.as_mut_slice.ensures.value ∙ c.in_ok-marks.ensures.count ∙ rows-length c.args.formulas.now c.as_slice-rows.result.now rows_are
 
 pub returns : goal.returns
 returns c =
     let rows_are : c.as_slice-rows.result.now ≡ formula_rows [] c.args.formulas.now =
-    c.as_slice-rows.ensures.value ∙ ap (λ (v : Vec (List ℕ) Global). v.items) c.in_ok-rows.rows-is ∙ c.in_ok-rows.ensures.rows in
+    c.as_slice-rows.ensures.value ∙ c.in_ok-rows.ensures.rows in
     let count : length c.as_slice-index.result.now ≡ c.in_ok-rows.field-0.symbols = ap length c.as_slice-index.ensures.value ∙ c.in_ok-index.ensures.symbols in
     let lists : (n : ℕ) → n < c.in_ok-rows.field-0.symbols → row_of c.as_slice-index.result.now n ≡ rows_with n c.as_slice-rows.result.now =
     λ n h. ap (λ (ts : List (List ℕ)). row_of ts n) c.as_slice-index.ensures.value ∙ c.in_ok-index.ensures.lists n h in

@@ -9,7 +9,7 @@ loop-place-preserved c =
     let mark : c.loop-place.place < length c.loop-place.marks = omega (arith, c.loop-place-test.true, c.requires.marks, c.loop-place.auto.marks) in
     let besides : IsKeptBesides c.if-everything.keeps c.args.everything c.args.formulas.now c.args.rows.now c.loop-place.place =
     elim c.if-everything.branch [
-      | then-everything w ↦ keeps-all c.if-everything.keeps c.args.everything c.args.formulas.now c.args.rows.now c.loop-place.place w.keeps-is w.if-everything.true
+      | then-everything w ↦ keeps-all c.if-everything.keeps c.args.everything c.args.formulas.now c.args.rows.now c.loop-place.place (w.keeps-is ∙ w.if-everything.true) w.if-everything.true
       | else-everything w ↦
           keeps-some c.if-everything.keeps c.args.everything w.is_kept_always-keeps.result c.args.formulas.now c.args.rows.now c.loop-place.place
           w.index-formulas-place.result w.index-rows-place.result c.loop-place-test.true row w.index-formulas-place.is w.index-rows-place.is
