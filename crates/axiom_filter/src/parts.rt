@@ -7,7 +7,6 @@ ghost use Rattle.axiom_filter.specs.Restriction.{beside, kept_clauses, kept_numb
 ghost use Rattle.axiom_filter.specs.Places.{places_from};
 ghost use Rattle.axiom_filter.specs.Tables.{has_number};
 
-use clausal_form::Clausal;
 use fol_base::{Clause, Clauses};
 use kernel_steps::Step;
 use plain_types::{Mem, Numbers};
@@ -21,15 +20,20 @@ pub struct Restricted {
     pub numbers: Numbers,
 }
 
-/// The clauses of a form whose origin is kept, in the form's order.
-pub fn restrict(alloc: Global, form: &Clausal, kept: &Numbers) -> Mem<Restricted>
-    ensures clauses { IfOk result (λ part. map clause_of part.clauses ≡ kept_clauses kept.now form.now.origins (map clause_of form.now.clauses)) }
-    ensures numbers { IfOk result (λ part. part.numbers ≡ kept_numbers kept.now form.now.origins) }
+/// The clauses of a form whose origin is kept, in the form's order. An origin is the place of the formula from which a clause comes.
+pub fn restrict(
+    alloc: Global,
+    clauses: &Clauses,
+    origins: &Numbers,
+    kept: &Numbers,
+) -> Mem<Restricted>
+    ensures clauses { IfOk result (λ part. map clause_of part.clauses ≡ kept_clauses kept.now origins.now (map clause_of clauses.now)) }
+    ensures numbers { IfOk result (λ part. part.numbers ≡ kept_numbers kept.now origins.now) }
 {
-    let origins = form.origins.as_slice();
+    let origins = origins.as_slice();
     let kept = number_set(alloc, kept.as_slice())?;
     let numbers = numbers_kept(alloc, origins, &kept)?;
-    let clauses = clauses_kept(alloc, origins, form.clauses.as_slice(), &kept)?;
+    let clauses = clauses_kept(alloc, origins, clauses.as_slice(), &kept)?;
     Ok(Restricted { clauses, numbers })
 }
 

@@ -1,24 +1,18 @@
 // A part of a form, and steps with the form's numbers.
 
-use crate::rows::problem_of;
-use axiom_filter::{reindex, restrict, select};
-use clausal_form::clausal;
+use axiom_filter::{reindex, restrict};
 use kernel_steps::Step;
 use plain_types::Numbers;
+use sample::clauses;
 
-/// Of `p(a)`, `r(b)` with `s(b)`, and the goal, the second formula's two clauses are left out.
-const TEXT: &[u8] = b"fof(a,axiom,p(a)).fof(b,axiom,r(b)&s(b)).fof(c,conjecture,p(a)).";
-
+// Of the formulas 0 to 2 the second, which has two clauses, is left out.
 #[test]
 fn parts_of_forms_keep_their_numbers(rt: HostRuntime) {
     let alloc = rt.alloc();
-    let problem = problem_of(&rt, alloc, TEXT);
-    let Ok(form) = clausal(alloc, &problem) else {
-        return rt.panic("no form");
-    };
-    let kept = select(alloc, &problem, 100, 1).expect(&rt, "memory");
-    assert!(rt; kept.as_slice() == [0, 2].as_slice());
-    let part = restrict(alloc, &form, &kept).expect(&rt, "memory");
+    let form = clauses(alloc, "p; q; r; s").expect(&rt, "memory");
+    let origins = Numbers::from_slice(alloc, &[0, 1, 1, 2]).expect(&rt, "memory");
+    let kept = Numbers::from_slice(alloc, &[0, 2]).expect(&rt, "memory");
+    let part = restrict(alloc, &form, &origins, &kept).expect(&rt, "memory");
     assert!(rt; part.numbers.as_slice() == [0, 3].as_slice());
     assert_eq!(rt; part.clauses.len(), 2);
 }
