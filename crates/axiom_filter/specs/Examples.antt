@@ -1,6 +1,6 @@
 -- Worked selections. Formulas are written by the names of their symbols.
 use Rattle.std.specs.Prelude.{◌≡◌, ℕ, List, [], ◌∷◌, codes}
-use Rattle.tptp_tree.specs.Term.{TermTree, variable, application, TermTrees, no_terms, term_then}
+use Rattle.tptp_tree.specs.Term.{TermTree, variable, application, no_terms, term_then}
 use Rattle.tptp_tree.specs.Formula.{implies, for_all, FormulaTree, truth, predicate, negation, connected, quantified}
 use Rattle.tptp_tree.specs.declared.problem.Annotated.{Annotated}
 use Rattle.signature.specs.Examples.{fof_axiom, conjecture}

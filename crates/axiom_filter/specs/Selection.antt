@@ -1,6 +1,6 @@
 -- Axiom selection by symbols (the SInE method; Hoder and Voronkov, Sine Qua Non for Large Theory Reasoning, 2011): an axiom is taken where
 -- one of its rarest symbols has been reached from the goals.
-use Rattle.std.specs.Prelude.{ℕ, zero, suc, ◌*◌, Bool, true, false, not, ◌&&◌, ◌||◌, ◌==◌, nat_le, List, [], ◌∷◌, ◌++◌, length, filter, flat_map, count_by}
+use Rattle.std.specs.Prelude.{ℕ, zero, suc, ◌*◌, Bool, true, false, not, ◌&&◌, ◌||◌, ◌==◌, nat_le, List, ◌++◌, length, filter, flat_map, count_by}
 use Rattle.std.specs.List.{list_any, list_all}
 use Rattle.tptp_tree.specs.declared.problem.Annotated.{Annotated}
 use Rattle.tptp_tree.specs.declared.role.Role.{Role}

@@ -1,5 +1,5 @@
 -- Tables: a list of numbers for each number.
-use Rattle.std.specs.Prelude.{◌≡◌, ℕ, ◌<◌, ◌*◌, ◌-◌, ◌^◌, min, Bool, false, ◌==◌, nat_le, List, [], ◌∷◌, length, filter, flat_map, All, slice_index_or}
+use Rattle.std.specs.Prelude.{ℕ, ◌<◌, ◌*◌, ◌-◌, ◌^◌, min, Bool, false, ◌==◌, nat_le, List, [], ◌∷◌, length, filter, flat_map, All, slice_index_or}
 use Rattle.std.specs.List.{list_any}
 use Rattle.axiom_filter.specs.Places.{places_from}
 

@@ -1,5 +1,5 @@
 -- What is kept.
-use Rattle.std.proofs.Common.{◌≡◌, ℕ, zero, suc, ◌+◌, ◌<◌, ◌≤◌, ◌^◌, Bool, true, false, not, ◌||◌, ◌==◌, List, [], ◌∷◌, ◌++◌, length, map, get_or, set, cond, refl, ap, sym, ◌∙◌, subst, get_or-set_same, get_or-set_other, zero-add, inl, inr, arith}
+use Rattle.std.proofs.Common.{◌≡◌, ℕ, suc, ◌+◌, ◌<◌, ◌≤◌, ◌^◌, Bool, true, false, not, ◌||◌, ◌==◌, List, [], ◌∷◌, length, map, get_or, set, cond, refl, ap, sym, ◌∙◌, subst, get_or-set_same, get_or-set_other, zero-add, inl, inr, arith}
 use Rattle.std.specs.List.{list_any}
 use Rattle.std.proofs.lemmas.List.{length-map, get_or_default}
 use Rattle.std.proofs.lemmas.Bool.{cases_lt}
@@ -8,7 +8,7 @@ use Rattle.kernel_steps.specs.Marks.{marked_numbers}
 use Rattle.signature.specs.declared.symbol.Symbol.{Symbol}
 use Rattle.signature.specs.Occurrences.{annotated_symbols}
 use Rattle.axiom_filter.specs.Places.{places_from}
-use Rattle.axiom_filter.specs.Selection.{is_goal, has_no_symbols, is_taken, is_kept}
+use Rattle.axiom_filter.specs.Selection.{is_goal, has_no_symbols, is_kept}
 use Rattle.axiom_filter.specs.Numbering.{formula_rows}
 use Rattle.axiom_filter.specs.Tables.{has_number, is_marked, row_of, is_empty_row, rows_with, rare_enough, least_length, AreBelow, AreRowsBelow}
 use Rattle.axiom_filter.specs.Walk.{taken_numbers}

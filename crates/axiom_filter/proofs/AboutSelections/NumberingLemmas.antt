@@ -1,6 +1,6 @@
 -- Symbols by numbers: the numbers of a formula stand for its symbols, and different numbers for different symbols.
-use Rattle.std.proofs.Common.{◌≡◌, ℕ, zero, suc, ◌+◌, ◌<◌, ◌≤◌, Bool, true, false, not, ◌&&◌, ◌||◌, ◌==◌, List, [], ◌∷◌, ◌++◌, length, map, drop, get_or, cond, fold, flat_map, refl, ap, sym, ◌∙◌, subst, eqb-true, eq-eqb, append_assoc, filter, inl, inr, ◌⊎◌, arith}
-use Rattle.std.specs.Prelude.{All, if◌then◌else◌}
+use Rattle.std.proofs.Common.{◌≡◌, ℕ, zero, suc, ◌+◌, ◌<◌, ◌≤◌, Bool, true, false, not, ◌||◌, ◌==◌, List, [], ◌∷◌, ◌++◌, length, map, drop, get_or, cond, fold, flat_map, refl, ap, sym, ◌∙◌, subst, eqb-true, eq-eqb, append_assoc, filter, inl, inr, ◌⊎◌, arith}
+use Rattle.std.specs.Prelude.{if◌then◌else◌}
 use Rattle.std.specs.List.{list_any, position_or_len}
 use Rattle.std.proofs.lemmas.List.{append-nil, get_or_append_left, get_or_push, get_or_at, length_push, length-append, map-append, drop_more, drop_all}
 use Rattle.std.proofs.lemmas.Bool.{cases_lt}
@@ -14,7 +14,7 @@ use Rattle.signature.proofs.OccurrenceLemmas.{folded}
 use Rattle.axiom_filter.specs.Numbering.{met_numbers, formula_rows}
 use Rattle.axiom_filter.specs.Places.{places_from}
 use Rattle.axiom_filter.specs.Tables.{has_number, row_of, AreBelow, AreRowsBelow}
-use Rattle.axiom_filter.proofs.AboutTables.MemberLemmas.{bool-same, any-member}
+use Rattle.axiom_filter.proofs.AboutTables.MemberLemmas.{bool-same}
 
 -- the symbol with a number
 abbrev pub symbol_at : List Symbol → ℕ → Symbol

@@ -1,10 +1,9 @@
 -- The levels over numbers are those over symbols.
-use Rattle.std.proofs.Common.{◌≡◌, ℕ, zero, suc, ◌+◌, ◌-◌, ◌*◌, ◌^◌, ◌<◌, ◌≤◌, min, Bool, true, false, not, ◌&&◌, ◌||◌, ◌==◌, nat_le, List, [], ◌∷◌, ◌++◌, length, map, get_or, cond, fold, filter, flat_map, count_by, sum_by, refl, ap, sym, ◌∙◌, subst, zero-add, leb-true, le-leb, eqb-true, eq-eqb, inl, inr, ◌⊎◌, arith}
-use Rattle.std.specs.Prelude.{All}
+use Rattle.std.proofs.Common.{◌≡◌, ℕ, zero, suc, ◌+◌, ◌-◌, ◌*◌, ◌^◌, ◌<◌, ◌≤◌, min, Bool, true, false, ◌&&◌, ◌||◌, ◌==◌, nat_le, List, [], ◌∷◌, ◌++◌, length, map, get_or, cond, filter, count_by, refl, ap, sym, ◌∙◌, subst, zero-add, leb-true, le-leb, eqb-true, eq-eqb, inl, inr, ◌⊎◌, arith}
 use Rattle.std.specs.List.{list_any, list_all}
 use Rattle.std.proofs.Math.Nat.{mul-le-mul_left}
 use Rattle.std.proofs.lemmas.Bool.{cases_lt, and_parts}
-use Rattle.std.proofs.lemmas.List.{get_or-map, map-append, append-nil}
+use Rattle.std.proofs.lemmas.List.{get_or-map, map-append}
 use Rattle.std.proofs.lemmas.List.Elements.{All-nil, All-cons, All-head, All-tail, All-append, All-filter, All-from_get_or}
 use Rattle.std.proofs.lemmas.List.Folds.{list_any-append}
 use Rattle.std.proofs.lemmas.List.Sums.{sum_by-cons, count_by-le-length}
@@ -19,8 +18,8 @@ use Rattle.axiom_filter.specs.Tables.{has_number, row_of, neighbours, rows_with,
 use Rattle.axiom_filter.specs.Walk.{reached_numbers, taken_numbers}
 use Rattle.axiom_filter.proofs.AboutTables.SpreadLemmas.{has-append}
 use Rattle.axiom_filter.proofs.AboutTables.IndexLemmas.{IsIndex, places-below, not-equal, not-equal-above}
-use Rattle.axiom_filter.proofs.AboutTables.MemberLemmas.{bool-same, or-left, or-right, any-more, any-agree, any-flat, itself-number, neighbours-grow}
-use Rattle.axiom_filter.proofs.AboutSelections.NumberingLemmas.{symbol_at, Stands, Fits, AreDifferent, has-stands, row-fits, fits-length, fits-below, flat_rows, passing-stand, passing-neighbours}
+use Rattle.axiom_filter.proofs.AboutTables.MemberLemmas.{bool-same, or-left, any-more, any-agree, any-flat, itself-number, neighbours-grow}
+use Rattle.axiom_filter.proofs.AboutSelections.NumberingLemmas.{symbol_at, Stands, Fits, AreDifferent, has-stands, row-fits, fits-length, fits-below, passing-stand, passing-neighbours}
 
 -- ---- places
 

@@ -1,5 +1,5 @@
 use Rattle.std.proofs.Common.{◌<◌, [], length, get_or, sym, subst, arith}
-use Rattle.axiom_filter.specs.Tables.{AreBelow, is_marked, neighbours}
+use Rattle.axiom_filter.specs.Tables.{AreBelow}
 use Rattle.axiom_filter.proofs.AboutTables.SpreadLemmas.{Spread, spread-none, table-more, table-done}
 use Rattle.axiom_filter.proofs.AboutTables.IndexLemmas.{row-below}
 use Rattle.axiom_filter.proofs.spread.spread.Goals as goal

@@ -1,6 +1,6 @@
 use Rattle.std.proofs.Common.{Global, ℕ, ◌<◌, length, get_or, ap, ◌∙◌, arith}
 use Rattle.std.specs.declared.vec.Vec.{Vec}
-use Rattle.axiom_filter.proofs.AboutTables.SpreadLemmas.{Spread, spread-none, row-new, row-marked, row-done, below-push, below-same}
+use Rattle.axiom_filter.proofs.AboutTables.SpreadLemmas.{spread-none, row-new, row-marked, row-done, below-push, below-same}
 use Rattle.axiom_filter.proofs.spread.spread_row.Goals as goal
 use Rattle.axiom_filter.proofs.spread.spread_row.Goals.{then-not-marks-place+in_ok-push, else-not-marks-place}
 

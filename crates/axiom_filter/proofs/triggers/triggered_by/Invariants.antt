@@ -1,5 +1,4 @@
 use Rattle.std.proofs.Common.{◌≡◌, ◌*◌, ◌++◌, nat_le, get_or, length, drop, filter}
-use Rattle.axiom_filter.specs.Tables.{rare_enough}
 use Rattle.axiom_filter.proofs.triggers.triggered_by.Given as goal
 
 abbrev pub invariant-loop-place : goal.invariant-loop-place
