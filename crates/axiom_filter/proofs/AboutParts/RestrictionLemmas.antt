@@ -329,8 +329,3 @@ pub numbers-among :
 numbers-among test kept numbers origins slice same k o =
     let among : test ≡ is_among numbers = λ i. λ n. same n i in
     ap (λ t. places_from 0 t slice) among ∙ ap (λ ns. places_from 0 (is_among ns) slice) k ∙ ap (λ ns. places_from 0 (is_among kept) ns) o
-
--- a step that is no clausify step stays
-pub step-stays : (numbers : List ℕ) (s : Step) → ((i : ℕ) → s ≡ Clausify i → ⊥) → s ≡ reindexed_step numbers s
-step-stays numbers (Clausify i) h = absurd (h i refl)
-step-stays numbers _ h = refl

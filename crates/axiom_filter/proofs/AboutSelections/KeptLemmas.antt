@@ -49,9 +49,6 @@ pub record KeptBelow (everything : Bool) (fs : List Annotated) (rows : List (Lis
   pub done : (n : ℕ) (d : Annotated) → n < place → is_marked new n ≡ (everything || (is_goal (get_or fs n d) || (is_empty_row (row_of rows n) || is_marked old n)))
   pub left : (n : ℕ) → place ≤ n → is_marked new n ≡ is_marked old n
 
-pub kept-none : (everything : Bool) (fs : List Annotated) (rows : List (List ℕ)) (old : List Bool) → KeptBelow everything fs rows 0 old old
-kept-none everything fs rows old = record { done = λ n d h. absurd (omega arith); left = λ n h. refl }
-
 -- the mark of a place, by whether it is kept besides
 abbrev pub IsKeptBesides : Bool → Bool → List Annotated → List (List ℕ) → ℕ → Type 0
 IsKeptBesides keeps everything fs rows place =

@@ -1,8 +1,8 @@
 -- Symbols by numbers: the numbers of a formula stand for its symbols, and different numbers for different symbols.
-use Rattle.std.proofs.Common.{◌≡◌, ℕ, zero, suc, ◌+◌, ◌<◌, ◌≤◌, Bool, true, false, not, ◌||◌, ◌==◌, List, [], ◌∷◌, ◌++◌, length, map, drop, get_or, cond, fold, flat_map, refl, ap, sym, ◌∙◌, subst, eqb-true, eq-eqb, append_assoc, filter, inl, inr, ◌⊎◌, arith}
+use Rattle.std.proofs.Common.{◌≡◌, ℕ, zero, suc, ◌+◌, ◌<◌, ◌≤◌, Bool, true, false, not, ◌||◌, ◌==◌, List, [], ◌∷◌, ◌++◌, length, map, get_or, cond, fold, flat_map, refl, ap, sym, ◌∙◌, subst, eqb-true, eq-eqb, append_assoc, filter, inl, inr, ◌⊎◌, arith}
 use Rattle.std.specs.Prelude.{if◌then◌else◌}
 use Rattle.std.specs.List.{list_any, position_or_len}
-use Rattle.std.proofs.lemmas.List.{append-nil, get_or_append_left, get_or_push, get_or_at, length_push, length-append, map-append, drop_more, drop_all}
+use Rattle.std.proofs.lemmas.List.{append-nil, get_or_append_left, get_or_push, get_or_at, length_push, length-append, map-append}
 use Rattle.std.proofs.lemmas.Bool.{cases_lt}
 use Rattle.std.proofs.lemmas.List.Elements.{All-nil, All-cons, All-head, All-tail, All-append}
 use Rattle.tptp_tree.specs.declared.problem.Annotated.{Annotated}
@@ -292,48 +292,6 @@ passing-neighbours p (row ∷ rows) before (a ∷ fs) l =
     by false rest = rest
 
 -- ---- the loops
-
-pub met-more :
-    (known next : List Symbol) (s : Symbol) (rest : List Symbol) (row more : List ℕ) (number : ℕ) (total : List ℕ)
-    → number ≡ number_of known s → next ≡ with_symbol known s → more ≡ row ++ number ∷ [] → row ++ met_numbers known (s ∷ rest) ≡ total
-    → more ++ met_numbers next rest ≡ total
-met-more known next s rest row more number total n k m h =
-    ap (λ ks. more ++ met_numbers ks rest) k
-    ∙ ap (λ ns. ns ++ met_numbers (with_symbol known s) rest) m
-    ∙ append_assoc row (number ∷ []) (met_numbers (with_symbol known s) rest)
-    ∙ ap (λ i. row ++ i ∷ met_numbers (with_symbol known s) rest) n ∙ h
-
-pub rows-more :
-    (known next : List Symbol) (fs : List Annotated) (i : ℕ) (a : Annotated) (rows more : List (List ℕ)) (row : List ℕ) (total : List (List ℕ))
-    → i < length fs → a ≡ get_or fs i a → row ≡ met_numbers known (annotated_symbols a) → next ≡ fold with_symbol known (annotated_symbols a)
-    → more ≡ rows ++ row ∷ [] → rows ++ formula_rows known (drop i fs) ≡ total → more ++ formula_rows next (drop (i + 1) fs) ≡ total
-rows-more known next fs i a rows more row total l r n k m h =
-    let met : List Symbol = fold with_symbol known (annotated_symbols a) in
-    let rest : List (List ℕ) = formula_rows met (drop (i + 1) fs) in
-    ap (λ ks. more ++ formula_rows ks (drop (i + 1) fs)) k ∙ ap (λ rs. rs ++ rest) m ∙ append_assoc rows (row ∷ []) rest
-    ∙ ap (λ ns. rows ++ ns ∷ rest) n
-    ∙ ap (λ gs. rows ++ formula_rows known gs) (sym (drop_more fs i a l ∙ ap (λ b. b ∷ drop (i + 1) fs) (sym r))) ∙ h
-
-pub known-more :
-    (known next : List Symbol) (fs : List Annotated) (i : ℕ) (a : Annotated) (total : List Symbol)
-    → i < length fs → a ≡ get_or fs i a → next ≡ fold with_symbol known (annotated_symbols a)
-    → fold with_symbol known (flat_map annotated_symbols (drop i fs)) ≡ total
-    → fold with_symbol next (flat_map annotated_symbols (drop (i + 1) fs)) ≡ total
-known-more known next fs i a total l r k h =
-    ap (λ ks. fold with_symbol ks (flat_map annotated_symbols (drop (i + 1) fs))) k
-    ∙ sym (folded known (annotated_symbols a) (flat_map annotated_symbols (drop (i + 1) fs)))
-    ∙ ap (λ gs. fold with_symbol known (flat_map annotated_symbols gs)) (sym (drop_more fs i a l ∙ ap (λ b. b ∷ drop (i + 1) fs) (sym r))) ∙ h
-
-pub rows-done :
-    (known : List Symbol) (fs : List Annotated) (i : ℕ) (rows total : List (List ℕ))
-    → length fs ≤ i → rows ++ formula_rows known (drop i fs) ≡ total → rows ≡ total
-rows-done known fs i rows total l h =
-    sym (append-nil rows) ∙ ap (λ gs. rows ++ formula_rows known gs) (sym (drop_all i fs l)) ∙ h
-
-pub known-done :
-    (known : List Symbol) (fs : List Annotated) (i : ℕ) (total : List Symbol)
-    → length fs ≤ i → fold with_symbol known (flat_map annotated_symbols (drop i fs)) ≡ total → known ≡ total
-known-done known fs i total l h = ap (λ gs. fold with_symbol known (flat_map annotated_symbols gs)) (sym (drop_all i fs l)) ∙ h
 
 -- ---- the rows of a problem
 

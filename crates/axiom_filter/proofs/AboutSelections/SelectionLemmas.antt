@@ -312,9 +312,6 @@ any-members p ss ts same =
     (any-more same_symbol same_symbol-refl same_symbol-true p ss ts (λ s h. sym (same s) ∙ h))
     (any-more same_symbol same_symbol-refl same_symbol-true p ts ss (λ s h. same s ∙ h))
 
-stands-agree : (final : List Symbol) (row : List ℕ) (ss : List Symbol) → Stands final row ss → Agree final row ss
-stands-agree final row ss h = record { below = h.below; members = λ s. ap (has_symbol s) h.symbols }
-
 -- what the reached numbers trigger
 triggered-agree :
     (tolerance : ℕ) (fs : List Annotated) (final : List Symbol) (rows index triggered : List (List ℕ)) (numbers : List ℕ) (symbols : List Symbol) (f : ℕ) (d : Annotated)

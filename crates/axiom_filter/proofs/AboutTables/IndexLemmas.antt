@@ -76,11 +76,6 @@ place-skipped test xs i d places more l t m h =
     m ∙ h ∙ sym (append-nil (places_from 0 test (take i xs)))
     ∙ ap (λ b. places_from 0 test (take i xs) ++ cond b (i ∷ []) []) (sym t) ∙ sym (places-next test xs i d l)
 
-pub places-listed :
-    {X : Type 0} (test : X → Bool) (xs : List X) (i : ℕ) (places : List ℕ)
-    → length xs ≤ i → places ≡ places_from 0 test (take i xs) → places ≡ places_from 0 test xs
-places-listed test xs i places l h = h ∙ ap (places_from 0 test) (take_all i xs l)
-
 -- ---- the end of a list
 
 pub ends-with-end : (ns : List ℕ) (n : ℕ) → ends_with_number (ns ++ n ∷ []) n ≡ true

@@ -17,22 +17,6 @@ pub record Walked (rows triggers : List (List ℕ)) (goals : List ℕ) (level : 
   pub taken_by : (n : ℕ) → is_marked taken n ≡ has_number n (taken_numbers rows triggers goals level)
   pub frontier_at : (n : ℕ) → has_number n frontier ≡ (has_number n (reached_numbers rows triggers goals level) && not (has_number n (before_numbers rows triggers goals level)))
 
-pub walked-begin :
-    (rows triggers : List (List ℕ)) (goals : List ℕ) (unmarked reached taken : List Bool) (frontier : List ℕ)
-    → ((n : ℕ) → is_marked unmarked n ≡ false) → ((n : ℕ) → is_marked taken n ≡ false)
-    → ((n : ℕ) → is_marked reached n ≡ (is_marked unmarked n || has_number n (neighbours rows goals)))
-    → ((n : ℕ) → has_number n frontier ≡ (is_marked reached n && not (is_marked unmarked n)))
-    → Walked rows triggers goals zero reached taken frontier
-walked-begin rows triggers goals unmarked reached taken frontier none untaken marked found =
-    record {
-      reached_at = here;
-      taken_by = untaken;
-      frontier_at = λ n. found n ∙ ap (λ t. is_marked reached n && not t) (none n) ∙ ap (λ t. t && true) (here n);
-    }
-  where
-    here : (n : ℕ) → is_marked reached n ≡ has_number n (neighbours rows goals)
-    here n = marked n ∙ ap (λ t. t || has_number n (neighbours rows goals)) (none n)
-
 -- what symbols trigger that were reached before is taken
 before-taken :
     (rows triggers : List (List ℕ)) (goals : List ℕ) (level n x : ℕ)
