@@ -47,6 +47,7 @@ mod pool;
 mod proof_state;
 mod register;
 mod returning;
+mod splits;
 mod taking;
 
 pub use history::History;

@@ -32,6 +32,7 @@ invariant_of-self-2 c =
           omega (arith, room, c.push_reserved.ensures.len, c.push_reserved.ensures.capacity, c.reserve-2.ensures.len, c.len-more.ensures.len);
       counted = refl;
       set_aside = refl;
+      solver = refl;
       last_job = refl;
       place = refl;
     })

@@ -74,7 +74,7 @@ returns-then-is_empty-clause-arrived c = λ table r interned is.
     ∙ ap (λ (k : ℕ). let z : Registration = record { clause = made; line = k; position = None; death = None; is_active = false } in s.register.clauses ++ z ∷ []) line)
     (at-ok c.push-2.result _ c.unwrap.result c.unwrap.ensures c.push-2.ensures.pairs
     ∙ ap₂ (λ (k w : ℕ). with_pair (k, w) s.queue.pairs) c.len-number.ensures.len c.size-size.ensures.size)
-    steps refl (λ none. absurd (none-some Refuted (sym none))))
+    steps refl refl (λ none. absurd (none-some Refuted (sym none))))
 
 pub returns-else-is_empty-clause-arrived : goal.returns-else-is_empty-clause-arrived
 returns-else-is_empty-clause-arrived c = λ table r interned is.
@@ -99,4 +99,4 @@ returns-else-is_empty-clause-arrived c = λ table r interned is.
     ∙ ap (λ (k : ℕ). let z : Registration = record { clause = made; line = k; position = None; death = None; is_active = false } in s.register.clauses ++ z ∷ []) line)
     (at-ok c.push-2.result _ c.unwrap.result c.unwrap.ensures c.push-2.ensures.pairs
     ∙ ap₂ (λ (k w : ℕ). with_pair (k, w) s.queue.pairs) c.len-number.ensures.len c.size-size.ensures.size)
-    steps (is.ended ∙ open_yet) (λ none. some_literal))
+    steps (is.ended ∙ open_yet) refl (λ none. some_literal))

@@ -1,0 +1,2 @@
+-- Parts, the lines that introduce their names, and the clauses over names.
+pub mod SplitsLemmas

@@ -1,0 +1,110 @@
+-- What is kept of splitting, when lines come that introduce no name that is kept.
+use Rattle.std.proofs.Common.{◌≡◌, ℕ, suc, ◌+◌, ◌<◌, ◌≤◌, Bool, true, false, not, List, [], ◌∷◌, ◌++◌, map, length, refl, ap, ap₂, sym, ◌∙◌, subst, arith}
+use Rattle.std.specs.Prelude.{cond, All}
+use Rattle.std.specs.List.{position_or_len, range_with_len}
+use Rattle.std.proofs.lemmas.List.{length-append}
+use Rattle.std.proofs.lemmas.List.Elements.{All-nil, All-head, All-tail, All-weaker}
+use Rattle.plain_types.specs.declared.sequence.NameLit.{NameLit}
+use Rattle.plain_types.specs.Names.{positive_of}
+use Rattle.fol_base.specs.Clause.{TreeLiteral}
+use Rattle.kernel_steps.specs.declared.step.Step.{Step}
+use Rattle.kernel_steps.specs.declared.step.Line.{Line}
+use Rattle.bank_clause.specs.Clause.{AreAssertions}
+use Rattle.split_parts.specs.SignedNames.{signed_name}
+use Rattle.pool_history.specs.Tags.{name_count}
+use Rattle.pool_history.specs.Record.{Registered, PropositionalClause}
+use Rattle.pool_history.specs.Lines.{introduces, definition_of}
+use Rattle.pool_core.specs.Splits.{SplitView, AreSplitsOf, HasTags}
+
+-- ---- places
+
+-- a place that is found stays when more comes
+pub place-stays : {X : Type 0} (p : X → Bool) (xs ys : List X) → position_or_len p xs < length xs → position_or_len p (xs ++ ys) ≡ position_or_len p xs
+place-stays p [] ys found = absurd (omega (arith, found))
+place-stays p (x ∷ xs) ys found = by (p x) found (place-stays p xs ys)
+  where
+    by :
+        (b : Bool) → cond (not b) (1 + position_or_len p xs) 0 < suc (length xs)
+        → (position_or_len p xs < length xs → position_or_len p (xs ++ ys) ≡ position_or_len p xs)
+        → cond (not b) (1 + position_or_len p (xs ++ ys)) 0 ≡ cond (not b) (1 + position_or_len p xs) 0
+    by true found rest = refl
+    by false found rest = ap (λ k. 1 + k) (rest (omega (arith, found)))
+
+-- it depends on the steps alone
+place-by-steps : (n : NameLit) (lines : List Line) → definition_of lines n ≡ position_or_len (introduces n) (map (λ (l : Line). l.step) lines)
+place-by-steps n [] = refl
+place-by-steps n (l ∷ ls) = ap (λ k. cond (not (introduces n l.step)) (1 + k) 0) (place-by-steps n ls)
+
+same-definition : (n : NameLit) (lines others : List Line) → map (λ (l : Line). l.step) lines ≡ map (λ (l : Line). l.step) others → definition_of lines n ≡ definition_of others n
+same-definition n lines others same = place-by-steps n lines ∙ ap (position_or_len (introduces n)) same ∙ sym (place-by-steps n others)
+
+-- lists of numbers of lines
+module _ {X : Type 0} (f g : X → ℕ) (bound : ℕ) (alike : (x : X) → f x < bound → g x ≡ f x) where
+  map-within : (xs : List X) → All (λ n. n < bound) (map f xs) → map g xs ≡ map f xs
+  map-within [] below = refl
+  map-within (x ∷ xs) below =
+      ap₂ (λ (n : ℕ) (ns : List ℕ). n ∷ ns) (alike x (All-head (λ n. n < bound) (f x) (map f xs) below))
+      (map-within xs (All-tail (λ n. n < bound) (f x) (map f xs) below))
+
+-- ---- more lines
+
+module _ (v : SplitView) (parts : List (List TreeLiteral)) (lines : List Line) (propositional : List PropositionalClause) (model : List Bool) (modelled : ℕ) where
+  pub splits-longer : (more : List Line) → AreSplitsOf v parts lines propositional model modelled → AreSplitsOf v parts (lines ++ more) propositional model modelled
+  splits-longer more is = record {
+    parts = is.parts;
+    component_lines =
+        is.component_lines
+        ∙ sym (map-within (λ k. definition_of lines (positive_of k)) (λ k. definition_of (lines ++ more) (positive_of k)) (length lines)
+        (λ k below. stays (positive_of k) below) (range_with_len 0 (name_count parts)) (subst (All (λ n. n < length lines)) is.component_lines is.components));
+    definition_lines =
+        is.definition_lines
+        ∙ sym (map-within (λ part. definition_of lines (signed_name parts part)) (λ part. definition_of (lines ++ more) (signed_name parts part)) (length lines)
+        (λ part below. stays (signed_name parts part) below) parts (subst (All (λ n. n < length lines)) is.definition_lines is.definitions));
+    propositional = is.propositional;
+    propositional_lines = is.propositional_lines;
+    model = is.model;
+    modelled = is.modelled;
+    components = All-weaker (λ n. n < length lines) (λ n. n < length (lines ++ more)) further v.component_lines is.components;
+    definitions = All-weaker (λ n. n < length lines) (λ n. n < length (lines ++ more)) further v.definition_lines is.definitions;
+  }
+    where
+      stays : (n : NameLit) → definition_of lines n < length lines → definition_of (lines ++ more) n ≡ definition_of lines n
+      stays n below = place-stays (λ (l : Line). introduces n l.step) lines more below
+
+      further : (n : ℕ) → n < length lines → n < length (lines ++ more)
+      further n below = let long = length-append lines more in omega (arith, below, long)
+
+  -- the same steps under other clauses
+  pub splits-relined :
+      (others : List Line) → map (λ (l : Line). l.step) others ≡ map (λ (l : Line). l.step) lines
+      → AreSplitsOf v parts lines propositional model modelled → AreSplitsOf v parts others propositional model modelled
+  splits-relined others same is = record {
+    parts = is.parts;
+    component_lines = is.component_lines ∙ alike (λ k. positive_of k) (range_with_len 0 (name_count parts));
+    definition_lines = is.definition_lines ∙ alike (signed_name parts) parts;
+    propositional = is.propositional;
+    propositional_lines = is.propositional_lines;
+    model = is.model;
+    modelled = is.modelled;
+    components = subst (λ (k : ℕ). All (λ n. n < k) v.component_lines) (sym long) is.components;
+    definitions = subst (λ (k : ℕ). All (λ n. n < k) v.definition_lines) (sym long) is.definitions;
+  }
+    where
+      count : (ls : List Line) → length (map (λ (l : Line). l.step) ls) ≡ length ls
+      count [] = refl
+      count (l ∷ ls) = ap suc (count ls)
+
+      long : length others ≡ length lines
+      long = sym (count others) ∙ ap length same ∙ count lines
+
+      alike : {X : Type 0} (name : X → NameLit) (xs : List X) → map (λ x. definition_of lines (name x)) xs ≡ map (λ x. definition_of others (name x)) xs
+      alike name [] = refl
+      alike name (x ∷ xs) = ap₂ (λ (n : ℕ) (ns : List ℕ). n ∷ ns) (same-definition (name x) lines others (sym same)) (alike name xs)
+
+-- ---- assertions
+
+-- a clause without names has no tags
+pub no-tags : (count : ℕ) (x : Registered) → x.clause.names ≡ [] → HasTags count x
+no-tags count x none =
+    subst (λ (ns : List NameLit). AreAssertions ns × All (λ (n : NameLit). n.name < count) ns) (sym none)
+    (record { negative = All-nil (λ (n : NameLit). n.positive ≡ false); rise = λ k within. absurd (omega (arith, within)) }, All-nil (λ (n : NameLit). n.name < count))

@@ -1,0 +1,59 @@
+-- What a pool keeps of splitting: the parts with their tags, the clauses over names, and the last model.
+use Rattle.std.specs.Prelude.{◌≡◌, ℕ, ◌<◌, Bool, List, map, length, All}
+use Rattle.std.specs.List.{range_with_len}
+use Rattle.plain_types.specs.declared.sequence.NameLit.{NameLit}
+use Rattle.plain_types.specs.Names.{positive_of}
+use Rattle.fol_base.specs.Clause.{TreeLiteral}
+use Rattle.kernel_steps.specs.declared.step.Line.{Line}
+use Rattle.bank_clause.specs.Clause.{AreAssertions}
+use Rattle.split_parts.specs.SignedNames.{signed_name}
+use Rattle.pool_history.specs.Tags.{name_count}
+use Rattle.pool_history.specs.Record.{Registered, PropositionalClause}
+use Rattle.pool_history.specs.Lines.{definition_of}
+use Rattle.pool_core.specs.declared.splits.Splits.{Splits}
+
+pub record SplitView : Type 0 where
+  pub parts : List (List TreeLiteral)
+  pub component_lines : List ℕ
+  pub definition_lines : List ℕ
+  pub propositional : List (List NameLit)
+  pub propositional_lines : List ℕ
+  pub model : List Bool
+  pub modelled : ℕ
+
+abbrev pub split_view : Splits → SplitView
+split_view s = record {
+  parts = s.parts.parts;
+  component_lines = s.component_lines.items;
+  definition_lines = s.definition_lines.items;
+  propositional = s.propositional.lists;
+  propositional_lines = s.propositional_lines.items;
+  model = s.model;
+  modelled = s.modelled;
+}
+
+-- the number of the component line of each name
+abbrev pub component_lines : List (List TreeLiteral) → List Line → List ℕ
+component_lines parts lines = map (λ k. definition_of lines (positive_of k)) (range_with_len 0 (name_count parts))
+
+-- for each tag the number of the line that introduces its signed name
+abbrev pub definition_lines : List (List TreeLiteral) → List Line → List ℕ
+definition_lines parts lines = map (λ part. definition_of lines (signed_name parts part)) parts
+
+-- what is kept is what a record has
+pub record AreSplitsOf (v : SplitView) (parts : List (List TreeLiteral)) (lines : List Line) (propositional : List PropositionalClause)
+    (model : List Bool) (modelled : ℕ) : Type 0 where
+  pub parts : v.parts ≡ parts
+  pub component_lines : v.component_lines ≡ component_lines parts lines
+  pub definition_lines : v.definition_lines ≡ definition_lines parts lines
+  pub propositional : v.propositional ≡ map (λ (c : PropositionalClause). c.names) propositional
+  pub propositional_lines : v.propositional_lines ≡ map (λ (c : PropositionalClause). c.line) propositional
+  pub model : v.model ≡ model
+  pub modelled : v.modelled ≡ modelled
+  -- each name is introduced
+  pub components : All (λ n. n < length lines) v.component_lines
+  pub definitions : All (λ n. n < length lines) v.definition_lines
+
+-- the assertions of a clause are negative names that rise, whose numbers are tags
+abbrev pub HasTags : ℕ → Registered → Type 0
+HasTags count c = AreAssertions c.clause.names × All (λ (n : NameLit). n.name < count) c.clause.names
