@@ -1,15 +1,15 @@
 -- What a pool keeps of splitting: the parts with their tags, the clauses over names, and the last model.
-use Rattle.std.specs.Prelude.{◌≡◌, ℕ, ◌<◌, Bool, List, map, length, All}
-use Rattle.std.specs.List.{range_with_len}
+use Rattle.std.specs.Prelude.{◌≡◌, ℕ, ◌<◌, Bool, false, List, map, length, All, IsTrue}
+use Rattle.std.specs.List.{list_any, range_with_len}
 use Rattle.plain_types.specs.declared.sequence.NameLit.{NameLit}
-use Rattle.plain_types.specs.Names.{positive_of}
+use Rattle.plain_types.specs.Names.{positive_of, same_name}
 use Rattle.fol_base.specs.Clause.{TreeLiteral}
 use Rattle.kernel_steps.specs.declared.step.Line.{Line}
 use Rattle.bank_clause.specs.Clause.{AreAssertions}
 use Rattle.split_parts.specs.SignedNames.{signed_name}
 use Rattle.pool_history.specs.Tags.{name_count}
 use Rattle.pool_history.specs.Record.{Registered, PropositionalClause}
-use Rattle.pool_history.specs.Lines.{definition_of}
+use Rattle.pool_history.specs.Lines.{introduces, definition_of}
 use Rattle.pool_core.specs.declared.splits.Splits.{Splits}
 
 pub record SplitView : Type 0 where
@@ -40,6 +40,14 @@ component_lines parts lines = map (λ k. definition_of lines (positive_of k)) (r
 abbrev pub definition_lines : List (List TreeLiteral) → List Line → List ℕ
 definition_lines parts lines = map (λ part. definition_of lines (signed_name parts part)) parts
 
+-- a line introduces the signed name
+abbrev pub is_introduced : NameLit → List Line → Bool
+is_introduced n lines = list_any (λ (l : Line). introduces n l.step) lines
+
+-- the name is one of the parts, and where it is negative it is the signed name of one
+abbrev pub IsNameOf : List (List TreeLiteral) → NameLit → Type 0
+IsNameOf parts n = (n.name < name_count parts) × (n.positive ≡ false → IsTrue (list_any (λ part. same_name n (signed_name parts part)) parts))
+
 -- what is kept is what a record has
 pub record AreSplitsOf (v : SplitView) (parts : List (List TreeLiteral)) (lines : List Line) (propositional : List PropositionalClause)
     (model : List Bool) (modelled : ℕ) : Type 0 where
@@ -50,9 +58,10 @@ pub record AreSplitsOf (v : SplitView) (parts : List (List TreeLiteral)) (lines 
   pub propositional_lines : v.propositional_lines ≡ map (λ (c : PropositionalClause). c.line) propositional
   pub model : v.model ≡ model
   pub modelled : v.modelled ≡ modelled
-  -- each name is introduced
+  -- each name is introduced, and no other is
   pub components : All (λ n. n < length lines) v.component_lines
   pub definitions : All (λ n. n < length lines) v.definition_lines
+  pub known : (n : NameLit) → IsTrue (is_introduced n lines) → IsNameOf parts n
 
 -- the assertions of a clause are negative names that rise, whose numbers are tags
 abbrev pub HasTags : ℕ → Registered → Type 0

@@ -51,6 +51,7 @@ input-interned bank table i input copy made hash copied same hashed no_names of_
   no_names = no-assertions made.names (ap (λ (d : TreeClause). d.names) same ∙ no_names);
   of_bank = of_bank;
   known = known;
+  plain = refl;
   parents = All-cons (HasParentsBelow (CLAUSE_NUMBERS + 1)) (input_line i copy) [] tt (All-nil (HasParentsBelow (CLAUSE_NUMBERS + 1)));
 }
 

@@ -8,6 +8,7 @@ use Rattle.std.proofs.lemmas.List.Elements.{All-push, All-weaker}
 use Rattle.std.proofs.lemmas.Option.{none-some, same_Some}
 use Rattle.fol_base.specs.Clause.{TreeClause, clause_eq, clause_size}
 use Rattle.fol_base.specs.Literal.{clause_of}
+use Rattle.plain_types.specs.declared.sequence.NameLit.{NameLit}
 use Rattle.kernel_steps.specs.Conclusion.{empty_clause}
 use Rattle.kernel_steps.specs.Split.{has_number}
 use Rattle.kernel_steps.specs.declared.step.Step.{Step}
@@ -27,7 +28,7 @@ use Rattle.pool_history.specs.Registering.{comes, empty_comes, registered_last, 
 use Rattle.pool_history.specs.Counting.{comes_by, result_comes, refutes}
 use Rattle.pool_history.specs.Tags.{line_names}
 use Rattle.pool_core.specs.Register.{is_living_copy}
-use Rattle.pool_core.specs.Splits.{SplitView, HasTags, AreSplitsOf, split_view}
+use Rattle.pool_core.specs.Splits.{SplitView, HasTags, AreSplitsOf, is_introduced, split_view}
 use Rattle.pool_core.specs.Started.{registered_at, IsOfTable}
 use Rattle.pool_core.specs.State.{IsRegistration, IsProofStateOf, AreOfRegistered}
 use Rattle.pool_history.specs.declared.outcome.Outcome.{Outcome}
@@ -125,9 +126,9 @@ module _ (bank : Bank) (table : Table) where
       ++ record { clause = made; line = length (r.lines ++ lines) - 1; position = None; death = None; is_active = false } ∷ []
       → t.queue.pairs ≡ with_pair (length s.register.clauses, clause_size c) s.queue.pairs
       → t.steps.items ≡ map (λ (l : Line). l.step) (r.lines ++ lines)
-      → t.ended ≡ e → split_view t.splits ≡ split_view s.splits → (e ≡ None → has_none c.literals ≡ false)
+      → t.ended ≡ e → split_view t.splits ≡ split_view s.splits → ((n : NameLit) → is_introduced n lines ≡ false) → (e ≡ None → has_none c.literals ≡ false)
       → IsProofStateOf bank table t (with_result r lines c e)
-  came-state s t r lines c made e is open_yet same no_names of_bank known register queue steps ended splits some_literal = record {
+  came-state s t r lines c made e is open_yet same no_names of_bank known register queue steps ended splits bare some_literal = record {
     registered =
         ap (map registered_at) register ∙ map-append registered_at ss (z ∷ [])
         ∙ ap₂ (λ xs (d : TreeClause). xs ++ record { clause = d; line = length (r.lines ++ lines) - 1 } ∷ []) is.registered same;
@@ -152,7 +153,7 @@ module _ (bank : Bank) (table : Table) where
     steps = steps;
     ended = ended;
     splits =
-        splits-longer (split_view t.splits) r.parts r.lines r.propositional r.model r.modelled lines
+        splits-longer (split_view t.splits) r.parts r.lines r.propositional r.model r.modelled lines bare
         (subst (λ (v : SplitView). AreSplitsOf v r.parts r.lines r.propositional r.model r.modelled) (sym splits) is.splits);
     tags =
         All-push (HasTags (length r.parts)) r.registered (record { clause = c; line = length (r.lines ++ lines) - 1 }) is.tags

@@ -1,20 +1,24 @@
 -- What is kept of splitting, when lines come that introduce no name that is kept.
-use Rattle.std.proofs.Common.{◌≡◌, ℕ, suc, ◌+◌, ◌<◌, ◌≤◌, Bool, true, false, not, List, [], ◌∷◌, ◌++◌, map, length, refl, ap, ap₂, sym, ◌∙◌, subst, arith}
+use Rattle.std.proofs.Common.{◌≡◌, ℕ, suc, ◌+◌, ◌<◌, ◌≤◌, Bool, true, false, not, ◌||◌, List, [], ◌∷◌, ◌++◌, map, length, refl, ap, ap₂, sym, ◌∙◌, subst, arith}
 use Rattle.std.specs.Prelude.{cond, All}
-use Rattle.std.specs.List.{position_or_len, range_with_len}
+use Rattle.std.specs.List.{list_all, list_any, position_or_len, range_with_len}
+use Rattle.std.proofs.lemmas.Bool.{and_parts, true≢false}
 use Rattle.std.proofs.lemmas.List.{length-append}
+use Rattle.std.proofs.lemmas.List.Folds.{list_any-append}
 use Rattle.std.proofs.lemmas.List.Elements.{All-nil, All-head, All-tail, All-weaker}
 use Rattle.plain_types.specs.declared.sequence.NameLit.{NameLit}
 use Rattle.plain_types.specs.Names.{positive_of}
 use Rattle.fol_base.specs.Clause.{TreeLiteral}
+use Rattle.kernel_steps.specs.Lines.{is_plain_step}
 use Rattle.kernel_steps.specs.declared.step.Step.{Step}
+use Rattle.kernel_steps.specs.declared.step.Step.TheVariants.{Input, Negate, Clausify, Para, Refl, Factor, Merge, Component, Opposite, Split, Chain}
 use Rattle.kernel_steps.specs.declared.step.Line.{Line}
 use Rattle.bank_clause.specs.Clause.{AreAssertions}
 use Rattle.split_parts.specs.SignedNames.{signed_name}
 use Rattle.pool_history.specs.Tags.{name_count}
-use Rattle.pool_history.specs.Record.{Registered, PropositionalClause}
-use Rattle.pool_history.specs.Lines.{introduces, definition_of}
-use Rattle.pool_core.specs.Splits.{SplitView, AreSplitsOf, HasTags}
+use Rattle.pool_history.specs.Record.{PoolRecord, Registered, PropositionalClause}
+use Rattle.pool_history.specs.Lines.{introduces, definition_of, line_number, with_parents, pool_line}
+use Rattle.pool_core.specs.Splits.{SplitView, AreSplitsOf, HasTags, is_introduced}
 
 -- ---- places
 
@@ -38,6 +42,10 @@ place-by-steps n (l ∷ ls) = ap (λ k. cond (not (introduces n l.step)) (1 + k)
 same-definition : (n : NameLit) (lines others : List Line) → map (λ (l : Line). l.step) lines ≡ map (λ (l : Line). l.step) others → definition_of lines n ≡ definition_of others n
 same-definition n lines others same = place-by-steps n lines ∙ ap (position_or_len (introduces n)) same ∙ sym (place-by-steps n others)
 
+false-right : (b : Bool) → (b || false) ≡ b
+false-right true = refl
+false-right false = refl
+
 -- lists of numbers of lines
 module _ {X : Type 0} (f g : X → ℕ) (bound : ℕ) (alike : (x : X) → f x < bound → g x ≡ f x) where
   map-within : (xs : List X) → All (λ n. n < bound) (map f xs) → map g xs ≡ map f xs
@@ -46,11 +54,30 @@ module _ {X : Type 0} (f g : X → ℕ) (bound : ℕ) (alike : (x : X) → f x <
       ap₂ (λ (n : ℕ) (ns : List ℕ). n ∷ ns) (alike x (All-head (λ n. n < bound) (f x) (map f xs) below))
       (map-within xs (All-tail (λ n. n < bound) (f x) (map f xs) below))
 
+-- ---- nothing is split
+
+pub none-split :
+    (v : SplitView)
+    → v.parts ≡ [] → v.component_lines ≡ [] → v.definition_lines ≡ [] → v.propositional ≡ [] → v.propositional_lines ≡ [] → v.model ≡ [] → v.modelled ≡ 0
+    → AreSplitsOf v [] [] [] [] 0
+none-split v parts components definitions propositional numbers model modelled = record {
+  parts = parts;
+  component_lines = components;
+  definition_lines = definitions;
+  propositional = propositional;
+  propositional_lines = numbers;
+  model = model;
+  modelled = modelled;
+  components = subst (All (λ n. n < 0)) (sym components) (All-nil (λ n. n < 0));
+  definitions = subst (All (λ n. n < 0)) (sym definitions) (All-nil (λ n. n < 0));
+  known = λ n some. absurd (true≢false (sym some));
+}
+
 -- ---- more lines
 
 module _ (v : SplitView) (parts : List (List TreeLiteral)) (lines : List Line) (propositional : List PropositionalClause) (model : List Bool) (modelled : ℕ) where
-  pub splits-longer : (more : List Line) → AreSplitsOf v parts lines propositional model modelled → AreSplitsOf v parts (lines ++ more) propositional model modelled
-  splits-longer more is = record {
+  pub splits-longer : (more : List Line) → ((n : NameLit) → is_introduced n more ≡ false) → AreSplitsOf v parts lines propositional model modelled → AreSplitsOf v parts (lines ++ more) propositional model modelled
+  splits-longer more bare is = record {
     parts = is.parts;
     component_lines =
         is.component_lines
@@ -66,6 +93,12 @@ module _ (v : SplitView) (parts : List (List TreeLiteral)) (lines : List Line) (
     modelled = is.modelled;
     components = All-weaker (λ n. n < length lines) (λ n. n < length (lines ++ more)) further v.component_lines is.components;
     definitions = All-weaker (λ n. n < length lines) (λ n. n < length (lines ++ more)) further v.definition_lines is.definitions;
+    known =
+        λ n some.
+        is.known n
+        (sym (false-right (is_introduced n lines))
+        ∙ ap (λ b. is_introduced n lines || b) (sym (bare n))
+        ∙ sym (list_any-append (λ (l : Line). introduces n l.step) lines more) ∙ some);
   }
     where
       stays : (n : NameLit) → definition_of lines n < length lines → definition_of (lines ++ more) n ≡ definition_of lines n
@@ -88,8 +121,13 @@ module _ (v : SplitView) (parts : List (List TreeLiteral)) (lines : List Line) (
     modelled = is.modelled;
     components = subst (λ (k : ℕ). All (λ n. n < k) v.component_lines) (sym long) is.components;
     definitions = subst (λ (k : ℕ). All (λ n. n < k) v.definition_lines) (sym long) is.definitions;
+    known = λ n some. is.known n (by-steps n lines ∙ ap (list_any (introduces n)) (sym same) ∙ sym (by-steps n others) ∙ some);
   }
     where
+      by-steps : (n : NameLit) (ls : List Line) → is_introduced n ls ≡ list_any (introduces n) (map (λ (l : Line). l.step) ls)
+      by-steps n [] = refl
+      by-steps n (l ∷ ls) = ap (λ b. introduces n l.step || b) (by-steps n ls)
+
       count : (ls : List Line) → length (map (λ (l : Line). l.step) ls) ≡ length ls
       count [] = refl
       count (l ∷ ls) = ap suc (count ls)
@@ -108,3 +146,25 @@ pub no-tags : (count : ℕ) (x : Registered) → x.clause.names ≡ [] → HasTa
 no-tags count x none =
     subst (λ (ns : List NameLit). AreAssertions ns × All (λ (n : NameLit). n.name < count) ns) (sym none)
     (record { negative = All-nil (λ (n : NameLit). n.positive ≡ false); rise = λ k within. absurd (omega (arith, within)) }, All-nil (λ (n : NameLit). n.name < count))
+
+-- ---- the lines of a batch
+
+-- a plain step introduces no name, whatever its parents
+plain-introduces : (number : ℕ → ℕ) (n : NameLit) (step : Step) → is_plain_step step ≡ true → introduces n (with_parents number step) ≡ false
+plain-introduces number n (Clausify i) plain = refl
+plain-introduces number n (Para a b j s l z place first second) plain = refl
+plain-introduces number n (Refl a l bind) plain = refl
+plain-introduces number n (Factor a j s l z bind) plain = refl
+plain-introduces number n (Merge a j l bind) plain = refl
+plain-introduces number n (Input place) plain = absurd (true≢false (sym plain))
+plain-introduces number n (Negate place) plain = absurd (true≢false (sym plain))
+plain-introduces number n (Component name) plain = absurd (true≢false (sym plain))
+plain-introduces number n (Opposite name) plain = absurd (true≢false (sym plain))
+plain-introduces number n (Split parent definitions parts) plain = absurd (true≢false (sym plain))
+plain-introduces number n (Chain numbers pivots) plain = absurd (true≢false (sym plain))
+
+pub none-introduced : (r : PoolRecord) (lines : List Line) → list_all (λ (l : Line). is_plain_step l.step) lines ≡ true → (n : NameLit) → is_introduced n (map (pool_line r) lines) ≡ false
+none-introduced r [] plain n = refl
+none-introduced r (l ∷ ls) plain n =
+    let both = and_parts (is_plain_step l.step) (list_all (λ (m : Line). is_plain_step m.step) ls) plain in
+    ap₂ (λ a b. a || b) (plain-introduces (line_number r.registered (length r.lines)) n l.step both.0) (none-introduced r ls both.1 n)
