@@ -1,2 +1,3 @@
 -- Parts, the lines that introduce their names, and the clauses over names.
+pub mod NewPartLemmas
 pub mod SplitsLemmas

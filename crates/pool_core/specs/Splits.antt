@@ -1,14 +1,15 @@
 -- What a pool keeps of splitting: the parts with their tags, the clauses over names, and the last model.
-use Rattle.std.specs.Prelude.{◌≡◌, ℕ, ◌<◌, Bool, false, List, map, length, All, IsTrue}
+use Rattle.std.specs.Prelude.{◌≡◌, ℕ, ◌+◌, ◌<◌, ◌≤◌, Bool, false, List, map, length, All, IsTrue, vec_len, vec_capacity}
 use Rattle.std.specs.List.{list_any, range_with_len}
 use Rattle.plain_types.specs.declared.sequence.NameLit.{NameLit}
 use Rattle.plain_types.specs.Names.{positive_of, same_name}
 use Rattle.fol_base.specs.Clause.{TreeLiteral}
+use Rattle.kernel_steps.specs.declared.step.Step.{Step}
 use Rattle.kernel_steps.specs.declared.step.Line.{Line}
 use Rattle.bank_clause.specs.Clause.{AreAssertions}
 use Rattle.split_parts.specs.SignedNames.{signed_name}
 use Rattle.pool_history.specs.Tags.{name_count}
-use Rattle.pool_history.specs.Record.{Registered, PropositionalClause}
+use Rattle.pool_history.specs.Record.{PoolRecord, Registered, PropositionalClause}
 use Rattle.pool_history.specs.Lines.{introduces, definition_of}
 use Rattle.pool_core.specs.declared.splits.Splits.{Splits}
 
@@ -62,6 +63,23 @@ pub record AreSplitsOf (v : SplitView) (parts : List (List TreeLiteral)) (lines 
   pub components : All (λ n. n < length lines) v.component_lines
   pub definitions : All (λ n. n < length lines) v.definition_lines
   pub known : (n : NameLit) → IsTrue (is_introduced n lines) → IsNameOf parts n
+
+-- the steps are those of the record's lines, and what is kept is what it has
+pub record AreStepsAndSplitsOf (v : SplitView) (steps : List Step) (r : PoolRecord) : Type 0 where
+  pub steps : steps ≡ map (λ (l : Line). l.step) r.lines
+  pub splits : AreSplitsOf v r.parts r.lines r.propositional r.model r.modelled
+
+-- room for the tags of parts
+pub record HasPartRoom (s : Splits) (parts : ℕ) : Type 0 where
+  pub parts : parts ≤ s.parts.spare
+  pub components : vec_len s.component_lines + parts ≤ vec_capacity s.component_lines
+  pub definitions : vec_len s.definition_lines + parts ≤ vec_capacity s.definition_lines
+
+-- room for clauses over names, and for the literals that these have together
+pub record HasClauseRoom (s : Splits) (clauses literals : ℕ) : Type 0 where
+  pub clauses : clauses ≤ s.propositional.spare_lists
+  pub literals : literals ≤ s.propositional.spare_items
+  pub lines : vec_len s.propositional_lines + clauses ≤ vec_capacity s.propositional_lines
 
 -- the assertions of a clause are negative names that rise, whose numbers are tags
 abbrev pub HasTags : ℕ → Registered → Type 0

@@ -3,7 +3,7 @@ use Rattle.std.proofs.Common.{◌≡◌, ℕ, suc, ◌+◌, ◌<◌, ◌≤◌, 
 use Rattle.std.specs.Prelude.{cond, All}
 use Rattle.std.specs.List.{list_all, list_any, position_or_len, range_with_len}
 use Rattle.std.proofs.lemmas.Bool.{and_parts, true≢false}
-use Rattle.std.proofs.lemmas.List.{length-append}
+use Rattle.std.proofs.lemmas.List.{length-append, map-append}
 use Rattle.std.proofs.lemmas.List.Folds.{list_any-append}
 use Rattle.std.proofs.lemmas.List.Elements.{All-nil, All-head, All-tail, All-weaker}
 use Rattle.plain_types.specs.declared.sequence.NameLit.{NameLit}
@@ -18,7 +18,8 @@ use Rattle.split_parts.specs.SignedNames.{signed_name}
 use Rattle.pool_history.specs.Tags.{name_count}
 use Rattle.pool_history.specs.Record.{PoolRecord, Registered, PropositionalClause}
 use Rattle.pool_history.specs.Lines.{introduces, definition_of, line_number, with_parents, pool_line}
-use Rattle.pool_core.specs.Splits.{SplitView, AreSplitsOf, HasTags, is_introduced}
+use Rattle.pool_core.specs.Splits.{SplitView, AreSplitsOf, HasTags, is_introduced, split_view}
+use Rattle.pool_core.specs.declared.splits.Splits.{Splits}
 
 -- ---- places
 
@@ -138,6 +139,47 @@ module _ (v : SplitView) (parts : List (List TreeLiteral)) (lines : List Line) (
       alike : {X : Type 0} (name : X → NameLit) (xs : List X) → map (λ x. definition_of lines (name x)) xs ≡ map (λ x. definition_of others (name x)) xs
       alike name [] = refl
       alike name (x ∷ xs) = ap₂ (λ (n : ℕ) (ns : List ℕ). n ∷ ns) (same-definition (name x) lines others (sym same)) (alike name xs)
+
+-- ---- one more clause over names
+
+pub one-more-clause :
+    (v : SplitView) (parts : List (List TreeLiteral)) (lines : List Line) (clauses : List PropositionalClause) (model : List Bool) (modelled : ℕ)
+    (c : PropositionalClause) (all : List (List NameLit)) (numbers : List ℕ)
+    → all ≡ v.propositional ++ c.names ∷ [] → numbers ≡ v.propositional_lines ++ c.line ∷ []
+    → AreSplitsOf v parts lines clauses model modelled
+    → AreSplitsOf (record v { propositional = all; propositional_lines = numbers }) parts lines (clauses ++ c ∷ []) model modelled
+one-more-clause v parts lines clauses model modelled c all numbers more further is = record {
+  parts = is.parts;
+  component_lines = is.component_lines;
+  definition_lines = is.definition_lines;
+  propositional =
+      more ∙ ap (λ (ms : List (List NameLit)). ms ++ c.names ∷ []) is.propositional
+      ∙ sym (map-append (λ (d : PropositionalClause). d.names) clauses (c ∷ []));
+  propositional_lines =
+      further ∙ ap (λ (ns : List ℕ). ns ++ c.line ∷ []) is.propositional_lines ∙ sym (map-append (λ (d : PropositionalClause). d.line) clauses (c ∷ []));
+  model = is.model;
+  modelled = is.modelled;
+  components = is.components;
+  definitions = is.definitions;
+  known = is.known;
+}
+
+-- what is seen where the lists are the same
+pub same-view :
+    (s t : Splits)
+    → t.parts.parts ≡ s.parts.parts → t.component_lines.items ≡ s.component_lines.items → t.definition_lines.items ≡ s.definition_lines.items
+    → t.propositional.lists ≡ s.propositional.lists → t.propositional_lines.items ≡ s.propositional_lines.items → t.model ≡ s.model → t.modelled ≡ s.modelled
+    → split_view t ≡ split_view s
+same-view s t parts components definitions clauses numbers model modelled =
+    λ j. record {
+      parts = parts j;
+      component_lines = components j;
+      definition_lines = definitions j;
+      propositional = clauses j;
+      propositional_lines = numbers j;
+      model = model j;
+      modelled = modelled j;
+    }
 
 -- ---- assertions
 
