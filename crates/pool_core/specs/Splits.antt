@@ -50,36 +50,36 @@ abbrev pub IsNameOf : List (List TreeLiteral) → NameLit → Type 0
 IsNameOf parts n = (n.name < name_count parts) × (n.positive ≡ false → IsTrue (list_any (λ part. same_name n (signed_name parts part)) parts))
 
 -- what is kept is what a record has
-pub record AreSplitsOf (v : SplitView) (parts : List (List TreeLiteral)) (lines : List Line) (propositional : List PropositionalClause)
-    (model : List Bool) (modelled : ℕ) : Type 0 where
-  pub parts : v.parts ≡ parts
-  pub component_lines : v.component_lines ≡ component_lines parts lines
-  pub definition_lines : v.definition_lines ≡ definition_lines parts lines
-  pub propositional : v.propositional ≡ map (λ (c : PropositionalClause). c.names) propositional
-  pub propositional_lines : v.propositional_lines ≡ map (λ (c : PropositionalClause). c.line) propositional
-  pub model : v.model ≡ model
-  pub modelled : v.modelled ≡ modelled
+pub record AreSplitsOf (v : SplitView) (ps : List (List TreeLiteral)) (lines : List Line) (clauses : List PropositionalClause)
+    (truths : List Bool) (count : ℕ) : Type 0 where
+  pub parts : v.parts ≡ ps
+  pub component_lines : v.component_lines ≡ component_lines ps lines
+  pub definition_lines : v.definition_lines ≡ definition_lines ps lines
+  pub propositional : v.propositional ≡ map (λ (c : PropositionalClause). c.names) clauses
+  pub propositional_lines : v.propositional_lines ≡ map (λ (c : PropositionalClause). c.line) clauses
+  pub model : v.model ≡ truths
+  pub modelled : v.modelled ≡ count
   -- each name is introduced, and no other is
   pub components : All (λ n. n < length lines) v.component_lines
   pub definitions : All (λ n. n < length lines) v.definition_lines
-  pub known : (n : NameLit) → IsTrue (is_introduced n lines) → IsNameOf parts n
+  pub known : (n : NameLit) → IsTrue (is_introduced n lines) → IsNameOf ps n
 
 -- the steps are those of the record's lines, and what is kept is what it has
-pub record AreStepsAndSplitsOf (v : SplitView) (steps : List Step) (r : PoolRecord) : Type 0 where
-  pub steps : steps ≡ map (λ (l : Line). l.step) r.lines
+pub record AreStepsAndSplitsOf (v : SplitView) (ss : List Step) (r : PoolRecord) : Type 0 where
+  pub steps : ss ≡ map (λ (l : Line). l.step) r.lines
   pub splits : AreSplitsOf v r.parts r.lines r.propositional r.model r.modelled
 
 -- room for the tags of parts
-pub record HasPartRoom (s : Splits) (parts : ℕ) : Type 0 where
-  pub parts : parts ≤ s.parts.spare
-  pub components : vec_len s.component_lines + parts ≤ vec_capacity s.component_lines
-  pub definitions : vec_len s.definition_lines + parts ≤ vec_capacity s.definition_lines
+pub record HasPartRoom (s : Splits) (count : ℕ) : Type 0 where
+  pub parts : count ≤ s.parts.spare
+  pub components : vec_len s.component_lines + count ≤ vec_capacity s.component_lines
+  pub definitions : vec_len s.definition_lines + count ≤ vec_capacity s.definition_lines
 
 -- room for clauses over names, and for the literals that these have together
-pub record HasClauseRoom (s : Splits) (clauses literals : ℕ) : Type 0 where
-  pub clauses : clauses ≤ s.propositional.spare_lists
-  pub literals : literals ≤ s.propositional.spare_items
-  pub lines : vec_len s.propositional_lines + clauses ≤ vec_capacity s.propositional_lines
+pub record HasClauseRoom (s : Splits) (count size : ℕ) : Type 0 where
+  pub clauses : count ≤ s.propositional.spare_lists
+  pub literals : size ≤ s.propositional.spare_items
+  pub lines : vec_len s.propositional_lines + count ≤ vec_capacity s.propositional_lines
 
 -- the assertions of a clause are negative names that rise, whose numbers are tags
 abbrev pub HasTags : ℕ → Registered → Type 0

@@ -48,6 +48,7 @@ mod proof_state;
 mod register;
 mod returning;
 mod splits;
+mod splitting;
 mod taking;
 
 pub use history::History;

@@ -1,11 +1,11 @@
 // What a pool keeps of splitting: the parts with their tags, the clauses over names, and the last model.
 
-ghost use Rattle.std.specs.Prelude.{◌≡◌, ℕ, Bool, List, OnOk, suc, ◌+◌, ◌<◌, ◌≤◌, [], ◌∷◌, ◌++◌, if◌then◌else◌, get_or, length, vec_len, vec_capacity};
+ghost use Rattle.std.specs.Prelude.{◌≡◌, ℕ, Bool, List, OnOk, suc, ◌+◌, ◌<◌, ◌≤◌, [], ◌∷◌, ◌++◌, if◌then◌else◌, ◌==◌, get_or, length, vec_len, vec_capacity};
 ghost use Rattle.fol_base.specs.Clause.{TreeLiteral};
 ghost use Rattle.kernel_steps.specs.declared.step.Line.{Line};
 ghost use Rattle.kernel_steps.specs.declared.step.Step.TheVariants.{Component, Opposite};
 ghost use Rattle.split_parts.specs.PartKeys.{key_part};
-ghost use Rattle.split_parts.specs.Tags.{tag_of};
+ghost use Rattle.split_parts.specs.Tags.{tag_of, with_part};
 ghost use Rattle.pool_history.specs.Record.{PoolRecord, PropositionalClause};
 ghost use Rattle.pool_history.specs.Registering.{with_tag};
 ghost use Rattle.pool_core.specs.Splits.{AreSplitsOf, AreStepsAndSplitsOf, HasClauseRoom, HasPartRoom, split_view};
@@ -81,12 +81,13 @@ impl Splits {
         requires room { HasPartRoom self.old 1 }
         requires steps_room { vec_len steps.old + 2 ≤ vec_capacity steps.old }
         requires told { (r : PoolRecord) × AreStepsAndSplitsOf (split_view self.old) steps.old.items r }
+        ensures added { self.new.parts.parts ≡ with_part self.old.parts.parts (key_part part) }
         ensures tag { result ≡ tag_of self.new.parts.parts (key_part part) }
         ensures defined { (r : PoolRecord) → AreStepsAndSplitsOf (split_view self.old) steps.old.items r
             → AreStepsAndSplitsOf (split_view self.new) steps.new.items (with_tag r (key_part part)) }
         ensures room { (more : ℕ) → HasPartRoom self.old (suc more) → HasPartRoom self.new more }
         ensures steps_len { vec_len steps.new ≤ vec_len steps.old + 2 }
-        ensures steps_room { vec_capacity steps.new ≡ vec_capacity steps.old }
+        ensures steps_capacity { vec_capacity steps.new ≡ vec_capacity steps.old }
         ensures clauses { self.new.propositional ≡ self.old.propositional }
     {
         let names = self.parts.names();
