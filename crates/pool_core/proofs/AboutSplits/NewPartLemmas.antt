@@ -1,6 +1,6 @@
 -- A part that is met for the first time: what is kept of its signed name and of the lines that introduce it.
 use Rattle.std.proofs.Common.{◌≡◌, ℕ, zero, suc, ◌+◌, ◌<◌, ◌≤◌, Bool, true, false, not, ◌&&◌, ◌||◌, ◌==◌, List, [], ◌∷◌, ◌++◌, map, length, get_or, refl, ap, ap₂, sym, ◌∙◌, subst, ⊎_elim, arith, append_assoc, append-nil}
-use Rattle.std.specs.Prelude.{cond, if◌then◌else◌, All}
+use Rattle.std.specs.Prelude.{cond, if◌then◌else◌, slice_index_or, All}
 use Rattle.std.specs.List.{list_any, position_or_len, range_with_len}
 use Rattle.std.proofs.lemmas.Bool.{true≢false, cases_Bool, cond-true, cond-false, eq-eqb, ne_eqb, or_left, or_right, or_cases}
 use Rattle.std.proofs.lemmas.List.{length-append, length-map, map-append}
@@ -20,12 +20,13 @@ use Rattle.split_parts.specs.SignedNames.{affirmed, named, signed_name}
 use Rattle.split_parts.specs.Tags.{has_part, with_part, tag_of}
 use Rattle.split_parts.proofs.AboutTags.SignedLawLemmas.{signed_names_stay, signed_names_tell_parts}
 use Rattle.split_parts.proofs.AboutTags.SignedLemmas.{named-end, named-there, next-name, tag-below}
-use Rattle.split_parts.proofs.AboutTags.TagLawLemmas.{met-there, tag-front}
+use Rattle.split_parts.proofs.AboutTags.TagLawLemmas.{met-there}
+use Rattle.split_parts.proofs.AboutTags.TagLemmas.{tag-new}
 use Rattle.pool_history.specs.Tags.{name_count}
 use Rattle.pool_history.specs.Record.{PoolRecord, PropositionalClause}
 use Rattle.pool_history.specs.Lines.{introduces, definition_of}
 use Rattle.pool_history.specs.Registering.{definitions, with_tag}
-use Rattle.pool_history.proofs.AboutLines.NameTableLemmas.{of-component, of-opposite}
+use Rattle.pool_history.proofs.AboutLines.NameTableLemmas.{at-tag, of-component, of-opposite}
 use Rattle.pool_core.specs.Splits.{SplitView, AreSplitsOf, AreStepsAndSplitsOf, IsNameOf, component_lines, definition_lines, is_introduced}
 use Rattle.pool_core.proofs.AboutSplits.SplitsLemmas.{place-stays}
 
@@ -33,7 +34,7 @@ use Rattle.pool_core.proofs.AboutSplits.SplitsLemmas.{place-stays}
 
 -- what isn't there is found after it
 place-after : {X : Type 0} (p : X → Bool) (xs ys : List X) → list_any p xs ≡ false → position_or_len p (xs ++ ys) ≡ length xs + position_or_len p ys
-place-after p [] ys none = refl
+place-after p [] ys none = let e : position_or_len p ys ≡ 0 + position_or_len p ys = omega arith in e
 place-after p (x ∷ xs) ys none =
     by (p x) none (place-after p xs ys)
   where
@@ -54,7 +55,8 @@ there-all (c ∷ cs) =
 range-more : (from n : ℕ) → range_with_len from (n + 1) ≡ range_with_len from n ++ (from + n) ∷ []
 range-more from zero = ap (λ k. k ∷ []) (let e : from ≡ from + 0 = omega arith in e)
 range-more from (suc n) =
-    ap (λ ks. from ∷ ks) (range-more (from + 1) n ∙ ap (λ k. range_with_len (from + 1) n ++ k ∷ []) (let e : from + 1 + n ≡ from + suc n = omega arith in e))
+    ap (range_with_len from) (let e : suc n + 1 ≡ suc (n + 1) = omega arith in e)
+    ∙ ap (λ ks. from ∷ ks) (range-more (from + 1) n ∙ ap (λ k. range_with_len (from + 1) n ++ k ∷ []) (let e : from + 1 + n ≡ from + suc n = omega arith in e))
 
 range-long : (from n : ℕ) → length (range_with_len from n) ≡ n
 range-long from zero = refl
@@ -367,6 +369,74 @@ module _ (v : SplitView) (parts : List (List TreeLiteral)) (lines : List Line) (
         (λ n some.
         ⊎_elim (by-component n) (λ later. by-opposite n negative (sym (or-nothing (introduces n (Opposite next.name))) ∙ later))
         (or_cases (introduces n (Component next.name)) (introduces n (Opposite next.name) || false) some))
+
+-- ---- what the code asks
+
+-- the new part's tag
+pub same-tag : (cs : List (List TreeLiteral)) (c : List TreeLiteral) → tag_of (with_part cs c) c ≡ tag_of cs c
+same-tag cs c = by (has_part c cs) refl
+  where
+    by : (b : Bool) → has_part c cs ≡ b → tag_of (if b then cs else cs ++ c ∷ []) c ≡ tag_of cs c
+    by true there = refl
+    by false new = next-name cs c new ∙ tag-new c cs new
+
+pub tag-within : (cs : List (List TreeLiteral)) (c : List TreeLiteral) → tag_of cs c < length (with_part cs c)
+tag-within cs c = subst (λ n. n < length (with_part cs c)) (same-tag cs c) (tag-below (with_part cs c) c (met-there cs c))
+
+-- and the part that stands there
+pub at-its-tag : (cs : List (List TreeLiteral)) (c : List TreeLiteral) → slice_index_or (with_part cs c) (tag_of cs c) [] ≡ c
+at-its-tag cs c = ap (λ n. slice_index_or (with_part cs c) n []) (sym (same-tag cs c)) ∙ at-tag (with_part cs c) c (met-there cs c)
+
+-- whether it is new, and its signed name
+pub is-new : (b n : Bool) → n ≡ not b → n ≡ true → b ≡ false
+is-new false n said yes = refl
+is-new true n said yes = absurd (true≢false (sym yes ∙ said))
+
+pub signed-is :
+    (old now parts : List (List TreeLiteral)) (part : List TreeLiteral) (tag : ℕ) (signed : NameLit)
+    → old ≡ parts → now ≡ with_part old part → tag ≡ tag_of old part → signed ≡ signed_name now (slice_index_or now tag [])
+    → signed ≡ signed_name (with_part parts part) part
+signed-is old now parts part tag signed same added tagged named_so =
+    named_so
+    ∙ ap₂ (λ (cs : List (List TreeLiteral)) (n : ℕ). signed_name cs (slice_index_or cs n []))
+    (added ∙ ap (λ cs. with_part cs part) same) (tagged ∙ ap (λ cs. tag_of cs part) same)
+    ∙ ap (signed_name (with_part parts part)) (at-its-tag parts part)
+
+-- the component line of its name is kept
+pub name-listed :
+    (v : SplitView) (steps : List Step) (r : PoolRecord) (part : List TreeLiteral) (listed : List ℕ) (line : ℕ)
+    → AreStepsAndSplitsOf v steps r → has_part part r.parts ≡ false
+    → let n = signed_name (with_part r.parts part) part in
+    listed ≡ (if n.name == name_count r.parts then v.component_lines ++ line ∷ [] else v.component_lines)
+    → n.name < length listed
+name-listed v steps r part listed line is new listed_is = by is_named refl
+  where
+    next : NameLit
+    next = signed_name (with_part r.parts part) part
+
+    is_named : Bool
+    is_named = has_part (affirmed part) (named r.parts)
+
+    many : length v.component_lines ≡ name_count r.parts
+    many =
+        ap length is.splits.component_lines ∙ length-map (range_with_len 0 (name_count r.parts)) (λ k. definition_of r.lines (positive_of k))
+        ∙ range-long 0 (name_count r.parts)
+
+    now : (b : Bool) → is_named ≡ b → listed ≡ (if not b then v.component_lines ++ line ∷ [] else v.component_lines)
+    now b is_b =
+        listed_is
+        ∙ ap (λ c. if c then v.component_lines ++ line ∷ [] else v.component_lines)
+        (is-next v r.parts r.lines r.propositional r.model r.modelled is.splits part new ∙ ap not is_b)
+
+    by : (b : Bool) → is_named ≡ b → next.name < length listed
+    by true there =
+        let below = (known-name v r.parts r.lines r.propositional r.model r.modelled is.splits part new there).0 in
+        let long = ap length (now true there) in
+        omega (arith, below, long, many)
+    by false fresh =
+        let last = (fresh-name v r.parts r.lines r.propositional r.model r.modelled is.splits part new fresh).0 in
+        let long : length listed ≡ length v.component_lines + 1 = ap length (now false fresh) ∙ length-append v.component_lines (line ∷ []) in
+        omega (arith, last, long, many)
 
 -- ---- the record
 

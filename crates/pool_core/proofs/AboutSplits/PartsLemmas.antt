@@ -46,14 +46,14 @@ tags-kept parts part (k ∷ ks) there =
 -- The parts that are left lead from what is kept now to the end; the others have their tags.
 pub record AreDefinedSoFar
     (before : SplitView) (steps_before : List Step) (tags_before : List ℕ) (parts : List PartKey)
-    (now : SplitView) (steps : List Step) (tags : List ℕ) (rest : List PartKey) : Type 0 where
+    (now : SplitView) (steps : List Step) (noted : List ℕ) (rest : List PartKey) : Type 0 where
   pub came :
       (r : PoolRecord) → AreStepsAndSplitsOf before steps_before r
       → (s : PoolRecord) × AreStepsAndSplitsOf now steps s × (fold with_tag s (map key_part rest) ≡ fold with_tag r (map key_part parts))
   pub done : List PartKey
   pub whole : parts ≡ done ++ rest
   pub there : All (λ k. has_part (key_part k) now.parts ≡ true) done
-  pub tags : tags ≡ tags_before ++ tags_in now.parts done
+  pub tags : noted ≡ tags_before ++ tags_in now.parts done
 
 module _ (before : SplitView) (steps_before : List Step) (tags_before : List ℕ) (parts : List PartKey) where
   pub so-far-begins : (rest : List PartKey) → rest ≡ parts → AreDefinedSoFar before steps_before tags_before parts before steps_before tags_before rest
