@@ -389,8 +389,8 @@ at-its-tag cs c = ap (λ n. slice_index_or (with_part cs c) n []) (sym (same-tag
 
 -- whether it is new, and its signed name
 pub is-new : (b n : Bool) → n ≡ not b → n ≡ true → b ≡ false
-is-new false n said yes = refl
-is-new true n said yes = absurd (true≢false (sym yes ∙ said))
+is-new false n said told = refl
+is-new true n said told = absurd (true≢false (sym told ∙ said))
 
 pub signed-is :
     (old now parts : List (List TreeLiteral)) (part : List TreeLiteral) (tag : ℕ) (signed : NameLit)
