@@ -1,5 +1,5 @@
 -- What a pool keeps: each field is what the replay of its history has.
-use Rattle.std.specs.Prelude.{◌≡◌, ℕ, ◌+◌, ◌<◌, ◌≤◌, ◌%◌, ◌==◌, true, false, [], map, length, take, position, slice_get, Option, None, Some, option_map, vec_len, vec_capacity, All}
+use Rattle.std.specs.Prelude.{◌≡◌, ℕ, ◌+◌, ◌<◌, ◌≤◌, ◌%◌, ◌==◌, true, false, [], map, length, take, position, slice_get, None, Some, option_map, vec_len, vec_capacity, All}
 use Rattle.fol_base.specs.Literal.{clause_of}
 use Rattle.kernel_steps.specs.Split.{has_number}
 use Rattle.kernel_steps.specs.declared.step.Line.{Line}

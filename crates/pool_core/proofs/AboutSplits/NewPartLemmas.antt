@@ -1,5 +1,5 @@
 -- A part that is met for the first time: what is kept of its signed name and of the lines that introduce it.
-use Rattle.std.proofs.Common.{◌≡◌, ℕ, zero, suc, ◌+◌, ◌<◌, ◌≤◌, Bool, true, false, not, ◌&&◌, ◌||◌, ◌==◌, List, [], ◌∷◌, ◌++◌, map, length, get_or, refl, ap, ap₂, sym, ◌∙◌, subst, ⊎_elim, arith, append_assoc, append-nil}
+use Rattle.std.proofs.Common.{◌≡◌, ℕ, zero, suc, ◌+◌, ◌<◌, ◌≤◌, Bool, true, false, not, ◌||◌, ◌==◌, List, [], ◌∷◌, ◌++◌, map, length, get_or, refl, ap, ap₂, sym, ◌∙◌, subst, ⊎_elim, arith, append_assoc, append-nil}
 use Rattle.std.specs.Prelude.{cond, if◌then◌else◌, slice_index_or, All}
 use Rattle.std.specs.List.{list_any, position_or_len, range_with_len}
 use Rattle.std.proofs.lemmas.Bool.{true≢false, cases_Bool, cond-true, cond-false, eq-eqb, ne_eqb, or_left, or_right, or_cases}

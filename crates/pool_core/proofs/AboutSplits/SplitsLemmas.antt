@@ -1,5 +1,5 @@
 -- What is kept of splitting, when lines come that introduce no name that is kept.
-use Rattle.std.proofs.Common.{◌≡◌, ℕ, suc, ◌+◌, ◌<◌, ◌≤◌, Bool, true, false, not, ◌||◌, List, [], ◌∷◌, ◌++◌, map, length, refl, ap, ap₂, sym, ◌∙◌, subst, arith}
+use Rattle.std.proofs.Common.{◌≡◌, ℕ, suc, ◌+◌, ◌<◌, Bool, true, false, not, ◌||◌, List, [], ◌∷◌, ◌++◌, map, length, refl, ap, ap₂, sym, ◌∙◌, subst, arith}
 use Rattle.std.specs.Prelude.{cond, All}
 use Rattle.std.specs.List.{list_all, list_any, position_or_len, range_with_len}
 use Rattle.std.proofs.lemmas.Bool.{and_parts, true≢false}
@@ -18,8 +18,7 @@ use Rattle.split_parts.specs.SignedNames.{signed_name}
 use Rattle.pool_history.specs.Tags.{name_count}
 use Rattle.pool_history.specs.Record.{PoolRecord, Registered, PropositionalClause}
 use Rattle.pool_history.specs.Lines.{introduces, definition_of, line_number, with_parents, pool_line}
-use Rattle.pool_core.specs.Splits.{SplitView, AreSplitsOf, HasTags, is_introduced, split_view}
-use Rattle.pool_core.specs.declared.splits.Splits.{Splits}
+use Rattle.pool_core.specs.Splits.{SplitView, AreSplitsOf, HasTags, is_introduced}
 
 -- ---- places
 
@@ -163,23 +162,6 @@ one-more-clause v parts lines clauses model modelled c all numbers more further 
   definitions = is.definitions;
   known = is.known;
 }
-
--- what is seen where the lists are the same
-pub same-view :
-    (s t : Splits)
-    → t.parts.parts ≡ s.parts.parts → t.component_lines.items ≡ s.component_lines.items → t.definition_lines.items ≡ s.definition_lines.items
-    → t.propositional.lists ≡ s.propositional.lists → t.propositional_lines.items ≡ s.propositional_lines.items → t.model ≡ s.model → t.modelled ≡ s.modelled
-    → split_view t ≡ split_view s
-same-view s t parts components definitions clauses numbers model modelled =
-    λ j. record {
-      parts = parts j;
-      component_lines = components j;
-      definition_lines = definitions j;
-      propositional = clauses j;
-      propositional_lines = numbers j;
-      model = model j;
-      modelled = modelled j;
-    }
 
 -- ---- assertions
 

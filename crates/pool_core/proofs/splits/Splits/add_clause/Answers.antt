@@ -1,4 +1,3 @@
-use Rattle.std.proofs.Common.{refl}
 use Rattle.pool_core.specs.Splits.{split_view}
 use Rattle.pool_core.proofs.AboutSplits.SplitsLemmas.{one-more-clause}
 use Rattle.pool_core.proofs.splits.Splits.add_clause.Goals as goal

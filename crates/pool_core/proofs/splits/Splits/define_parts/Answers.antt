@@ -1,6 +1,5 @@
-use Rattle.std.proofs.Common.{◌≡◌, ℕ, suc, List, ◌∷◌, length, ap, subst, arith}
+use Rattle.std.proofs.Common.{◌≡◌, ℕ, suc, List, length, ap, subst, arith}
 use Rattle.std.specs.Vec.Iter.{into_iter_items}
-use Rattle.split_parts.specs.PartKeys.{key_part}
 use Rattle.split_parts.specs.declared.key.PartKey.{PartKey}
 use Rattle.pool_core.specs.Splits.{HasPartRoom, split_view}
 use Rattle.pool_core.proofs.AboutSplits.PartsLemmas.{AreDefinedSoFar, one-defined}
