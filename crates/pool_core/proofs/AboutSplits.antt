@@ -1,0 +1,4 @@
+-- Parts, the lines that introduce their names, and the clauses over names.
+pub mod NewPartLemmas
+pub mod PartsLemmas
+pub mod SplitsLemmas
