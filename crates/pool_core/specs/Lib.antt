@@ -33,3 +33,4 @@ pub mod Started
 pub mod Splits
 pub mod State
 pub mod Placing
+pub mod Parted

@@ -45,6 +45,7 @@ mod history;
 mod inputs;
 mod interning;
 mod members;
+mod parts;
 mod placing;
 mod pool;
 mod proof_state;
