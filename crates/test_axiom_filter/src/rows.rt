@@ -1,7 +1,5 @@
 // Worked selections.
 
-ghost use Rattle.tptp_tree.specs.ProblemSize.{HasProblemSize};
-
 use axiom_filter::select;
 use outside::{Files, MemFile, MemLibrary};
 use plain_types::Numbers;
@@ -11,9 +9,7 @@ use tptp_problem::read_problem;
 use tptp_tree::Problem;
 
 /// The problem of a text, which has to be one.
-pub(crate) fn problem_of(rt: &impl Abort, alloc: Global, text: &[u8]) -> Problem
-    ensures { HasProblemSize result.formulas }
-{
+fn problem_of(rt: &impl Abort, alloc: Global, text: &[u8]) -> Problem {
     let file = MemFile::new(alloc, "a.p", text).expect(rt, "memory");
     let mut files = Files::new(alloc);
     files.push(file).expect(rt, "memory");
