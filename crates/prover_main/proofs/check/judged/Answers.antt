@@ -1,5 +1,5 @@
 use Rattle.std.proofs.lemmas.Result.{IfOk-weaker}
-use Rattle.prover_main.specs.AnswerShape.{judged_accepted, judged_refused}
+use Rattle.prover_main.specs.AnswerShape.{judged_accepted}
 use Rattle.prover_main.proofs.AboutOutcomes.TheoremLemmas.{refuted-theorem}
 use Rattle.prover_main.proofs.check.judged.Goals as goal
 

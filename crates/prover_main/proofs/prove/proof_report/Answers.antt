@@ -1,4 +1,4 @@
-use Rattle.std.proofs.Common.{◌≡◌, Bool, ap, subst, sym, ◌∙◌, Some}
+use Rattle.std.proofs.Common.{Bool, ap, subst, sym, ◌∙◌, Some}
 use Rattle.std.proofs.lemmas.Result.{IfOk-weaker}
 use Rattle.clausal_form.specs.Form.{form_of}
 use Rattle.tstp_writer.specs.Printable.{IsShown}
