@@ -1,7 +1,6 @@
 -- What is kept of an inference is reduced: the batch is right for its job, by the history's lawfulness.
-use Rattle.std.proofs.Common.{◌∷◌, refl}
+use Rattle.std.proofs.Common.{◌∷◌}
 use Rattle.std.proofs.lemmas.List.Elements.{All-contains}
-use Rattle.pool_history.specs.Record.{GivenJob}
 use Rattle.pool_history.specs.Batches.{IsRightFate}
 use Rattle.pool_history.specs.Replay.{replay, start}
 use Rattle.pool_history.specs.Record.{clauses_of}

@@ -1,6 +1,6 @@
 -- A worked inference from a clause under an assertion: the part p(X0) of a clause that was split, and not p(a), give the empty clause under the
 -- part's assertion. p(X0) doesn't cut the other clause, since its assertion isn't among that one's.
-use Rattle.std.proofs.Common.{◌≡◌, ℕ, zero, suc, Bool, true, false, not, ◌&&◌, ◌==◌, List, [], ◌∷◌, None, Some, refl, sym, ap, ◌∙◌, subst, ◌⊎◌, ⊎_elim, inl, inr, arith, lit<}
+use Rattle.std.proofs.Common.{◌≡◌, ℕ, zero, suc, true, false, ◌&&◌, ◌==◌, List, [], ◌∷◌, None, Some, refl, sym, ap, ◌∙◌, subst, ⊎_elim, inl, inr, arith, lit<}
 use Rattle.std.specs.Prelude.{slice_get, slice_index_or, take, IsTrue, if◌then◌else◌, Contains}
 use Rattle.std.proofs.lemmas.Bool.{true≢false, and_parts, and_from}
 use Rattle.std.proofs.lemmas.Option.{none-some, same_Some}
@@ -26,11 +26,11 @@ use Rattle.fol_base.proofs.WorkedExamples.MatchingExamples.{first_argument}
 use Rattle.kernel_steps.specs.Conclusion.{verdict, concludes}
 use Rattle.kernel_steps.specs.Derivation.{complement, continued, under_names}
 use Rattle.kernel_steps.specs.Examples.{not_p, not_true}
-use Rattle.kernel_steps.specs.Inference.{have_heads_of_one_kind, NamedSuperposition, NamedResolution, NamedFactoring, RewritesBy, CutsBy, Reduces, IsIrreducible}
+use Rattle.kernel_steps.specs.Inference.{have_heads_of_one_kind, NamedSuperposition, NamedResolution, NamedFactoring, RewritesBy, CutsBy, Reduces}
 use Rattle.kernel_steps.specs.Lines.{clause_parents, IsNumbered}
 use Rattle.kernel_steps.specs.Named.{IsInference}
 use Rattle.kernel_steps.specs.Sized.{IsSizedInference}
-use Rattle.kernel_steps.specs.Symbols.{symbols_pass, literal_symbols_pass, clause_symbols_pass}
+use Rattle.kernel_steps.specs.Symbols.{symbols_pass, literal_symbols_pass}
 use Rattle.kernel_steps.specs.declared.key.Key.{Key}
 use Rattle.kernel_steps.specs.declared.key.Key.TheVariants.{Para, Refl, Factor, Replaced}
 use Rattle.kernel_steps.specs.declared.step.Step.TheVariants as step
