@@ -1,10 +1,8 @@
 -- The parts of a clause in the bank, one after another.
-use Rattle.std.proofs.Common.{◌≡◌, List, [], ◌∷◌, ◌++◌, subst, sym, ap₂}
-use Rattle.std.specs.Prelude.{All}
+use Rattle.std.proofs.Common.{◌≡◌, List, [], ◌∷◌, ◌++◌, subst, sym}
 use Rattle.fol_base.specs.Clause.{TreeLiteral}
 use Rattle.term_bank.specs.declared.bank.Bank.{Bank}
 use Rattle.term_bank.specs.declared.table.Table.{Table}
-use Rattle.bank_clause.specs.Clause.{IsKnown}
 use Rattle.split_parts.specs.declared.key.PartKey.{PartKey}
 use Rattle.pool_core.specs.Parted.{IsInternedPart, AreInternedParts}
 use Rattle.pool_core.specs.Placing.{KnowsMore}
