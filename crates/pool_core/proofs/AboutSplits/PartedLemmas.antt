@@ -8,10 +8,6 @@ use Rattle.pool_core.specs.Parted.{IsInternedPart, AreInternedParts}
 use Rattle.pool_core.specs.Placing.{KnowsMore}
 use Rattle.pool_core.specs.declared.parts.InternedPart.{InternedPart}
 
-pub no-parts : (bank : Bank) (table : Table) (keys : List PartKey) (xs : List InternedPart) → keys ≡ [] → xs ≡ [] → AreInternedParts bank table [] keys xs
-no-parts bank table keys xs none empty =
-    subst (λ (ks : List PartKey). AreInternedParts bank table [] ks xs) (sym none) (subst (AreInternedParts bank table [] []) (sym empty) tt)
-
 -- for a table that knows more
 learned-parts :
     (bank : Bank) (known learned : Table) (lss : List (List TreeLiteral)) (keys : List PartKey) (xs : List InternedPart)
