@@ -4,10 +4,11 @@ ghost use Rattle.std.specs.Prelude.{◌≡◌, ◌+◌, ◌≤◌, [], ◌∷◌
 ghost use Rattle.fol_base.specs.Clause.{TreeLiteral};
 ghost use Rattle.fol_base.specs.Literal.{clause_of};
 ghost use Rattle.term_bank.specs.Table.{IsTableOf};
+ghost use Rattle.bank_clause.specs.ClauseHash.{clause_hash, literals_hash};
 ghost use Rattle.pool_core.specs.Parted.{AreParts, IsFitPart, literals_of_parts};
 ghost use Rattle.pool_core.specs.Placing.{KnowsMore};
 
-use bank_clause::{BankClause, UnassertedClause, literals_hash};
+use bank_clause::{BankClause, UnassertedClause, literals_hash, names_hash};
 use fol_base::Clause;
 use plain_types::Mem;
 use split_parts::PartKey;
@@ -22,6 +23,17 @@ pub struct InternedPart {
     pub(crate) clause: UnassertedClause,
     /// The hash of its literals.
     pub(crate) hash: u64,
+}
+
+impl InternedPart {
+    /// The clause under a tag as its assertion, and its hash. It takes no memory.
+    pub(crate) fn under(self, tag: u32) -> (BankClause, u64)
+        ensures clause { result.0 ≡ record { literals = self.clause.literals; names = tag ∷ [] } }
+        ensures hash { self.hash ≡ literals_hash self.clause.literals → result.1 ≡ clause_hash result.0 }
+    {
+        let hash = names_hash(self.hash, &[tag]);
+        (self.clause.asserting(tag), hash)
+    }
 }
 
 /// The parts of a clause, in order.

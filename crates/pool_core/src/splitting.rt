@@ -2,6 +2,7 @@
 // there is room.
 
 ghost use Rattle.std.specs.Prelude.{◌≡◌, ℕ, suc, ◌+◌, ◌*◌, ◌<◌, ◌≤◌, ◌++◌, All, false, fold, get_or, length, map, vec_len, vec_capacity};
+ghost use Rattle.plain_types.specs.Names.{opposite};
 ghost use Rattle.kernel_steps.specs.Derivation.{introduces_name};
 ghost use Rattle.split_parts.specs.PartKeys.{key_part};
 ghost use Rattle.split_parts.specs.Tags.{tag_of};
@@ -12,7 +13,7 @@ ghost use Rattle.pool_core.specs.Splits.{AreStepsAndSplitsOf, HasClauseRoom, Has
 
 use crate::splits::Splits;
 use kernel_steps::Step;
-use plain_types::NameLit;
+use plain_types::{NameLit, opposite};
 use split_parts::PartKey;
 
 impl Splits {
@@ -49,6 +50,19 @@ impl Splits {
         for tag in tags {
             names.push_reserved(self.parts.signed(*tag));
             lines.push_reserved(self.definition_lines[*tag as usize]);
+        }
+    }
+
+    /// Adds the opposites of the signed names of asserted tags, as a line has them.
+    pub(crate) fn add_assertions(&self, tags: &[u32], names: &mut Vec<NameLit>)
+        requires tags { All (λ tag. tag < length self.now.parts.parts) tags.now }
+        requires room { vec_len names.old + length tags.now ≤ vec_capacity names.old }
+        ensures names { names.new.items ≡ names.old.items ++ map (λ tag. opposite (name_of_tag self.now.parts.parts tag)) tags.now }
+        ensures len { vec_len names.new ≡ vec_len names.old + length tags.now }
+        ensures capacity { vec_capacity names.new ≡ vec_capacity names.old }
+    {
+        for tag in tags {
+            names.push_reserved(opposite(self.parts.signed(*tag)));
         }
     }
 

@@ -529,29 +529,3 @@ defined-new v w steps middle after r part number is new parts components middle_
         middle-long : (a : Bool) → middle ≡ (if not a then steps ++ Component next.name ∷ [] else steps) → length middle ≡ length r.lines + (if a then 0 else 1)
         middle-long true e = ap length e ∙ (let l = long in omega (arith, l))
         middle-long false e = ap length e ∙ length-append steps (Component next.name ∷ []) ∙ (let l = long in omega (arith, l))
-
--- one that was met brings nothing
-pub defined-again :
-    (v w : SplitView) (steps : List Step) (r : PoolRecord) (part : List TreeLiteral)
-    → AreStepsAndSplitsOf v steps r → has_part part r.parts ≡ true → w.parts ≡ with_part r.parts part
-    → w.component_lines ≡ v.component_lines → w.definition_lines ≡ v.definition_lines
-    → w.propositional ≡ v.propositional → w.propositional_lines ≡ v.propositional_lines → w.model ≡ v.model → w.modelled ≡ v.modelled
-    → AreStepsAndSplitsOf w steps (with_tag r part)
-defined-again v w steps r part is there parts components numbers_of propositional numbers model modelled =
-    subst (AreStepsAndSplitsOf w steps)
-    (sym (cond-true (has_part part r.parts) r (record r { parts = with_part r.parts part; lines = r.lines ++ definitions r.parts part (signed_name (with_part r.parts part) part) }) there))
-    (record {
-      steps = is.steps;
-      splits = record {
-        parts = parts ∙ cond-true (has_part part r.parts) r.parts (r.parts ++ part ∷ []) there;
-        component_lines = components ∙ is.splits.component_lines;
-        definition_lines = numbers_of ∙ is.splits.definition_lines;
-        propositional = propositional ∙ is.splits.propositional;
-        propositional_lines = numbers ∙ is.splits.propositional_lines;
-        model = model ∙ is.splits.model;
-        modelled = modelled ∙ is.splits.modelled;
-        components = subst (All (λ n. n < length r.lines)) (sym components) is.splits.components;
-        definitions = subst (All (λ n. n < length r.lines)) (sym numbers_of) is.splits.definitions;
-        known = is.splits.known;
-      };
-    })

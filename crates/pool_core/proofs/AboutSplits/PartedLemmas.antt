@@ -1,18 +1,12 @@
 -- The parts of a clause in the bank, one after another.
-use Rattle.std.proofs.Common.{◌≡◌, List, [], ◌∷◌, ◌++◌, subst, sym, ap₂}
-use Rattle.std.specs.Prelude.{All}
+use Rattle.std.proofs.Common.{◌≡◌, List, [], ◌∷◌, ◌++◌, subst, sym}
 use Rattle.fol_base.specs.Clause.{TreeLiteral}
 use Rattle.term_bank.specs.declared.bank.Bank.{Bank}
 use Rattle.term_bank.specs.declared.table.Table.{Table}
-use Rattle.bank_clause.specs.Clause.{IsKnown}
 use Rattle.split_parts.specs.declared.key.PartKey.{PartKey}
 use Rattle.pool_core.specs.Parted.{IsInternedPart, AreInternedParts}
 use Rattle.pool_core.specs.Placing.{KnowsMore}
 use Rattle.pool_core.specs.declared.parts.InternedPart.{InternedPart}
-
-pub no-parts : (bank : Bank) (table : Table) (keys : List PartKey) (xs : List InternedPart) → keys ≡ [] → xs ≡ [] → AreInternedParts bank table [] keys xs
-no-parts bank table keys xs none empty =
-    subst (λ (ks : List PartKey). AreInternedParts bank table [] ks xs) (sym none) (subst (AreInternedParts bank table [] []) (sym empty) tt)
 
 -- for a table that knows more
 learned-parts :

@@ -1,9 +1,9 @@
 -- The parts of a clause get their tags, one after another; and the line of a split.
-use Rattle.std.proofs.Common.{◌≡◌, ℕ, ◌-◌, Bool, true, false, ◌||◌, List, [], ◌∷◌, ◌++◌, map, length, refl, ap, ap₂, sym, ◌∙◌, subst, arith, append_assoc, append-nil}
+use Rattle.std.proofs.Common.{◌≡◌, ℕ, ◌-◌, Bool, true, false, ◌||◌, List, [], ◌∷◌, ◌++◌, map, length, refl, ap, ap₂, sym, ◌∙◌, subst, arith, append_assoc}
 use Rattle.std.specs.Prelude.{fold, if◌then◌else◌, All}
 use Rattle.std.proofs.lemmas.Bool.{true≢false, or_left}
 use Rattle.std.proofs.lemmas.List.{length-append, length-map, map-append}
-use Rattle.std.proofs.lemmas.List.Elements.{All-nil, All-head, All-tail, All-push, All-weaker}
+use Rattle.std.proofs.lemmas.List.Elements.{All-head, All-tail, All-push, All-weaker}
 use Rattle.std.proofs.lemmas.List.Folds.{list_any-append}
 use Rattle.plain_types.specs.declared.sequence.NameLit.{NameLit}
 use Rattle.fol_base.specs.Clause.{TreeLiteral, literals_eq}
@@ -56,15 +56,6 @@ pub record AreDefinedSoFar
   pub tags : noted ≡ tags_before ++ tags_in now.parts done
 
 module _ (before : SplitView) (steps_before : List Step) (tags_before : List ℕ) (parts : List PartKey) where
-  pub so-far-begins : (rest : List PartKey) → rest ≡ parts → AreDefinedSoFar before steps_before tags_before parts before steps_before tags_before rest
-  so-far-begins rest same = record {
-    came = λ r is. (r, is, ap (λ (ks : List PartKey). fold with_tag r (map key_part ks)) same);
-    done = [];
-    whole = sym same;
-    there = All-nil (λ (k : PartKey). has_part (key_part k) before.parts ≡ true);
-    tags = sym (append-nil tags_before);
-  }
-
   pub one-defined :
       (now next : SplitView) (steps after : List Step) (tags more : List ℕ) (part : PartKey) (rest : List PartKey) (tag : ℕ)
       → ((r : PoolRecord) → AreStepsAndSplitsOf now steps r → AreStepsAndSplitsOf next after (with_tag r (key_part part)))
@@ -87,26 +78,6 @@ module _ (before : SplitView) (steps_before : List Step) (tags_before : List ℕ
         (sym (ap (λ ps. tags_in ps so_far.done) added ∙ tags-kept now.parts (key_part part) so_far.done so_far.there))
         ∙ ap (λ ns. tags_before ++ ns) (sym (map-append (λ (k : PartKey). tag_of next.parts (key_part k)) so_far.done (part ∷ [])));
   }
-
-  pub told-now :
-      (now : SplitView) (steps : List Step) (tags : List ℕ) (rest : List PartKey) → (r : PoolRecord) × AreStepsAndSplitsOf before steps_before r
-      → AreDefinedSoFar before steps_before tags_before parts now steps tags rest → (s : PoolRecord) × AreStepsAndSplitsOf now steps s
-  told-now now steps tags rest told so_far = let was = so_far.came told.0 told.1 in (was.0, was.1)
-
-  pub all-defined :
-      (now : SplitView) (steps : List Step) (tags : List ℕ) (rest : List PartKey) → rest ≡ []
-      → AreDefinedSoFar before steps_before tags_before parts now steps tags rest
-      → (r : PoolRecord) → AreStepsAndSplitsOf before steps_before r → AreStepsAndSplitsOf now steps (fold with_tag r (map key_part parts))
-  all-defined now steps tags rest none so_far r is =
-      let was = so_far.came r is in
-      subst (AreStepsAndSplitsOf now steps) (sym (ap (λ (ks : List PartKey). fold with_tag was.0 (map key_part ks)) none) ∙ was.2) was.1
-
-  pub all-tagged :
-      (now : SplitView) (steps : List Step) (tags : List ℕ) (rest : List PartKey) → rest ≡ []
-      → AreDefinedSoFar before steps_before tags_before parts now steps tags rest → tags ≡ tags_before ++ tags_in now.parts parts
-  all-tagged now steps tags rest none so_far =
-      so_far.tags
-      ∙ ap (λ (ks : List PartKey). tags_before ++ tags_in now.parts ks) (sym (so_far.whole ∙ ap (λ ks. so_far.done ++ ks) none ∙ append-nil so_far.done))
 
 -- ---- the split line
 
