@@ -2,6 +2,7 @@
 // accepted.
 
 ghost use Rattle.std.specs.Prelude.{◌≡◌, [], ◌∷◌, map};
+ghost use Rattle.fol_base.specs.Tree.{application, no_trees};
 ghost use Rattle.fol_base.specs.Term.{tree_of};
 ghost use Rattle.fol_base.specs.Examples.{clause};
 ghost use Rattle.fol_base.specs.Literal.{literal_of, clause_of};
@@ -135,12 +136,14 @@ fn four_clauses_table(rt: &impl Abort, alloc: Global) -> NameTable
 
 // ---- steps
 
-/// The first literal of a line, bound to that term, put into the unit clause of another.
-fn para(rt: &impl Abort, alloc: Global, first: u64, second: u64, term: Term) -> Step
-    ensures { result ≡ step.Para first second 0 Left 0 Left [] (tree_of term ∷ []) [] }
+/// The first literal of a line, bound to that constant, put into the unit clause of another.
+fn para(rt: &impl Abort, alloc: Global, first: u64, second: u64, symbol: u32) -> Step
+    ensures { result ≡ step.Para first second 0 Left 0 Left [] (application symbol no_trees ∷ []) [] }
 {
     let mut first_bind = Terms::new(alloc);
-    first_bind.push(term).expect(rt, "memory");
+    first_bind
+        .push(constant(alloc, symbol))
+        .expect(rt, "memory");
     Step::Para {
         first,
         second,
@@ -219,9 +222,9 @@ fn two_parts_steps(rt: &impl Abort, alloc: Global) -> Vec<Step>
         Step::Component(0),
         Step::Component(1),
         split(rt, alloc, 0, &[3, 4]),
-        para(rt, alloc, 3, 1, constant(alloc, A)),
+        para(rt, alloc, 3, 1, A),
         refl(alloc, 6),
-        para(rt, alloc, 4, 2, constant(alloc, B)),
+        para(rt, alloc, 4, 2, B),
         refl(alloc, 8),
         chain(rt, alloc, &[5, 7, 9], &[FIRST, SECOND]),
     ]
