@@ -7,3 +7,4 @@ pub mod Justifiers
 pub mod Kept
 pub mod NameLemmas
 pub mod RemovalLemmas
+pub mod ResultLemmas

@@ -1,5 +1,5 @@
 -- What becomes of a told clause beside the others.
-use Rattle.std.specs.Prelude.{◌≡◌, ℕ, ◌-◌, ◌==◌, nat_lt, Bool, false, List, [], ◌∷◌, map, Option, None, Some, IsTrue, IsFalse, if◌then◌else◌}
+use Rattle.std.specs.Prelude.{◌≡◌, ℕ, ◌-◌, ◌==◌, nat_lt, Bool, List, [], map, Option, None, Some, IsTrue, IsFalse, if◌then◌else◌}
 use Rattle.fol_base.specs.Clause.{TreeClause}
 use Rattle.fol_base.specs.Literal.{clause_of}
 use Rattle.fol_base.specs.WellFormed.{SymbolUse, are_literals_of}
@@ -15,7 +15,7 @@ use Rattle.demodulate.specs.Reducing.{NoStepBy}
 use Rattle.pool_history.specs.Record.{GivenJob}
 use Rattle.kernel_steps.specs.ParentNumbers.{with_parents}
 use Rattle.pool_history.specs.Lines.{result_of}
-use Rattle.pool_history.specs.Reduction.{Lookup}
+use Rattle.pool_history.specs.Reduction.{Lookup, handed_back}
 use Rattle.pool_history.specs.Batches.{IsReducedBeside, IsRightRemoval}
 use Rattle.pool_history.specs.declared.options.Options.{Options}
 use Rattle.pool_history.specs.declared.batch.Fate.{Fate}
@@ -48,16 +48,16 @@ pub record IsReducedBy (es us : List Member) (out : Option ℕ) (c : TreeClause)
       IsFalse (is_tautology (clause_of r.clause)) → (usage : SymbolUse) (clauses : ℕ → Option TreeClause)
       → AreFormed usage es us c → AreOfClauses clauses es us → NoStepBy usage.is_predicate (without out clauses) (clause_of r.clause)
 
--- the reduced clause takes the place of a clause, or nothing was reduced
-pub record IsReplacement (victim : ℕ) (r : Reduced) (m : Removal) : Type 0 where
+-- The reduced clause takes the place of a clause, as it is handed back; or nothing was reduced.
+pub record IsReplacement (split : Bool) (victim : ℕ) (r : Reduced) (m : Removal) : Type 0 where
   pub some : r.lines ≡ [] → ⊥
   pub results : List Clause
-  pub one : map clause_of results ≡ clause_of r.clause ∷ []
+  pub given : map clause_of results ≡ handed_back split (clause_of r.clause)
   pub removal : m ≡ record { victim = victim; justifiers = r.used; fate = Kept (batch_lines victim r.lines) results }
 
-abbrev pub IsReplacedOrSame : ℕ → Reduced → Option Removal → Type 0
-IsReplacedOrSame victim r None = r.lines ≡ []
-IsReplacedOrSame victim r (Some m) = IsReplacement victim r m
+abbrev pub IsReplacedOrSame : Bool → ℕ → Reduced → Option Removal → Type 0
+IsReplacedOrSame split victim r None = r.lines ≡ []
+IsReplacedOrSame split victim r (Some m) = IsReplacement split victim r m
 
 -- ---- clauses that go
 
@@ -79,9 +79,9 @@ module _ (is_predicate : ℕ → Bool) (options : Options) (clauses : Lookup) (j
   StaysOrGoes n c None = IsReducedBeside is_predicate options clauses j n c
   StaysOrGoes n c (Some m) = GoesRightly n m
 
--- for each job for which the sets are told
-abbrev pub IsRemovalOf : List Member → List Member → List Member → ℕ → TreeClause → Option Removal → Type 0
-IsRemovalOf es us ms n c gone =
+-- for each job for which the sets are told, and the options under which results are split or not
+abbrev pub IsRemovalOf : Bool → List Member → List Member → List Member → ℕ → TreeClause → Option Removal → Type 0
+IsRemovalOf split es us ms n c gone =
     (usage : SymbolUse) (options : Options) (clauses : Lookup) (j : GivenJob)
-    → AreToldSets usage clauses j es us ms → options.split ≡ false → told_of clauses j n ≡ Some c
+    → AreToldSets usage clauses j es us ms → options.split ≡ split → told_of clauses j n ≡ Some c
     → StaysOrGoes usage.is_predicate options clauses j n c gone

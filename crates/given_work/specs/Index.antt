@@ -1,5 +1,5 @@
 -- What an index keeps.
-use Rattle.std.specs.Prelude.{◌≡◌, ◌<◌, false, All}
+use Rattle.std.specs.Prelude.{◌≡◌, ◌<◌, All}
 use Rattle.kernel_steps.specs.declared.step.TheConstants.{CLAUSE_NUMBERS}
 use Rattle.bank_clause.specs.declared.member.Member.{Member}
 use Rattle.given_work.specs.View.{IndexView}
@@ -12,7 +12,6 @@ abbrev pub view_of : Inside → IndexView
 view_of a = record { options = a.options; told = a.told; members = members_in a.store.slots.items }
 
 pub record IsIndex (a : Inside) : Type 0 where
-  pub unsplit : a.options.split ≡ false
   pub mode : a.store.partners.mode ≡ a.options.select
   pub placed : ArePlaced a.store
   pub listed : ListsMembers a.store.terms (members_in a.store.slots.items)

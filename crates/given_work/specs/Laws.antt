@@ -1,5 +1,5 @@
 -- What an index that was told the clauses of a job makes of its ticket.
-use Rattle.std.specs.Prelude.{◌≡◌, ℕ, false, List, length, Some, All}
+use Rattle.std.specs.Prelude.{◌≡◌, ℕ, List, length, Some, All}
 use mathlib.Core.List.{IsPrefix}
 use Rattle.bank_clause.specs.Clause.{clause_at}
 use Rattle.bank_clause.specs.declared.member.Member.{Member}
@@ -54,9 +54,9 @@ ToldForJobsAreTold =
     (origin : Origin) (history : List Event) (ticket : Ticket) (ms : List Member)
     → AreInputs origin.inputs → IsHistoryOf origin history → AreToldFor origin history ticket ms → AreTold ms
 
--- Where nothing is split, work that is right for all jobs for which they are told makes a right batch.
+-- And work that is right for all jobs for which they are told makes a right batch.
 abbrev pub WorkMakesRightBatches : Type 0
 WorkMakesRightBatches =
     (origin : Origin) (history : List Event) (ticket : Ticket) (ms : List Member) (batch : Batch)
-    → AreInputs origin.inputs → origin.options.split ≡ false → IsHistoryOf origin history → AreToldFor origin history ticket ms
+    → AreInputs origin.inputs → IsHistoryOf origin history → AreToldFor origin history ticket ms
     → batch.job ≡ ticket.job → IsRightUnder origin.options ms ticket.number ticket.left batch.work → IsRightBatch origin history batch

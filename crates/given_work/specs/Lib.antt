@@ -7,6 +7,7 @@ pub mod Sets
 pub mod Kept
 pub mod Index
 pub mod Telling
+pub mod Results
 pub mod Going
 pub mod Meeting
 pub mod Dropped

@@ -19,7 +19,7 @@ use Rattle.eq_rules.specs.Inferences.{AreInferences, IsConcluded, IsMade}
 use Rattle.eq_rules.specs.declared.inference.Inference.{Inference}
 use Rattle.superpose.specs.Pairing.{is_from_into}
 use Rattle.pool_history.specs.Record.{GivenJob}
-use Rattle.pool_history.specs.Reduction.{Lookup}
+use Rattle.pool_history.specs.Reduction.{Lookup, handed_back}
 use Rattle.pool_history.specs.Batches.{IsRightFate}
 use Rattle.pool_history.specs.declared.options.Options.{Options}
 use Rattle.pool_history.specs.declared.batch.Entry.{Entry}
@@ -93,45 +93,45 @@ pub record IsConcludedWith (es us ms : List Member) (by : Step) (c : TreeClause)
   pub key : Key
   pub concluded : IsConcluded usage.is_predicate mode (told_of clauses job) key by c
 
--- the line of the inference, then those of the reduction; and the result
-pub record IsKeptWith (by : Step) (clause : Clause) (r : Reduced) (fate : Fate) : Type 0 where
+-- the line of the inference, then those of the reduction; and the result as it is handed back
+pub record IsKeptWith (split : Bool) (by : Step) (clause : Clause) (r : Reduced) (fate : Fate) : Type 0 where
   pub results : List Clause
-  pub one : map clause_of results ≡ clause_of r.clause ∷ []
+  pub given : map clause_of results ≡ handed_back split (clause_of r.clause)
   pub is : fate ≡ Kept (record { step = by; clause = clause } ∷ r.lines) results
 
 -- a conclusion is dropped or kept by what it was simplified to
-abbrev pub IsFateBy : Step → Clause → Simplified → Fate → Type 0
-IsFateBy by clause outcome.Tautology fate = fate ≡ Dropped Tautology
-IsFateBy by clause (outcome.Subsumed n) fate = fate ≡ Dropped (Subsumed n)
-IsFateBy by clause (outcome.Reduced r) fate = IsKeptWith by clause r fate
+abbrev pub IsFateBy : Bool → Step → Clause → Simplified → Fate → Type 0
+IsFateBy split by clause outcome.Tautology fate = fate ≡ Dropped Tautology
+IsFateBy split by clause (outcome.Subsumed n) fate = fate ≡ Dropped (Subsumed n)
+IsFateBy split by clause (outcome.Reduced r) fate = IsKeptWith split by clause r fate
 
 -- what becomes of a conclusion is right
-abbrev pub IsFateOf : List Member → List Member → List Member → Step → TreeClause → Fate → Type 0
-IsFateOf es us ms by c fate =
+abbrev pub IsFateOf : Bool → List Member → List Member → List Member → Step → TreeClause → Fate → Type 0
+IsFateOf split es us ms by c fate =
     (usage : SymbolUse) (options : Options) (clauses : Lookup) (j : GivenJob) (key : Key)
-    → AreToldSets usage clauses j es us ms → options.split ≡ false
+    → AreToldSets usage clauses j es us ms → options.split ≡ split
     → IsConcluded usage.is_predicate (mode_of options.select) (told_of clauses j) key by c
     → IsRightFate usage.is_predicate options clauses j key fate
 
 -- the entry of an inference is right
-pub record IsEntryOf (es us ms : List Member) (from : Inference) (e : Entry) : Type 0 where
+pub record IsEntryOf (split : Bool) (es us ms : List Member) (from : Inference) (e : Entry) : Type 0 where
   pub key : e.key ≡ from.key
   pub right :
       (usage : SymbolUse) (options : Options) (clauses : Lookup) (j : GivenJob)
-      → AreToldSets usage clauses j es us ms → options.split ≡ false
+      → AreToldSets usage clauses j es us ms → options.split ≡ split
       → IsMade usage.is_predicate (mode_of options.select) (told_of clauses j) from.key from.result
       → IsRightFate usage.is_predicate options clauses j e.key e.fate
 
 -- one after another
-abbrev pub AreEntriesOf : List Member → List Member → List Member → List Inference → List Entry → Type 0
-AreEntriesOf es us ms [] entries = entries ≡ []
-AreEntriesOf es us ms (from ∷ found) entries =
-    (e : Entry) × (rest : List Entry) × (entries ≡ e ∷ rest) × IsEntryOf es us ms from e × AreEntriesOf es us ms found rest
+abbrev pub AreEntriesOf : Bool → List Member → List Member → List Member → List Inference → List Entry → Type 0
+AreEntriesOf split es us ms [] entries = entries ≡ []
+AreEntriesOf split es us ms (from ∷ found) entries =
+    (e : Entry) × (rest : List Entry) × (entries ≡ e ∷ rest) × IsEntryOf split es us ms from e × AreEntriesOf split es us ms found rest
 
 -- of all inferences, or of the first ones, as many as are left
-pub record AreFirstEntries (es us ms : List Member) (found : List Inference) (left : ℕ) (entries : List Entry) : Type 0 where
+pub record AreFirstEntries (split : Bool) (es us ms : List Member) (found : List Inference) (left : ℕ) (entries : List Entry) : Type 0 where
   pub done : List Inference
   pub rest : List Inference
   pub all : found ≡ done ++ rest
-  pub entered : AreEntriesOf es us ms done entries
+  pub entered : AreEntriesOf split es us ms done entries
   pub enough : (left ≤ length entries) ⊎ (rest ≡ [])

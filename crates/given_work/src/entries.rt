@@ -10,7 +10,7 @@ ghost use Rattle.given_work.specs.Telling.{AreSetsOfBank};
 ghost use Rattle.given_work.specs.Meeting.{AreFirstEntries, IsConcludedWith, IsEntryOf, IsFateBy, IsFateOf, IsKeptWith, IsMadeWith};
 
 use crate::dropped::DroppedConclusions;
-use crate::going::one_clause;
+use crate::results::handed_back;
 use demodulate::{Simplified, Simplifiers, simplify};
 use fol_base::Clause;
 use kernel_steps::{Derivation, Line, Reduced, Step};
@@ -19,17 +19,18 @@ use pool_history::{Entry, Fate, MetEntries, Redundancy};
 use std::alloc::Global;
 use superpose::{Inference, Made};
 
-/// The entries of inferences, in order. It stops once `left` of them are there.
+/// The entries of inferences, in order, whose results are split or not. It stops once `left` of them are there.
 pub(crate) fn entries_of(
     alloc: Global,
     by: &Simplifiers<'_>,
+    split: bool,
     inferences: Vec<Inference>,
     left: u32,
 ) -> Mem<MetEntries>
     requires of_bank { AreSetsOfBank by.now.bank.now by.now.equations.now by.now.units.now by.now.members.now }
     requires all { by.now.left_out ≡ None }
     requires made { All (IsMadeWith by.now.equations.now by.now.units.now by.now.members.now) inferences.items }
-    ensures { IfOk result (AreFirstEntries by.now.equations.now by.now.units.now by.now.members.now inferences.items left) }
+    ensures { IfOk result (AreFirstEntries split by.now.equations.now by.now.units.now by.now.members.now inferences.items left) }
 {
     let mut entries = Vec::new(alloc);
     let mut dropped = DroppedConclusions::new(alloc);
@@ -37,7 +38,7 @@ pub(crate) fn entries_of(
         if entries.len() >= left as usize {
             return Ok(MetEntries::from_vec(entries));
         }
-        entries.push(entry_of(alloc, by, &mut dropped, inference)?)?;
+        entries.push(entry_of(alloc, by, split, &mut dropped, inference)?)?;
     }
     Ok(MetEntries::from_vec(entries))
 }
@@ -46,6 +47,7 @@ pub(crate) fn entries_of(
 fn entry_of(
     alloc: Global,
     by: &Simplifiers<'_>,
+    split: bool,
     dropped: &mut DroppedConclusions,
     inference: Inference,
 ) -> Mem<Entry>
@@ -53,7 +55,7 @@ fn entry_of(
     requires all { by.now.left_out ≡ None }
     requires made { IsMadeWith by.now.equations.now by.now.units.now by.now.members.now inference }
     requires dropped { AreDropped by.now.equations.now by.now.units.now by.now.members.now dropped.old }
-    ensures entry { IfOk result (IsEntryOf by.now.equations.now by.now.units.now by.now.members.now inference) }
+    ensures entry { IfOk result (IsEntryOf split by.now.equations.now by.now.units.now by.now.members.now inference) }
     ensures dropped { IfOk result (λ _. AreDropped by.now.equations.now by.now.units.now by.now.members.now dropped.new) }
 {
     let Inference { key, result } = inference;
@@ -63,7 +65,7 @@ fn entry_of(
             fate: Fate::Heavy,
         }),
         Made::Conclusion(step, clause) => {
-            let fate = fate_of(alloc, by, dropped, step, clause)?;
+            let fate = fate_of(alloc, by, split, dropped, step, clause)?;
             Ok(Entry { key, fate })
         }
     }
@@ -73,6 +75,7 @@ fn entry_of(
 fn fate_of(
     alloc: Global,
     by: &Simplifiers<'_>,
+    split: bool,
     dropped: &mut DroppedConclusions,
     step: Step,
     clause: Clause,
@@ -81,14 +84,14 @@ fn fate_of(
     requires all { by.now.left_out ≡ None }
     requires concluded { IsConcludedWith by.now.equations.now by.now.units.now by.now.members.now step (clause_of clause) }
     requires dropped { AreDropped by.now.equations.now by.now.units.now by.now.members.now dropped.old }
-    ensures fate { IfOk result (IsFateOf by.now.equations.now by.now.units.now by.now.members.now step (clause_of clause)) }
+    ensures fate { IfOk result (IsFateOf split by.now.equations.now by.now.units.now by.now.members.now step (clause_of clause)) }
     ensures dropped { IfOk result (λ _. AreDropped by.now.equations.now by.now.units.now by.now.members.now dropped.new) }
 {
     match dropped.cause(&clause) {
         Some(cause) => Ok(Fate::Dropped(cause)),
         None => {
             let outcome = simplify(alloc, by, &clause)?;
-            let fate = fate_by(alloc, dropped, step, clause, outcome)?;
+            let fate = fate_by(alloc, split, dropped, step, clause, outcome)?;
             Ok(fate)
         }
     }
@@ -97,19 +100,20 @@ fn fate_of(
 /// The fate of a conclusion that was simplified. One that is dropped is noted.
 fn fate_by(
     alloc: Global,
+    split: bool,
     dropped: &mut DroppedConclusions,
     step: Step,
     clause: Clause,
     outcome: Simplified,
 ) -> Mem<Fate>
-    ensures fate { IfOk result (IsFateBy step clause outcome) }
+    ensures fate { IfOk result (IsFateBy split step clause outcome) }
     ensures dropped { IfOk result (λ _. (es us ms : List Member) → AreDropped es us ms dropped.old
         → IsSimplified es us ms None (clause_of clause) outcome → AreDropped es us ms dropped.new) }
 {
     match outcome {
         Simplified::Tautology => drop_as(dropped, clause, Redundancy::Tautology),
         Simplified::Subsumed(number) => drop_as(dropped, clause, Redundancy::Subsumed(number)),
-        Simplified::Reduced(reduced) => kept(alloc, step, clause, reduced),
+        Simplified::Reduced(reduced) => kept(alloc, split, step, clause, reduced),
     }
 }
 
@@ -125,8 +129,8 @@ fn drop_as(dropped: &mut DroppedConclusions, clause: Clause, cause: Redundancy) 
 
 /// A conclusion that is kept, reduced. The line of the inference has the number that the clause that was handed in has in the lines of its
 /// reduction, so these stay as they are.
-fn kept(alloc: Global, step: Step, clause: Clause, reduced: Reduced) -> Mem<Fate>
-    ensures { IfOk result (IsKeptWith step clause reduced) }
+fn kept(alloc: Global, split: bool, step: Step, clause: Clause, reduced: Reduced) -> Mem<Fate>
+    ensures { IfOk result (IsKeptWith split step clause reduced) }
 {
     let Reduced {
         clause: result,
@@ -136,6 +140,6 @@ fn kept(alloc: Global, step: Step, clause: Clause, reduced: Reduced) -> Mem<Fate
     let mut lines = lines.into_vec();
     lines.insert(0, Line { step, clause })?;
     let lines = Derivation::from_vec(lines);
-    let results = one_clause(alloc, result)?;
+    let results = handed_back(alloc, split, result)?;
     Ok(Fate::Kept { lines, results })
 }

@@ -1,17 +1,16 @@
 // Told clauses that go: they are reduced by the others, or aren't needed beside them.
 
-ghost use Rattle.std.specs.Prelude.{◌≡◌, ◌∷◌, [], Some, IfOk, map};
+ghost use Rattle.std.specs.Prelude.{◌≡◌, Some, IfOk};
 ghost use Rattle.fol_base.specs.Clause.{TreeClause};
-ghost use Rattle.fol_base.specs.Literal.{clause_of};
 ghost use Rattle.bank_clause.specs.Clause.{IsMemberOf, clause_at};
 ghost use Rattle.kernel_steps.specs.ParentNumbers.{with_parents};
 ghost use Rattle.pool_history.specs.declared.batch.Fate.TheVariants.{Dropped};
 ghost use Rattle.given_work.specs.Telling.{AreSetsOfBank, AreToldWith};
 ghost use Rattle.given_work.specs.Going.{IsReducedBy, IsRemovalOf, IsReplacedOrSame, batch_lines, number_beside};
 
+use crate::results::handed_back;
 use bank_clause::Member;
 use demodulate::{Simplifiers, reduce};
-use fol_base::{Clause, Clauses};
 use kernel_steps::{CLAUSE_NUMBERS, Derivation, Line, Reduced, Step};
 use plain_types::{Mem, Numbers};
 use pool_history::{Fate, Redundancy, Removal};
@@ -21,10 +20,11 @@ use subsume::forward_except;
 use unit_cutting::is_tautology;
 
 /// How a told clause goes: it is reduced by the others, or it is redundant beside them, once it is reduced. None exactly where no reducing
-/// step applies to it and it isn't redundant. It is the clause that is left out.
+/// step applies to it and it isn't redundant. It is the clause that is left out. Its result is split or not.
 pub(crate) fn removal_of(
     alloc: Global,
     by: &Simplifiers<'_>,
+    split: bool,
     member: &Member,
 ) -> Mem<Option<Removal>>
     requires of_bank { AreSetsOfBank by.now.bank.now by.now.equations.now by.now.units.now by.now.members.now }
@@ -32,10 +32,10 @@ pub(crate) fn removal_of(
     requires itself { by.now.left_out ≡ Some member.now.number }
     requires told { AreToldWith by.now.equations.now by.now.units.now by.now.members.now member.now.number (clause_at member.now.clause) }
     ensures { IfOk result
-        (IsRemovalOf by.now.equations.now by.now.units.now by.now.members.now member.now.number (clause_at member.now.clause)) }
+        (IsRemovalOf split by.now.equations.now by.now.units.now by.now.members.now member.now.number (clause_at member.now.clause)) }
 {
     let reduced = reduced_member(alloc, by, member)?;
-    removal_by(alloc, by, member.number, reduced)
+    removal_by(alloc, by, split, member.number, reduced)
 }
 
 /// A told clause reduced by the others.
@@ -55,12 +55,13 @@ fn reduced_member(alloc: Global, by: &Simplifiers<'_>, member: &Member) -> Mem<R
 fn removal_by(
     alloc: Global,
     by: &Simplifiers<'_>,
+    split: bool,
     number: u32,
     reduced: Reduced,
 ) -> Mem<Option<Removal>>
     requires of_bank { AreSetsOfBank by.now.bank.now by.now.equations.now by.now.units.now by.now.members.now }
     ensures { IfOk result (λ gone. (c : TreeClause) → IsReducedBy by.now.equations.now by.now.units.now (Some number) c reduced
-        → IsRemovalOf by.now.equations.now by.now.units.now by.now.members.now number c gone) }
+        → IsRemovalOf split by.now.equations.now by.now.units.now by.now.members.now number c gone) }
 {
     if is_tautology(&reduced.clause) {
         let removal = dropped(number, reduced.used, Redundancy::Tautology);
@@ -74,7 +75,7 @@ fn removal_by(
             Ok(Some(removal))
         }
         None => {
-            let gone = replaced(alloc, number, reduced)?;
+            let gone = replaced(alloc, split, number, reduced)?;
             Ok(gone)
         }
     }
@@ -92,8 +93,8 @@ fn dropped(victim: u32, justifiers: Numbers, redundancy: Redundancy) -> Removal
 }
 
 /// A clause with the result of its reduction in its place. None where nothing was reduced.
-fn replaced(alloc: Global, victim: u32, reduced: Reduced) -> Mem<Option<Removal>>
-    ensures { IfOk result (IsReplacedOrSame victim reduced) }
+fn replaced(alloc: Global, split: bool, victim: u32, reduced: Reduced) -> Mem<Option<Removal>>
+    ensures { IfOk result (IsReplacedOrSame split victim reduced) }
 {
     if reduced.lines.is_empty() {
         return Ok(None);
@@ -104,21 +105,12 @@ fn replaced(alloc: Global, victim: u32, reduced: Reduced) -> Mem<Option<Removal>
         used,
     } = reduced;
     let lines = lines_of_victim(alloc, victim, lines)?;
-    let results = one_clause(alloc, clause)?;
+    let results = handed_back(alloc, split, clause)?;
     Ok(Some(Removal {
         victim,
         justifiers: used,
         fate: Fate::Kept { lines, results },
     }))
-}
-
-/// The list of one clause.
-pub(crate) fn one_clause(alloc: Global, clause: Clause) -> Mem<Clauses>
-    ensures { IfOk result (λ clauses. map clause_of clauses ≡ clause_of clause ∷ []) }
-{
-    let mut clauses = Clauses::new(alloc);
-    clauses.push(clause)?;
-    Ok(clauses)
 }
 
 /// Lines of a reduced clause, by the numbers of a batch.

@@ -1,6 +1,6 @@
 // A worker's index: the known clauses, which were activated and live, in the sets in which they are looked for.
 
-ghost use Rattle.std.specs.Prelude.{◌≡◌, [], false, All, IfOk};
+ghost use Rattle.std.specs.Prelude.{◌≡◌, [], All, IfOk};
 ghost use Rattle.bank_clause.specs.Clause.{AreMembersOf};
 ghost use Rattle.pool_history.specs.Answers.{IsChangeOf};
 ghost use Rattle.given_work.specs.Learning.{AreNews, learned};
@@ -39,9 +39,8 @@ impl Model for Index {
 }
 
 impl Index {
-    /// No clauses, told up to place 0. Clauses aren't split.
+    /// No clauses, told up to place 0.
     pub fn new(alloc: Global, options: Options) -> Mem<Index>
-        requires { options.split ≡ false }
         ensures { IfOk result (λ index. index ≡ record { options = options; told = 0; members = [] }) }
     {
         Ok(Index {

@@ -13,7 +13,7 @@ pub fn learned_stays()
     ensures { LearnedStays }
 {}
 
-/// What an index knows of a job may be worked with. Where nothing is split, the work makes a batch that is right for the job.
+/// What an index knows of a job may be worked with, and the work makes a batch that is right for the job.
 pub fn work_makes_right_batches()
     ensures told { ToldForJobsAreTold }
     ensures right { WorkMakesRightBatches }

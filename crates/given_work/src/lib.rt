@@ -13,8 +13,8 @@
 //!    clause, its lines, and the clauses that justify it, and the round ends with step 6.
 //! 4. **Meet** (`inferences.rt`). All inferences of the given clause with itself and with the known clauses of lower positions. So each pair of
 //!    clauses meets once, in the job of the one that was activated later. Each conclusion is reduced in the same way and becomes an *entry*
-//!    (`entries.rt`): kept with its lines, dropped with its cause, or `Heavy`, over 4,000 symbols. Simplifying conclusions before they are
-//!    stored is forward simplification.
+//!    (`entries.rt`): kept with its lines, in parts where splitting is on, dropped with its cause, or `Heavy`, over 4,000 symbols. Simplifying
+//!    conclusions before they are stored is forward simplification.
 //! 5. **Remove** (`removing.rt`). Known clauses that the given clause subsumes, rewrites or cuts are proposed for removal, each with what
 //!    justifies it: backward simplification. Only those are tried in which an instance of its greater side may occur.
 //! 6. **Return.** The pool registers what was kept, in order. A removal takes effect if its victim and all its justifiers still live.
@@ -32,7 +32,7 @@
 //! **Where things are.** `index.rt` is what a worker holds. `store.rt` keeps the known clauses at places in the order of their positions, the
 //! same clauses as partners of superposition (`partners`), and a tree of the terms that occur in them, which `occurring.rt` fills and asks.
 //! `sets.rt` keeps them in the sets by which others are simplified. `dropped.rt` drops what is equal to a dropped conclusion by the same
-//! cause. `working.rt` is steps 3 to 5.
+//! cause. `results.rt` splits what is kept. `working.rt` is steps 3 to 5, and `known.rt` lends the known clauses to them.
 #![tactic(auto)]
 
 mod dropped;
@@ -40,10 +40,12 @@ mod entries;
 mod going;
 mod index;
 mod inferences;
+mod known;
 pub mod laws;
 mod learning;
 mod occurring;
 mod removing;
+mod results;
 mod sets;
 mod store;
 mod working;

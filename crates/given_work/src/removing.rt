@@ -8,9 +8,8 @@ ghost use Rattle.given_work.specs.Store.{members_in};
 ghost use Rattle.given_work.specs.Removing.{AreRemovalsOf, AreTold, HasSimplified, IsConsidered};
 
 use crate::going::removal_of;
+use crate::known::Known;
 use crate::occurring::push_with_instances;
-use crate::sets::Sets;
-use crate::store::Store;
 use bank_clause::Member;
 use demodulate::Simplifiers;
 use disc_tree::DiscTree;
@@ -24,51 +23,31 @@ use subsume::backward;
 use term_bank::Bank;
 use unit_cutting::has_one_literal;
 
-/// The removals of the told clauses that a given one simplifies.
-pub(crate) fn removals_of(
-    alloc: Global,
-    bank: &Bank,
-    store: &Store,
-    sets: &Sets,
-    given: &Member,
-) -> Mem<Removals>
-    requires kept { IsKept bank.now store.now sets.now }
-    requires told { AreTold (members_in store.now.slots.items) }
-    requires given { Contains (members_in store.now.slots.items) given.now }
-    ensures { IfOk result (AreRemovalsOf (members_in store.now.slots.items) given.now) }
+/// The removals of the told clauses that a given one simplifies, whose results are split or not.
+pub(crate) fn removals_of(alloc: Global, known: &Known<'_>, given: &Member) -> Mem<Removals>
+    requires kept { IsKept known.now.bank.now known.now.store.now known.now.sets.now }
+    requires told { AreTold (members_in known.now.store.now.slots.items) }
+    requires given { Contains (members_in known.now.store.now.slots.items) given.now }
+    ensures { IfOk result (AreRemovalsOf known.now.split (members_in known.now.store.now.slots.items) given.now) }
 {
-    let candidates = candidates_of(alloc, bank, store, sets, given)?;
+    let candidates = candidates_of(alloc, known, given)?;
     let mut removals = Vec::new(alloc);
     for candidate in candidates.as_slice() {
-        consider(
-            alloc,
-            bank,
-            store,
-            sets,
-            given.number,
-            *candidate,
-            &mut removals,
-        )?;
+        consider(alloc, known, given.number, *candidate, &mut removals)?;
     }
     Ok(Removals::from_vec(removals))
 }
 
 /// The numbers of the told clauses that a given one may simplify, each once: those that it subsumes, and by a unit those in which an instance
 /// of a side of it may occur.
-fn candidates_of(
-    alloc: Global,
-    bank: &Bank,
-    store: &Store,
-    sets: &Sets,
-    given: &Member,
-) -> Mem<Numbers>
-    requires kept { IsKept bank.now store.now sets.now }
-    requires given { Contains (members_in store.now.slots.items) given.now }
-    ensures { IfOk result (HasSimplified (members_in store.now.slots.items) given.now) }
+fn candidates_of(alloc: Global, known: &Known<'_>, given: &Member) -> Mem<Numbers>
+    requires kept { IsKept known.now.bank.now known.now.store.now known.now.sets.now }
+    requires given { Contains (members_in known.now.store.now.slots.items) given.now }
+    ensures { IfOk result (HasSimplified (members_in known.now.store.now.slots.items) given.now) }
 {
-    let subsumed = backward(alloc, bank, &sets.subsumers, given)?;
+    let subsumed = backward(alloc, known.bank, &known.sets.subsumers, given)?;
     let mut found = subsumed.into_vec();
-    push_by_unit(bank, &store.terms, given, &mut found)?;
+    push_by_unit(known.bank, &known.store.terms, given, &mut found)?;
     Ok(in_order(Numbers::from_vec(found)))
 }
 
@@ -89,32 +68,31 @@ fn push_by_unit(bank: &Bank, terms: &DiscTree, given: &Member, found: &mut Vec<u
 /// Adds the removal of the told clause with a number, if there is one, it is another one than the given clause, and it goes.
 fn consider(
     alloc: Global,
-    bank: &Bank,
-    store: &Store,
-    sets: &Sets,
+    known: &Known<'_>,
     given: u32,
     candidate: u64,
     removals: &mut Vec<Removal>,
 ) -> Mem<()>
-    requires kept { IsKept bank.now store.now sets.now }
-    requires told { AreTold (members_in store.now.slots.items) }
-    ensures { IfOk result (λ _. IsConsidered (members_in store.now.slots.items) sets.now.equations sets.now.units sets.now.subsumers
+    requires kept { IsKept known.now.bank.now known.now.store.now known.now.sets.now }
+    requires told { AreTold (members_in known.now.store.now.slots.items) }
+    ensures { let sets = known.now.sets.now in IfOk result (λ _.
+        IsConsidered known.now.split (members_in known.now.store.now.slots.items) sets.equations sets.units sets.subsumers
         given candidate removals.old.items removals.new.items) }
 {
     if candidate >= CLAUSE_NUMBERS || candidate == u64::from(given) {
         return Ok(());
     }
-    let Some(victim) = store.partners.premise(candidate as u32) else {
+    let Some(victim) = known.store.partners.premise(candidate as u32) else {
         return Ok(());
     };
     let by = Simplifiers {
-        bank,
-        equations: &sets.equations,
-        units: &sets.units,
-        members: &sets.subsumers,
+        bank: known.bank,
+        equations: &known.sets.equations,
+        units: &known.sets.units,
+        members: &known.sets.subsumers,
         left_out: Some(victim.member.number),
     };
-    let gone = removal_of(alloc, &by, victim.member)?;
+    let gone = removal_of(alloc, &by, known.split, victim.member)?;
     push_gone(removals, gone)?;
     Ok(())
 }

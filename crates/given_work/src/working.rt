@@ -15,9 +15,8 @@ use crate::entries::entries_of;
 use crate::going::removal_of;
 use crate::index::Index;
 use crate::inferences::inferences_of;
+use crate::known::Known;
 use crate::removing::removals_of;
-use crate::sets::Sets;
-use crate::store::Store;
 use demodulate::Simplifiers;
 use plain_types::Mem;
 use pool_history::{Batch, Removals, Ticket, Work};
@@ -48,100 +47,92 @@ impl Index {
         requires given { IsTrue (has_number number (numbers_of self.now.members)) }
         ensures { IfOk result (IsRightUnder self.now.options self.now.members number left) }
     {
-        let work = work_in(alloc, bank, &self.store, &self.sets, number, left)?;
+        let known = Known {
+            bank,
+            store: &self.store,
+            sets: &self.sets,
+            split: self.options.split,
+        };
+        let work = work_in(alloc, &known, number, left)?;
         Ok(work)
     }
 }
 
 /// The work on the clause of a number.
-fn work_in(
-    alloc: Global,
-    bank: &Bank,
-    store: &Store,
-    sets: &Sets,
-    number: u32,
-    left: u32,
-) -> Mem<Work>
-    requires kept { IsKept bank.now store.now sets.now }
-    requires told { AreTold (members_in store.now.slots.items) }
-    requires given { IsTrue (has_number number (numbers_of (members_in store.now.slots.items))) }
-    ensures { IfOk result (IsRightWorkOf store.now.partners.mode (members_in store.now.slots.items) number left) }
+fn work_in(alloc: Global, known: &Known<'_>, number: u32, left: u32) -> Mem<Work>
+    requires kept { IsKept known.now.bank.now known.now.store.now known.now.sets.now }
+    requires told { AreTold (members_in known.now.store.now.slots.items) }
+    requires given { IsTrue (has_number number (numbers_of (members_in known.now.store.now.slots.items))) }
+    ensures { let store = known.now.store.now in IfOk result
+        (IsRightWorkOf known.now.split store.partners.mode (members_in store.slots.items) number left) }
 {
-    let Some(place) = store.partners.position(number) else {
+    let Some(place) = known.store.partners.position(number) else {
         unreachable!();
     };
-    let Some(given) = store.partners.premise(number) else {
+    let Some(given) = known.store.partners.premise(number) else {
         unreachable!();
     };
-    let work = work_at(alloc, bank, store, sets, place, &given, left)?;
+    let work = work_at(alloc, known, place, &given, left)?;
     Ok(work)
 }
 
 /// The work on the clause at a place.
 fn work_at(
     alloc: Global,
-    bank: &Bank,
-    store: &Store,
-    sets: &Sets,
+    known: &Known<'_>,
     place: usize,
     given: &Premise<'_>,
     left: u32,
 ) -> Mem<Work>
-    requires kept { IsKept bank.now store.now sets.now }
-    requires told { AreTold (members_in store.now.slots.items) }
-    requires given { slice_get store.now.slots.items place ≡ Some (Some given.now.member.now) }
-    requires sites { AreSitesFor store.now.partners.mode given.now.member.now given.now.sites.now }
-    ensures { IfOk result (IsRightWorkOf store.now.partners.mode (members_in store.now.slots.items) given.now.member.now.number left) }
+    requires kept { IsKept known.now.bank.now known.now.store.now known.now.sets.now }
+    requires told { AreTold (members_in known.now.store.now.slots.items) }
+    requires given { slice_get known.now.store.now.slots.items place ≡ Some (Some given.now.member.now) }
+    requires sites { AreSitesFor known.now.store.now.partners.mode given.now.member.now given.now.sites.now }
+    ensures { let store = known.now.store.now in IfOk result
+        (IsRightWorkOf known.now.split store.partners.mode (members_in store.slots.items) given.now.member.now.number left) }
 {
     let by = Simplifiers {
-        bank,
-        equations: &sets.equations,
-        units: &sets.units,
-        members: &sets.subsumers,
+        bank: known.bank,
+        equations: &known.sets.equations,
+        units: &known.sets.units,
+        members: &known.sets.subsumers,
         left_out: Some(given.member.number),
     };
-    let gone = removal_of(alloc, &by, given.member)?;
+    let gone = removal_of(alloc, &by, known.split, given.member)?;
     match gone {
         Some(removal) => Ok(Work::Gone(removal)),
         None => {
-            let work = met(alloc, bank, store, sets, place, given, left)?;
+            let work = met(alloc, known, place, given, left)?;
             Ok(work)
         }
     }
 }
 
 /// The work on a clause that stays.
-fn met(
-    alloc: Global,
-    bank: &Bank,
-    store: &Store,
-    sets: &Sets,
-    place: usize,
-    given: &Premise<'_>,
-    left: u32,
-) -> Mem<Work>
-    requires kept { IsKept bank.now store.now sets.now }
-    requires told { AreTold (members_in store.now.slots.items) }
-    requires given { slice_get store.now.slots.items place ≡ Some (Some given.now.member.now) }
-    requires sites { AreSitesFor store.now.partners.mode given.now.member.now given.now.sites.now }
-    ensures { IfOk result (IsMetBy store.now.partners.mode sets.now (members_in store.now.slots.items)
-        (before_place store.now.slots.items place) given.now.member.now left) }
+fn met(alloc: Global, known: &Known<'_>, place: usize, given: &Premise<'_>, left: u32) -> Mem<Work>
+    requires kept { IsKept known.now.bank.now known.now.store.now known.now.sets.now }
+    requires told { AreTold (members_in known.now.store.now.slots.items) }
+    requires given { slice_get known.now.store.now.slots.items place ≡ Some (Some given.now.member.now) }
+    requires sites { AreSitesFor known.now.store.now.partners.mode given.now.member.now given.now.sites.now }
+    ensures { let store = known.now.store.now in IfOk result
+        (IsMetBy known.now.split store.partners.mode known.now.sets.now (members_in store.slots.items)
+        (before_place store.slots.items place) given.now.member.now left) }
 {
-    let inferences = inferences_of(alloc, bank, store, place, given)?;
+    let inferences = inferences_of(alloc, known.bank, known.store, place, given)?;
     let by = Simplifiers {
-        bank,
-        equations: &sets.equations,
-        units: &sets.units,
-        members: &sets.subsumers,
+        bank: known.bank,
+        equations: &known.sets.equations,
+        units: &known.sets.units,
+        members: &known.sets.subsumers,
         left_out: None,
     };
-    let entries = entries_of(alloc, &by, inferences, left)?;
+    let entries = entries_of(alloc, &by, known.split, inferences, left)?;
     if entries.len() >= left as usize {
         return Ok(Work::Met {
             entries,
             removals: Removals::new(alloc),
         });
     }
-    let removals = removals_of(alloc, bank, store, sets, given.member)?;
+    let removals = removals_of(alloc, known, given.member)?;
     Ok(Work::Met { entries, removals })
 }

@@ -4,5 +4,6 @@ pub mod ExtendedLemmas
 pub mod FormedLemmas
 pub mod KindLemmas
 pub mod ReturnedLemmas
+pub mod SymbolLemmas
 pub mod TableLemmas
 pub mod TermLemmas

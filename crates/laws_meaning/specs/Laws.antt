@@ -1,5 +1,5 @@
 -- What the clausal form means: it is true in an extended interpretation where the problem's axioms are and its conjecture isn't.
-use Rattle.std.specs.Prelude.{ℕ, List, IsTrue, IsFalse}
+use Rattle.std.specs.Prelude.{◌≡◌, ℕ, List, IsTrue, IsFalse}
 use Rattle.tptp_tree.specs.declared.problem.Annotated.{Annotated}
 use Rattle.fol_base.specs.Interpretation.{Interpretation}
 use Rattle.signature.specs.Truth.{is_model_of_problem}
@@ -20,6 +20,11 @@ abbrev pub FormsReturn : Type 0
 FormsReturn =
     (fs : List Annotated) (j : Interpretation)
     → IsTrue (are_closed fs) → InterpretsForm fs j → FormTrue fs j → IsTrue (is_model_of_problem j fs)
+
+-- Whether an interpretation does so depends on what the problem's symbols give alone.
+abbrev pub MeaningOfSymbols : Type 0
+MeaningOfSymbols =
+    (fs : List Annotated) (i j : Interpretation) → Extends fs i j → is_model_of_problem j fs ≡ is_model_of_problem i fs
 
 -- A problem that is refuted by finitely many ground instances of its form has no finite model,
 abbrev pub RefutedProblemsHaveNoModel : Type 0

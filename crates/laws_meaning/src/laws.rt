@@ -8,6 +8,6 @@ pub use examples::{
     interpretation_examples, open_examples, satisfiability_examples,
 };
 pub use meaning::{
-    accepted_derivations_prove, forms_return, models_extend, refuted_axioms_are_unsatisfiable,
-    refuted_conjectures_follow, refuted_problems_have_no_model,
+    accepted_derivations_prove, forms_return, meaning_of_symbols, models_extend,
+    refuted_axioms_are_unsatisfiable, refuted_conjectures_follow, refuted_problems_have_no_model,
 };

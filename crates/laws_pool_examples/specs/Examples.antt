@@ -377,6 +377,16 @@ dropping = pool_up_to 1 true (clause (disequation (x 0) a ∷ equation (f (x 0))
 abbrev pub tautology_dropped : Entry
 tautology_dropped = entry (key.Refl 0 0) (Dropped Tautology)
 
+-- ---- one whose inference falls apart: X0 != a or p(X0) or q(X0), which resolves to p(a) or q(a)
+
+abbrev pub parting : Origin
+parting = pool_of (clause (disequation (x 0) a ∷ p (x 0) ∷ q (x 0) ∷ []) ∷ [])
+
+-- handed back as these clauses
+abbrev pub parting_resolved : List TreeClause → Entry
+parting_resolved results =
+    entry (key.Refl 0 0) (Kept (line_of (Refl 0 0 (a ∷ [])) (clause (p a ∷ q a ∷ [])) ∷ []) (map clause_from results))
+
 -- ---- two clauses that meet: p(a), and p(X0) implies q(X0)
 
 abbrev pub partners : Origin

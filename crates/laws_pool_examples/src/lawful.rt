@@ -1,11 +1,11 @@
 // Lawful histories, and events that aren't allowed.
 
 ghost use Rattle.std.specs.Prelude.{◌≡◌, [], ◌∷◌, ◌++◌, true, false, take};
-ghost use Rattle.fol_base.specs.Examples.{x, a, p, equation, clause, is_predicate};
+ghost use Rattle.fol_base.specs.Examples.{x, a, p, q, equation, clause, is_predicate};
 ghost use Rattle.pool_history.specs.Lawful.{IsLawful};
 ghost use Rattle.pool_history.specs.Replay.{replay};
 ghost use Rattle.pool_history.specs.Saturated.{members_of};
-ghost use Rattle.laws_pool_examples.specs.Examples.{pool_of, alone, alone_history, three, rewrites, rewrites_history, split, justified, removing, unequal, unequal_resolved, partners, cut, growing, one_step, subsuming, subsumed_removed, dropping, tautology_dropped, parted, parted_history, signed, signed_log, signed_history, return, removal};
+ghost use Rattle.laws_pool_examples.specs.Examples.{pool_of, alone, alone_history, three, rewrites, rewrites_history, split, both_denied, parting, parting_resolved, justified, removing, unequal, unequal_resolved, partners, cut, growing, one_step, subsuming, subsumed_removed, dropping, tautology_dropped, parted, parted_history, signed, signed_log, signed_history, return, removal};
 ghost use Rattle.kernel_steps.specs.Examples.{opposites};
 ghost use Rattle.pool_history.specs.declared.batch.Fate.TheVariants.{Dropped};
 ghost use Rattle.pool_history.specs.declared.batch.Redundancy.TheVariants.{Tautology, Subsumed};
@@ -34,6 +34,15 @@ pub fn lawful_examples()
     ensures log { IsLawful is_predicate signed signed_history }
     ensures met { IsLawful is_predicate unequal (event.Claim 1 ∷ return 1 (work.Met (unequal_resolved ∷ []) []) ∷ []) }
     ensures given_up { IsLawful is_predicate three (event.Claim 1 ∷ event.Abandon 1 ∷ event.Claim 2 ∷ []) }
+{}
+
+/// With splitting on. An inference is kept in the parts of its result. A clause under an assertion meets one without, which it doesn't cut,
+/// and the empty clause under its assertion comes; then the solver returns a second model. The solver's job is given up.
+pub fn lawful_split_examples()
+    ensures falls_apart { IsLawful is_predicate parting
+        (event.Claim 1 ∷ return 1 (work.Met (parting_resolved (clause (p a ∷ []) ∷ clause (q a ∷ []) ∷ []) ∷ []) []) ∷ []) }
+    ensures denied_part { IsLawful is_predicate split (take 8 both_denied) }
+    ensures solver_given_up { IsLawful is_predicate split (event.ClaimSolve 1 ∷ event.Abandon 1 ∷ event.ClaimSolve 2 ∷ []) }
 {}
 
 /// A job has a number that was given before, be that job out, given up or the solver's. A clause is claimed while there is something to be

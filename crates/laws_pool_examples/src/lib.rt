@@ -9,6 +9,7 @@
 //!   parts of a clause, a log's chains.
 //! - `resolving`, `rewriting`, `splitting`, `stale`: whole histories, event by event, with their lines, deaths and outcomes.
 //! - `lawful`, `returning`: histories that are lawful, and for each condition one that breaks it.
+//! - `reduced`: a law, that what is kept of an inference is reduced.
 //! - `saturated`, `carried`: sets that are saturated and that aren't, what is held after a history, and what it finds.
 #![tactic(auto)]
 
@@ -18,6 +19,7 @@ pub mod claiming;
 pub mod components;
 pub mod counting;
 pub mod lawful;
+pub mod reduced;
 pub mod resolving;
 pub mod returning;
 pub mod rewriting;

@@ -1,11 +1,11 @@
 // Returns that aren't right.
 
 ghost use Rattle.std.specs.Prelude.{◌≡◌, [], ◌∷◌, ◌++◌, take};
-ghost use Rattle.fol_base.specs.Examples.{x, a, f, p, equation, clause, is_predicate};
+ghost use Rattle.fol_base.specs.Examples.{x, a, f, p, q, equation, clause, is_predicate};
 ghost use Rattle.kernel_steps.specs.Examples.{opposites};
 ghost use Rattle.kernel_steps.specs.declared.key.Key.TheVariants as key;
 ghost use Rattle.pool_history.specs.Lawful.{IsLawful};
-ghost use Rattle.laws_pool_examples.specs.Examples.{pool_of, three, rewrites, rewrites_history, rewritten_to_itself, left_uncut, cut_halfway, subsuming, left_subsumed, growing, growing_history, half_step, towering, towering_goes, connected, cut_apart, unequal, partners, entry, at_roots, return, removal};
+ghost use Rattle.laws_pool_examples.specs.Examples.{pool_of, three, rewrites, rewrites_history, rewritten_to_itself, left_uncut, cut_halfway, subsuming, left_subsumed, growing, growing_history, half_step, towering, towering_goes, connected, cut_apart, parting, parting_resolved, unequal, partners, entry, at_roots, return, removal};
 ghost use Rattle.pool_history.specs.declared.batch.Fate.TheVariants.{Dropped, Heavy};
 ghost use Rattle.pool_history.specs.declared.batch.Redundancy.TheVariants.{Tautology, Subsumed};
 ghost use Rattle.pool_history.specs.declared.batch.Work.TheVariants as work;
@@ -14,7 +14,7 @@ ghost use Rattle.pool_history.specs.declared.event.Event.TheVariants as event;
 /// A clause stays that a told unit cuts, or beside a told clause that it subsumes. A result can be reduced further: that of a clause that
 /// goes, or of an inference. A small inference is set aside as heavy. One is dropped as a tautology, or as subsumed by a clause that wasn't
 /// told. A victim is among its justifiers, or a clause that the removal doesn't rest on is. The result isn't the one that the lines lead to, or
-/// it is handed back whole where its parts are due. An inference is of two other clauses. A removal is as subsumed by the victim itself, or is of
+/// it is handed back whole where its parts are due, be it that of a clause that goes or of an inference. An inference is of two other clauses. A removal is as subsumed by the victim itself, or is of
 /// the given clause beside its meeting.
 pub fn wrong_return_examples()
     ensures stays_uncut { IsLawful is_predicate (pool_of opposites) left_uncut → ⊥ }
@@ -32,6 +32,8 @@ pub fn wrong_return_examples()
     ensures superfluous_justifier { IsLawful is_predicate towering (towering_goes (0 ∷ 1 ∷ [])) → ⊥ }
     ensures other_result { IsLawful is_predicate rewrites (take 2 rewrites_history ++ return 2 (work.Gone rewritten_to_itself) ∷ []) → ⊥ }
     ensures whole_result { IsLawful is_predicate connected (cut_apart (clause (p (x 0) ∷ equation (f (x 1)) a ∷ []) ∷ [])) → ⊥ }
+    ensures whole_entry { IsLawful is_predicate parting
+        (event.Claim 1 ∷ return 1 (work.Met (parting_resolved (clause (p a ∷ q a ∷ []) ∷ []) ∷ []) []) ∷ []) → ⊥ }
     ensures others_met { IsLawful is_predicate three
         (event.Claim 1 ∷ return 1 (work.Met (entry (at_roots 0 1) (Dropped Tautology) ∷ []) []) ∷ []) → ⊥ }
     ensures subsumed_by_itself { IsLawful is_predicate subsuming

@@ -7,3 +7,5 @@ pub mod AboutClaims
 pub mod AboutRegister
 -- AboutReturns: the work of a batch and its return.
 pub mod AboutReturns
+-- AboutSplits: parts, the lines that introduce their names, and the clauses over names.
+pub mod AboutSplits

@@ -30,5 +30,7 @@ pub mod RegisterCode
 pub mod Register
 pub mod RegisterLiving
 pub mod Started
+pub mod Splits
 pub mod State
 pub mod Placing
+pub mod Parted

@@ -1,12 +1,12 @@
 -- Results of a batch that are in the bank, and room for them. Only private functions cite this.
 use Rattle.std.specs.Prelude.{◌≡◌, ℕ, ◌+◌, ◌<◌, ◌≤◌, Bool, true, false, not, ◌&&◌, ◌||◌, List, [], ◌∷◌, ◌++◌, length, map, sum_by, filter_map, slice_get, Option, None, Some, is_none, All, IsTrue, vec_len, vec_capacity, if◌then◌else◌}
-use Rattle.std.specs.List.{AllByRecursion}
+use Rattle.std.specs.List.{AllByRecursion, list_all}
 use Rattle.fol_base.specs.Clause.{clause_size}
 use Rattle.fol_base.specs.Canonical.{IsCanonical}
 use Rattle.fol_base.specs.declared.limits.TheConstants.{MOST_SYMBOLS}
 use Rattle.fol_base.specs.Literal.{clause_of}
 use Rattle.fol_base.specs.declared.clause.Clause.{Clause}
-use Rattle.kernel_steps.specs.Lines.{step_parents}
+use Rattle.kernel_steps.specs.Lines.{is_plain_step, step_parents}
 use Rattle.kernel_steps.specs.declared.step.TheConstants.{CLAUSE_NUMBERS}
 use Rattle.kernel_steps.specs.declared.step.Line.{Line}
 use Rattle.term_bank.specs.Literal.{AreLiteralsOf}
@@ -49,14 +49,15 @@ use Rattle.pool_core.specs.declared.register.Registration.{Registration}
 abbrev pub HasParentsBelow : ℕ → Line → Type 0
 HasParentsBelow bound l = AllByRecursion (λ n. n < bound) (step_parents l.step)
 
--- The lines lead to the clause, which is of the bank, has the references of the table and is without names. Their parents are clauses and
--- lines among them.
+-- The lines lead to the clause, which is of the bank, has the references of the table and is without names. They introduce no names, and their
+-- parents are clauses and lines among them.
 pub record IsInterned (bank : Bank) (table : Table) (lines : List Line) (result : Interned) : Type 0 where
   pub led : result_of lines ≡ Some (clause_at result.clause)
   pub hashed : result.hash ≡ clause_hash result.clause
   pub no_names : result.clause.names ≡ []
   pub of_bank : AreLiteralsOf bank result.clause.literals
   pub known : All (IsKnown table) result.clause.literals
+  pub plain : IsTrue (list_all (λ (l : Line). is_plain_step l.step) lines)
   pub parents : All (HasParentsBelow (CLAUSE_NUMBERS + length lines)) lines
 
 -- one result for each list of lines
@@ -103,6 +104,7 @@ pub record IsFitResult (lines : List Line) (results : List Clause) : Type 0 wher
   pub canonical : IsCanonical (clause_of result)
   pub no_names : result.names ≡ []
   pub small : clause_size (clause_of result) ≤ MOST_SYMBOLS
+  pub plain : IsTrue (list_all (λ (l : Line). is_plain_step l.step) lines)
   pub parents : All (HasParentsBelow (CLAUSE_NUMBERS + length lines)) lines
 
 abbrev pub IsFit : Fate → Type 0

@@ -1,5 +1,5 @@
 -- What a pool keeps: each field is what the replay of its history has.
-use Rattle.std.specs.Prelude.{◌≡◌, ℕ, ◌+◌, ◌<◌, ◌≤◌, ◌%◌, ◌==◌, true, false, [], map, length, take, position, slice_get, None, Some, vec_len, vec_capacity, All}
+use Rattle.std.specs.Prelude.{◌≡◌, ℕ, ◌+◌, ◌<◌, ◌≤◌, ◌%◌, ◌==◌, true, false, [], map, length, take, position, slice_get, None, Some, option_map, vec_len, vec_capacity, All}
 use Rattle.fol_base.specs.Literal.{clause_of}
 use Rattle.kernel_steps.specs.Split.{has_number}
 use Rattle.kernel_steps.specs.declared.step.Line.{Line}
@@ -8,7 +8,7 @@ use Rattle.term_bank.specs.declared.table.Table.{Table}
 use Rattle.pool_history.specs.View.{PoolView}
 use Rattle.pool_core.specs.CountedList.{keys_in}
 use Rattle.pool_core.specs.KeptEvents.{events_of}
-use Rattle.pool_history.specs.Record.{PoolRecord, Registered, Death, GivenJob}
+use Rattle.pool_history.specs.Record.{PoolRecord, Registered, Death, GivenJob, SolverJob}
 use Rattle.pool_history.specs.Registering.{has_none}
 use Rattle.pool_history.specs.Claiming.{pair_of, ready}
 use Rattle.pool_history.specs.Replay.{Origin, start, replay}
@@ -16,9 +16,11 @@ use Rattle.pool_history.specs.News.{changes_from}
 use Rattle.pool_core.specs.Noted.{IsNoted, change_at}
 use Rattle.pool_history.specs.Answers.{death_of}
 use Rattle.pool_history.specs.Inputs.{AreInputs, IsLimit, IsHistoryOf}
+use Rattle.pool_core.specs.Splits.{HasTags, AreSplitsOf, split_view}
 use Rattle.pool_core.specs.Started.{registered_at, IsOfTable}
 use Rattle.pool_core.specs.declared.register.Registration.{Registration}
 use Rattle.pool_core.specs.declared.pool.OutJob.{OutJob}
+use Rattle.pool_core.specs.declared.pool.SolverOut.{SolverOut}
 use Rattle.pool_core.specs.declared.pool.ProofState.{ProofState}
 use Rattle.pool_core.specs.declared.pool.Pool.TheInside.{Inside}
 
@@ -40,6 +42,10 @@ pub record IsRegistration (r : PoolRecord) (n : ℕ) (s : Registration) : Type 0
 abbrev pub job_entry : GivenJob → ℕ × OutJob
 job_entry j = (j.job, record { number = j.number; left = j.left })
 
+-- the solver's job that is out
+abbrev pub solver_job : SolverOut → SolverJob
+solver_job s = record { job = s.job; clauses = s.clauses; names = s.names }
+
 -- ---- what the work of batches changes
 
 -- the numbers of which something is told are of registered clauses, and those whose jobs are out have a position
@@ -58,6 +64,8 @@ pub record IsProofStateOf (bank : Bank) (table : Table) (s : ProofState) (r : Po
   pub queue : s.queue.pairs ≡ map (pair_of r) (ready r)
   pub steps : s.steps.items ≡ map (λ (l : Line). l.step) r.lines
   pub ended : s.ended ≡ r.ended
+  pub splits : AreSplitsOf (split_view s.splits) r.parts r.lines r.propositional r.model r.modelled
+  pub tags : All (HasTags (length r.parts)) r.registered
   pub of_registered : AreOfRegistered r
   -- nothing is split
   pub no_propositional : r.propositional ≡ []
@@ -76,6 +84,7 @@ pub record IsStateOf (a : Inside) (r : PoolRecord) : Type 0 where
   pub set_aside : a.set_aside.items ≡ r.set_aside
   pub last_job : a.last_job ≡ r.jobs
   pub place : a.place_in_round ≡ r.claims % 6
+  pub solver : option_map solver_job a.solver ≡ r.solver
   -- nothing is split
   pub no_solver : r.solver ≡ None
   -- there is room for what a job that is given up needs

@@ -17,6 +17,7 @@ ghost use Rattle.pool_core.specs.State.{IsProofStateOf};
 use crate::interning::Interned;
 use crate::pool::ProofState;
 use crate::register::Register;
+use crate::splits::Splits;
 use bank_clause::{BankClause, clause_hash};
 use clause_queue::Queue;
 use fol_base::Clause;
@@ -38,6 +39,7 @@ impl ProofState {
             notes: Vec::new(alloc),
             steps: Vec::new(alloc),
             ended: None,
+            splits: Splits::new(alloc),
         })
     }
 

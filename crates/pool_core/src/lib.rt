@@ -12,6 +12,9 @@
 //! - The *notes* are a list of all activations and deaths. Beside each event stands how many came before it. So the news since an event
 //!   are read off the list, from one place on, however many workers ask and whenever they asked last.
 //! - The *steps* of the lines alone: a line's clause is its step's conclusion, and the writer makes it again for the few that it prints.
+//! - Of splitting (`splits.rt`) the parts with their tags and signed names, the numbers of the lines that introduce these, the clauses over
+//!   names with their lines, and the last model. A clause that falls into parts (`splitting.rt`) gives its parts their tags, in order, with the
+//!   lines that introduce new names; then comes its split line, and the clause over names. That takes no memory where there is room.
 //! - Of the events and the counted keys only the numbers (`history.rt`, `counted_keys.rt`): what a batch held is in the clauses and lines,
 //!   and contracts alone see more. The keys that were set aside are kept, since the outcome names one.
 //!
@@ -42,11 +45,14 @@ mod history;
 mod inputs;
 mod interning;
 mod members;
+mod parts;
 mod placing;
 mod pool;
 mod proof_state;
 mod register;
 mod returning;
+mod splits;
+mod splitting;
 mod taking;
 
 pub use history::History;

@@ -13,6 +13,7 @@ ghost use Rattle.pool_history.specs.Replay.{replay};
 use crate::counted_keys::CountedKeys;
 use crate::history::History;
 use crate::register::Register;
+use crate::splits::Splits;
 use clause_queue::Queue;
 use fol_base::Clauses;
 use kernel_steps::{Key, Step};
@@ -31,6 +32,14 @@ pub struct OutJob {
     pub(crate) number: u32,
     /// The number of entries at which a batch may stop.
     pub(crate) left: u32,
+}
+
+/// The solver's job, of the first propositional clauses, over so many names.
+#[derive(Clone, Copy)]
+pub struct SolverOut {
+    pub(crate) job: u64,
+    pub(crate) clauses: usize,
+    pub(crate) names: u32,
 }
 
 /// An activation or a death, by the number of the clause.
@@ -52,6 +61,7 @@ pub struct ProofState {
     pub(crate) steps: Vec<Step>,
     /// Refuted or spent.
     pub(crate) ended: Option<Outcome>,
+    pub(crate) splits: Splits,
 }
 
 /// A pool of clauses. Contracts see which bank it is of, what it began with, and its history, the list of its events. What it answers is told by
@@ -66,6 +76,8 @@ pub struct Pool {
     pub(crate) positions: Vec<u32>,
     /// The jobs on given clauses that are out, by their numbers.
     pub(crate) jobs: BTreeMap<u64, OutJob>,
+    /// The solver's job, where it is out.
+    pub(crate) solver: Option<SolverOut>,
     /// It has room for an event of each job that is out.
     pub(crate) history: History,
     /// For each event how many activations and deaths came before it. It has the room that the history has.
@@ -120,6 +132,7 @@ impl Pool {
             proof,
             positions: Vec::new(alloc),
             jobs: BTreeMap::new(alloc),
+            solver: None,
             history: History::new(alloc),
             notes_before: Vec::new(alloc),
             counted: CountedKeys::new(alloc),

@@ -9,6 +9,7 @@ ghost use Rattle.pool_history.specs.Counting.{result_comes};
 ghost use Rattle.pool_core.specs.Placing.{IsInterned, IsArrival, IsLiving, HasRoom, line_count, with_queue, comes_if, spent_if};
 ghost use Rattle.pool_history.specs.Record.{PoolRecord};
 ghost use Rattle.pool_history.specs.Returning.{dies, becomes_active};
+ghost use Rattle.pool_core.specs.Splits.{split_view};
 ghost use Rattle.pool_core.specs.State.{IsProofStateOf};
 ghost use Rattle.pool_core.specs.declared.pool.Note.TheVariants.{Died};
 
@@ -36,6 +37,7 @@ impl ProofState {
         ensures notes { self.new.notes.items ≡ self.old.notes.items }
         ensures steps { self.new.steps.items ≡ self.old.steps.items }
         ensures ended { self.new.ended ≡ self.old.ended }
+        ensures splits { split_view self.new.splits ≡ split_view self.old.splits }
         ensures room { OnOk result ((lss : List (List Line)) → length lss ≤ clauses → line_count lss ≤ lines → HasRoom self.new lss deaths out) }
     {
         let Ok(waiting) = u32::try_from(clauses.saturating_add(out)) else {

@@ -6,6 +6,7 @@ ghost use Rattle.term_bank.specs.Table.{IsTableOf};
 ghost use Rattle.pool_core.specs.CountedList.{keys_in};
 ghost use Rattle.pool_history.specs.Counting.{lines_of_entries};
 ghost use Rattle.pool_core.specs.Placing.{KnowsMore, HasRoom, IsFitWork, IsInBank, IsTakeable, entries_of, lines_of_removals, heavy_keys_of};
+ghost use Rattle.pool_core.specs.Splits.{split_view};
 ghost use Rattle.pool_history.specs.Returning.{removals_of};
 ghost use Rattle.pool_history.specs.Replay.{replay};
 ghost use Rattle.pool_history.specs.declared.event.Event.TheVariants.{Return};
@@ -133,6 +134,7 @@ fn take_return_memory<R: Wait>(
     ensures notes { proof.new.notes.items ≡ proof.old.notes.items }
     ensures steps { proof.new.steps.items ≡ proof.old.steps.items }
     ensures ended { proof.new.ended ≡ proof.old.ended }
+    ensures splits { split_view proof.new.splits ≡ split_view proof.old.splits }
     ensures room { OnOk result
         (HasRoom proof.new (lines_of_entries (entries_of work.now) ++ lines_of_removals (removals_of work.now)) (length (removals_of work.now)) out) }
     ensures counted { keys_in counted.new ≡ keys_in counted.old }

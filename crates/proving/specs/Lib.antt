@@ -1,3 +1,4 @@
 pub mod Progress
 pub mod Proved
 pub mod Causes
+pub mod Solving

@@ -4,6 +4,7 @@
 //!
 //! - `claim.rt` claims the next clause. One worker alone has no job out when it claims, so a ticket comes or an outcome stands.
 //! - `job.rt` learns what the ticket tells and makes the batch.
+//! - `solving.rt` answers what is to be solved where clauses are split. Nothing is split yet, so no round calls it.
 //! - `returning.rt` gives the batch back. A stale batch gets a new ticket for the job, and the round goes on with it.
 //! - `proved.rt` makes the bank and the pool from input clauses, runs the loop, and hands out what has ended.
 //!
@@ -17,5 +18,7 @@ pub mod laws;
 mod proved;
 mod returning;
 mod rounds;
+mod solving;
 
 pub use proved::{Proved, prove_clauses};
+pub use solving::{LastModel, Solved, solve_ticket};

@@ -34,8 +34,8 @@ pub fn prove_clauses<R: Wait>(
     ensures { IfOk result (IsProvedFrom (map clause_of inputs.now) options) }
 {
     let (bank, table) = Bank::new(alloc)?;
-    let pool = Pool::new(rt, alloc, &bank, table, inputs, options)?;
-    let pool = saturate(rt, alloc, &bank, pool)?;
+    let mut pool = Pool::new(rt, alloc, &bank, table, inputs, options)?;
+    saturate(rt, alloc, &bank, &mut pool)?;
     // The history is lawful, so what follows from it may be relied on.
     let _history = pool.history();
     match pool.outcome() {

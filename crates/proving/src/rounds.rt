@@ -14,20 +14,19 @@ use std::alloc::Global;
 use std::sync::Wait;
 use term_bank::Bank;
 
-/// Works on clauses of the pool one after another until an outcome stands. Clauses aren't split. After an out-of-memory error the pool is gone.
-pub(crate) fn saturate<R: Wait>(rt: &R, alloc: Global, bank: &Bank, pool: Pool) -> Mem<Pool>
-    requires bank { pool.bank ≡ identity bank.now }
-    requires unsplit { pool.origin.options.split ≡ false }
-    requires free { HasNoJob pool }
-    ensures later { IfOk result (λ done. IsLater pool done) }
-    ensures ended { IfOk result (λ done. IsEnded done) }
+/// Works on clauses of the pool one after another until an outcome stands. Clauses aren't split.
+pub(crate) fn saturate<R: Wait>(rt: &R, alloc: Global, bank: &Bank, pool: &mut Pool) -> Mem<()>
+    requires bank { pool.old.bank ≡ identity bank.now }
+    requires unsplit { pool.old.origin.options.split ≡ false }
+    requires free { HasNoJob pool.old }
+    ensures later { IsLater pool.old pool.new }
+    ensures ended { OnOk result (IsEnded pool.new) }
 {
-    let mut pool = pool;
     let mut index = Index::new(alloc, pool.options())?;
     'rounds: for _ in rt.forever() {
-        match claim_next(alloc, &mut pool, index.told())? {
-            None => return Ok(pool),
-            Some(ticket) => index = finish(rt, alloc, bank, &mut pool, index, ticket)?,
+        match claim_next(alloc, pool, index.told())? {
+            None => return Ok(()),
+            Some(ticket) => index = finish(rt, alloc, bank, pool, index, ticket)?,
         }
     }
     unreachable!()

@@ -13,6 +13,8 @@ mod outcome;
 #[cfg(test)]
 mod rows;
 #[cfg(test)]
+mod split;
+#[cfg(test)]
 mod tests;
 #[cfg(test)]
 mod written;

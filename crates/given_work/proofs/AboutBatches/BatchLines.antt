@@ -18,7 +18,7 @@ use Rattle.kernel_steps.specs.Parents.{Parent, Parents}
 use Rattle.kernel_steps.specs.Conclusion.{verdict, concludes, by_two}
 use Rattle.kernel_steps.specs.Derivation.{AreSteps, continued, line_parent, line_parents, reduced_parents}
 use Rattle.kernel_steps.specs.Lines.{AreLines, IsNumbered, clause_parents, has_small_sides, has_small_terms, is_on_literals, is_small_term}
-use Rattle.kernel_steps.specs.Soundness.{bindings_of, binds_each}
+use Rattle.kernel_steps.specs.Soundness.{binds_each}
 use Rattle.kernel_steps.specs.Symbols.{symbols_pass, clause_symbols_pass, bound_symbols_pass}
 use Rattle.kernel_steps.specs.declared.step.TheConstants.{CLAUSE_NUMBERS}
 use Rattle.kernel_steps.specs.declared.step.Step.{Step}

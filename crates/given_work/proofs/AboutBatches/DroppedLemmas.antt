@@ -1,5 +1,5 @@
 -- What is known of dropped conclusions.
-use Rattle.std.proofs.Common.{◌≡◌, Bool, true, false, List, [], Option, None, Some, cond, nat_eq, refl, sym, ◌∙◌, subst}
+use Rattle.std.proofs.Common.{◌≡◌, Bool, true, false, List, Option, None, Some, cond, nat_eq, refl, sym, ◌∙◌, subst}
 use Rattle.std.specs.Prelude.{option_and_then, if◌then◌else◌}
 use Rattle.std.proofs.lemmas.Option.{none-some, same_Some}
 use Rattle.indexmap.specs.IndexMap.{get}
@@ -53,6 +53,6 @@ module _ (es us ms : List Member) where
       by (Some d) there e = same-cause c d r (all (literals_hash 0 c.literals) d there) e
 
 -- what becomes of it
-pub dropped-fate : (s : Step) (clause : Clause) (r : Redundancy) → IsFateBy s clause (outcome_by r) (IsDropped r)
-dropped-fate s clause Tautology = refl
-dropped-fate s clause (Subsumed n) = refl
+pub dropped-fate : (split : Bool) (s : Step) (clause : Clause) (r : Redundancy) → IsFateBy split s clause (outcome_by r) (IsDropped r)
+dropped-fate split s clause Tautology = refl
+dropped-fate split s clause (Subsumed n) = refl

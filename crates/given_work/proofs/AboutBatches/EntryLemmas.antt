@@ -181,7 +181,7 @@ module _
 
   -- ---- what becomes of it
 
-  module _ (options : Options) (unsplit : options.split ≡ false) (mode_is : mode ≡ mode_of options.select) where
+  module _ (options : Options) (split : Bool) (splits : options.split ≡ split) (mode_is : mode ≡ mode_of options.select) where
     abbrev Right : Fate → Type 0
     Right fate = IsRightFate usage.is_predicate options clauses j key fate
 
@@ -189,7 +189,7 @@ module _
     inferred = subst (λ (m : SelectionMode). IsSizedInference usage.is_predicate m told key (clause_of clause) false) mode_is it.inferred
 
     pub outcome-right :
-        (o : Simplified) → IsSimplified es us ms None (clause_of clause) o → (fate : Fate) → IsFateBy by clause o fate → Right fate
+        (o : Simplified) → IsSimplified es us ms None (clause_of clause) o → (fate : Fate) → IsFateBy split by clause o fate → Right fate
     outcome-right outcome.Tautology simplified fate is =
         let out = simplified usage told (sets-formed usage clauses j es us ms sets (clause_of clause) conclusion-formed.literals) (members-formed usage clauses j es us ms sets) sets.of_clauses sets.has_all in
         subst Right (sym is) (record {
@@ -232,28 +232,28 @@ module _
                 led = result-is (clause_of clause) first r.lines ∙ ap Some (sym reduced.ends);
               };
           irreducible = irreducible-told usage.is_predicate (is_told j) clauses (clause_of r.clause) out.1;
-          given = is.one ∙ sym (ap (λ (b : Bool). handed_back b (clause_of r.clause)) unsplit);
+          given = is.given ∙ sym (ap (λ (b : Bool). handed_back b (clause_of r.clause)) splits);
         })
 
 -- ---- lists of entries
 
 pub entries-push :
-    (es us ms : List Member) (done : List Inference) (entries : List Entry) (from : Inference) (e : Entry)
-    → AreEntriesOf es us ms done entries → IsEntryOf es us ms from e → AreEntriesOf es us ms (done ++ from ∷ []) (entries ++ e ∷ [])
-entries-push es us ms [] entries from e none entry =
+    (split : Bool) (es us ms : List Member) (done : List Inference) (entries : List Entry) (from : Inference) (e : Entry)
+    → AreEntriesOf split es us ms done entries → IsEntryOf split es us ms from e → AreEntriesOf split es us ms (done ++ from ∷ []) (entries ++ e ∷ [])
+entries-push split es us ms [] entries from e none entry =
     (e, [], ap (λ (xs : List Entry). xs ++ e ∷ []) none, entry, refl)
-entries-push es us ms (d ∷ ds) entries from e some entry =
-    let rest = entries-push es us ms ds some.1 from e some.4 entry in
+entries-push split es us ms (d ∷ ds) entries from e some entry =
+    let rest = entries-push split es us ms ds some.1 from e some.4 entry in
     (some.0, some.1 ++ e ∷ [], ap (λ (xs : List Entry). xs ++ e ∷ []) some.2, some.3, rest)
 
 -- one inference more has its entry
 pub entries-more :
-    (es us ms : List Member) (found left now : List Inference) (entries after : List Entry) (from : Inference) (e : Entry)
-    → (done : List Inference) × (found ≡ done ++ left) × AreEntriesOf es us ms done entries
-    → left ≡ from ∷ now → after ≡ entries ++ e ∷ [] → IsEntryOf es us ms from e
-    → (done : List Inference) × (found ≡ done ++ now) × AreEntriesOf es us ms done after
-entries-more es us ms found left now entries after from e was next pushed entry = (
+    (split : Bool) (es us ms : List Member) (found left now : List Inference) (entries after : List Entry) (from : Inference) (e : Entry)
+    → (done : List Inference) × (found ≡ done ++ left) × AreEntriesOf split es us ms done entries
+    → left ≡ from ∷ now → after ≡ entries ++ e ∷ [] → IsEntryOf split es us ms from e
+    → (done : List Inference) × (found ≡ done ++ now) × AreEntriesOf split es us ms done after
+entries-more split es us ms found left now entries after from e was next pushed entry = (
   was.0 ++ from ∷ [],
   was.1 ∙ ap (λ xs. was.0 ++ xs) next ∙ sym (append_assoc was.0 (from ∷ []) now),
-  subst (λ (xs : List Entry). AreEntriesOf es us ms (was.0 ++ from ∷ []) xs) (sym pushed) (entries-push es us ms was.0 entries from e was.2 entry),
+  subst (λ (xs : List Entry). AreEntriesOf split es us ms (was.0 ++ from ∷ []) xs) (sym pushed) (entries-push split es us ms was.0 entries from e was.2 entry),
 )

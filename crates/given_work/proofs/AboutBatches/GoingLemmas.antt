@@ -117,7 +117,7 @@ module _
 
 module _
     (usage : SymbolUse) (options : Options) (clauses : Lookup) (j : GivenJob) (es us ms : List Member)
-    (sets : AreToldSets usage clauses j es us ms) (unsplit : options.split ≡ false)
+    (sets : AreToldSets usage clauses j es us ms) (split : Bool) (splits : options.split ≡ split)
     (n : ℕ) (c : TreeClause) (there : told_of clauses j n ≡ Some c)
     (r : Reduced) (by : IsReducedBy es us (Some n) c r) where
   abbrev p : ℕ → Bool
@@ -258,11 +258,8 @@ module _
       (Contains-distinct (clauses_named r.lines) k
       (named-before n r.lines k parts.0 (λ e. true≢false (sym parts.1 ∙ ap not (eq-eqb k n e))))))
 
-  unsplit-result : (d : TreeClause) → d ∷ [] ≡ handed_back options.split d
-  unsplit-result d = sym (ap (λ (b : Bool). handed_back b d) unsplit)
-
   pub goes-replaced :
-      (results : List Clause) → map clause_of results ≡ clause_of r.clause ∷ []
+      (results : List Clause) → map clause_of results ≡ handed_back split (clause_of r.clause)
       → (r.lines ≡ [] → ⊥) → is_tautology (clause_of r.clause) ≡ false → IsLowest (IsSubsumer usage (Some n) (clause_of r.clause)) ms None
       → StaysOrGoes p options clauses j n c (Some (record { victim = n; justifiers = r.used; fate = Kept lines results }))
   goes-replaced results are some no_tautology not_subsumed = record {
@@ -292,7 +289,7 @@ module _
             (All-weaker (Contains (units_of (m ∷ moves))) (Contains (units_of (m ∷ moves) ++ clauses_used n lines))
             (λ k h. Contains-append_left (units_of (m ∷ moves)) (clauses_used n lines) k h) r.used all_used)
             (used-back (units_of (m ∷ moves)) by_used);
-        given = are ∙ unsplit-result (clause_of r.clause);
+        given = are ∙ sym (ap (λ (b : Bool). handed_back b (clause_of r.clause)) splits);
       }
 
 -- ---- what the calls give
@@ -316,10 +313,10 @@ reduced-by es us out c old new reduction same first further ends = record {
     at usage formed = subst (AreFormed usage es us) (sym same) formed
 
 pub goes-dropped :
-    (es us ms : List Member) (n : ℕ) (c : TreeClause) (r : Reduced) → IsReducedBy es us (Some n) c r → is_tautology (clause_of r.clause) ≡ true
-    → IsRemovalOf es us ms n c (Some (record { victim = n; justifiers = r.used; fate = Dropped Tautology }))
-goes-dropped es us ms n c r by tautology usage options clauses j sets unsplit there =
-    goes-tautology usage options clauses j es us ms sets unsplit n c there r by tautology
+    (split : Bool) (es us ms : List Member) (n : ℕ) (c : TreeClause) (r : Reduced) → IsReducedBy es us (Some n) c r → is_tautology (clause_of r.clause) ≡ true
+    → IsRemovalOf split es us ms n c (Some (record { victim = n; justifiers = r.used; fate = Dropped Tautology }))
+goes-dropped split es us ms n c r by tautology usage options clauses j sets splits there =
+    goes-tautology usage options clauses j es us ms sets split splits n c there r by tautology
 
 -- what a search for subsumers finds, under each use
 abbrev pub IsFound : List Member → ℕ → Reduced → Option ℕ → Type 0
@@ -328,21 +325,21 @@ IsFound ms n r found =
     → IsLowest (IsSubsumer usage (Some n) (clause_of r.clause)) ms found
 
 pub goes-redundant :
-    (es us ms : List Member) (n : ℕ) (c : TreeClause) (r : Reduced) (k : ℕ) (justifiers : List ℕ)
+    (split : Bool) (es us ms : List Member) (n : ℕ) (c : TreeClause) (r : Reduced) (k : ℕ) (justifiers : List ℕ)
     → IsReducedBy es us (Some n) c r → IsFound ms n r (Some k) → justifiers ≡ with_number k r.used
-    → IsRemovalOf es us ms n c (Some (record { victim = n; justifiers = justifiers; fate = Dropped (Subsumed k) }))
-goes-redundant es us ms n c r k justifiers by found is usage options clauses j sets unsplit there =
-    goes-subsumed usage options clauses j es us ms sets unsplit n c there r by k justifiers is
-    (found usage (result-formed usage options clauses j es us ms sets unsplit n c there r by) (members-formed usage clauses j es us ms sets))
+    → IsRemovalOf split es us ms n c (Some (record { victim = n; justifiers = justifiers; fate = Dropped (Subsumed k) }))
+goes-redundant split es us ms n c r k justifiers by found is usage options clauses j sets splits there =
+    goes-subsumed usage options clauses j es us ms sets split splits n c there r by k justifiers is
+    (found usage (result-formed usage options clauses j es us ms sets split splits n c there r by) (members-formed usage clauses j es us ms sets))
 
 pub goes-or-stays :
-    (es us ms : List Member) (n : ℕ) (c : TreeClause) (r : Reduced) (gone : Option Removal)
-    → IsReducedBy es us (Some n) c r → IsFound ms n r None → is_tautology (clause_of r.clause) ≡ false → IsReplacedOrSame n r gone
-    → IsRemovalOf es us ms n c gone
-goes-or-stays es us ms n c r None by found no_tautology same usage options clauses j sets unsplit there =
-    stays usage options clauses j es us ms sets unsplit n c there r by same no_tautology
-    (found usage (result-formed usage options clauses j es us ms sets unsplit n c there r by) (members-formed usage clauses j es us ms sets))
-goes-or-stays es us ms n c r (Some m) by found no_tautology it usage options clauses j sets unsplit there =
+    (split : Bool) (es us ms : List Member) (n : ℕ) (c : TreeClause) (r : Reduced) (gone : Option Removal)
+    → IsReducedBy es us (Some n) c r → IsFound ms n r None → is_tautology (clause_of r.clause) ≡ false → IsReplacedOrSame split n r gone
+    → IsRemovalOf split es us ms n c gone
+goes-or-stays split es us ms n c r None by found no_tautology same usage options clauses j sets splits there =
+    stays usage options clauses j es us ms sets split splits n c there r by same no_tautology
+    (found usage (result-formed usage options clauses j es us ms sets split splits n c there r by) (members-formed usage clauses j es us ms sets))
+goes-or-stays split es us ms n c r (Some m) by found no_tautology it usage options clauses j sets splits there =
     subst (λ (k : Removal). GoesRightly usage.is_predicate options clauses j n k) (sym it.removal)
-    (goes-replaced usage options clauses j es us ms sets unsplit n c there r by it.results it.one it.some no_tautology
-    (found usage (result-formed usage options clauses j es us ms sets unsplit n c there r by) (members-formed usage clauses j es us ms sets)))
+    (goes-replaced usage options clauses j es us ms sets split splits n c there r by it.results it.given it.some no_tautology
+    (found usage (result-formed usage options clauses j es us ms sets split splits n c there r by) (members-formed usage clauses j es us ms sets)))

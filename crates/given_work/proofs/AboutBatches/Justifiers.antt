@@ -1,8 +1,8 @@
 -- The clauses that lines of a batch use: those that the lines of the reduced clause use, and the clause itself.
 use Rattle.std.proofs.Common.{◌≡◌, ℕ, ◌-◌, ◌<◌, ◌≤◌, ◌==◌, Bool, true, List, [], ◌∷◌, Some, None, refl, ap, sym, ◌∙◌, subst, ⊎_elim, arith}
 use Rattle.std.specs.Prelude.{map, flat_map, nat_lt, All, Contains, ◌&&◌, option_map, if◌then◌else◌}
-use Rattle.std.specs.List.{list_all, list_any, last_or}
-use Rattle.std.proofs.lemmas.Bool.{cond-true, cond-false, cases_Bool, eq-eqb, ltb-true, ltb-false, true≢false, or_left, or_right, and_from, and_parts}
+use Rattle.std.specs.List.{list_any, last_or}
+use Rattle.std.proofs.lemmas.Bool.{cond-true, cond-false, cases_Bool, eq-eqb, ltb-true, ltb-false, true≢false, or_left, or_right, and_from}
 use Rattle.std.proofs.lemmas.List.Elements.{All-head, All-tail, All-nil, All-cons, Contains-append_left, Contains-append_right, Contains-append_cases}
 use Rattle.fol_base.specs.Clause.{TreeClause}
 use Rattle.fol_base.specs.Canonical.{distinct}
@@ -11,12 +11,9 @@ use Rattle.fol_base.specs.Subsumption.{is_among}
 use Rattle.kernel_steps.specs.Lines.{clauses_named, step_parents}
 use Rattle.kernel_steps.proofs.AboutCalls.ParentLemmas.{parents-mapped}
 use Rattle.kernel_steps.specs.declared.step.TheConstants.{CLAUSE_NUMBERS}
-use Rattle.kernel_steps.specs.declared.step.Step.{Step}
-use Rattle.kernel_steps.specs.declared.step.Step.TheVariants.{Para, Refl, Factor, Merge}
 use Rattle.kernel_steps.specs.declared.step.Line.{Line}
 use Rattle.reduced_clause.specs.Reduced.{last_clause}
 use Rattle.reduced_clause.proofs.SymbolLemmas.{has-distinct, Contains-has}
-use Rattle.kernel_steps.specs.ParentNumbers.{with_parents}
 use Rattle.given_work.specs.Going.{number_beside, batch_line, batch_lines}
 use Rattle.given_work.proofs.AboutIndexes.Slots.{Contains-cons_cases, Contains-here, Contains-later, Contains-none, Contains-filter, Contains-filtered}
 

@@ -88,18 +88,18 @@ module _
 
 -- ---- one number more
 
-pub none-removed : (ms : List Member) (given : Member) → AreRemovalsAmong ms given [] []
-none-removed ms given usage options clauses j tells unsplit same = (
+pub none-removed : (split : Bool) (ms : List Member) (given : Member) → AreRemovalsAmong split ms given [] []
+none-removed split ms given usage options clauses j tells splits same = (
   All-nil (Removes usage.is_predicate options clauses j),
   (λ m there listed differ simplifies. absurd (Contains-none m.number listed)),
 )
 
 module _
-    (ms : List Member) (sets : Sets) (given : Member) (seen : List ℕ) (n : ℕ) (before now : List Removal)
+    (split : Bool) (ms : List Member) (sets : Sets) (given : Member) (seen : List ℕ) (n : ℕ) (before now : List Removal)
     (are : AreSetsOf ms sets) (numbered : All (λ (k : Member). k.number < CLAUSE_NUMBERS) ms) (given_there : Contains ms given)
-    (was : AreRemovalsAmong ms given seen before)
+    (was : AreRemovalsAmong split ms given seen before)
     (usage : SymbolUse) (options : Options) (clauses : Lookup) (j : GivenJob)
-    (tells : Tells usage clauses j ms) (unsplit : options.split ≡ false) (same : j.number ≡ given.number) where
+    (tells : Tells usage clauses j ms) (splits : options.split ≡ split) (same : j.number ≡ given.number) where
   abbrev Right : Removal → Type 0
   Right = Removes usage.is_predicate options clauses j
 
@@ -114,7 +114,7 @@ module _
       → list_any (λ (r : Removal). r.victim == m.number) rs ≡ true)
 
   old : Done seen before
-  old = was usage options clauses j tells unsplit same
+  old = was usage options clauses j tells splits same
 
   none-more : AddsNone ms given.number n before now → Done (seen ++ n ∷ []) now
   none-more none = (
@@ -172,29 +172,29 @@ module _
           (Contains-push_cases seen n m.number listed))),
     )
 
-  considered-more : IsConsidered ms sets.equations sets.units sets.subsumers given.number n before now → Done (seen ++ n ∷ []) now
+  considered-more : IsConsidered split ms sets.equations sets.units sets.subsumers given.number n before now → Done (seen ++ n ∷ []) now
   considered-more considered =
       ⊎_elim none-more
       (λ one.
       one-more one.member one.there one.numbered one.another (one.adds).gone (one.adds).added
-      ((one.adds).right usage options clauses j (sets-told usage clauses j ms tells sets are numbered) unsplit
+      ((one.adds).right usage options clauses j (sets-told usage clauses j ms tells sets are numbered) splits
       (told one.member one.there one.numbered one.another)))
       considered
 
 pub removal-more :
-    (ms : List Member) (sets : Sets) (given : Member) (seen : List ℕ) (n : ℕ) (before now : List Removal)
+    (split : Bool) (ms : List Member) (sets : Sets) (given : Member) (seen : List ℕ) (n : ℕ) (before now : List Removal)
     → AreSetsOf ms sets → All (λ (k : Member). k.number < CLAUSE_NUMBERS) ms → Contains ms given
-    → IsConsidered ms sets.equations sets.units sets.subsumers given.number n before now
-    → AreRemovalsAmong ms given seen before → AreRemovalsAmong ms given (seen ++ n ∷ []) now
-removal-more ms sets given seen n before now are numbered given_there considered was usage options clauses j tells unsplit same =
-    considered-more ms sets given seen n before now are numbered given_there was usage options clauses j tells unsplit same considered
+    → IsConsidered split ms sets.equations sets.units sets.subsumers given.number n before now
+    → AreRemovalsAmong split ms given seen before → AreRemovalsAmong split ms given (seen ++ n ∷ []) now
+removal-more split ms sets given seen n before now are numbered given_there considered was usage options clauses j tells splits same =
+    considered-more split ms sets given seen n before now are numbered given_there was usage options clauses j tells splits same considered
 
 -- the members that it simplifies are among those of the list
 pub removals-all :
-    (ms : List Member) (given : Member) (numbers : List ℕ) (removals : List Removal)
-    → HasSimplified ms given numbers → AreRemovalsAmong ms given numbers removals → AreRemovalsOf ms given removals
-removals-all ms given numbers removals has among usage options clauses j tells unsplit same =
-    let of_list = among usage options clauses j tells unsplit same in (
+    (split : Bool) (ms : List Member) (given : Member) (numbers : List ℕ) (removals : List Removal)
+    → HasSimplified ms given numbers → AreRemovalsAmong split ms given numbers removals → AreRemovalsOf split ms given removals
+removals-all split ms given numbers removals has among usage options clauses j tells splits same =
+    let of_list = among usage options clauses j tells splits same in (
       of_list.0,
       (λ m there differ simplifies. of_list.1 m there (has usage options clauses j tells m there differ simplifies) differ simplifies),
     )

@@ -54,7 +54,7 @@ told_for_jobs_are_told origin history ticket ms inputs lawful told = record {
 }
 
 pub work_makes_right_batches : WorkMakesRightBatches
-work_makes_right_batches origin history ticket ms batch inputs unsplit lawful told same_job right = record {
+work_makes_right_batches origin history ticket ms batch inputs lawful told same_job right = record {
   given = told.job;
   out = ap (given_job (replay origin history)) same_job ∙ told.out;
   says = λ usage used.

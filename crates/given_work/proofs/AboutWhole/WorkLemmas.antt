@@ -1,5 +1,5 @@
 -- The work on a given clause is right.
-use Rattle.std.proofs.Common.{◌≡◌, ◌⊎◌, ℕ, ◌<◌, ◌≤◌, ◌==◌, not, Bool, true, false, List, [], ◌∷◌, ◌++◌, append-nil, length, map, Some, None, refl, ap, ap₂, sym, ◌∙◌, subst, ⊎_elim, inl, inr}
+use Rattle.std.proofs.Common.{◌≡◌, ◌⊎◌, ℕ, ◌<◌, ◌≤◌, ◌==◌, not, Bool, true, List, [], ◌∷◌, ◌++◌, append-nil, length, map, Some, None, refl, ap, ap₂, sym, ◌∙◌, subst, ⊎_elim, inl, inr}
 use Rattle.std.specs.Prelude.{All, AllPairs, Contains, slice_get, take_while, option_map, IsTrue}
 use Rattle.std.specs.List.{list_all, list_any}
 use Rattle.std.proofs.lemmas.Bool.{cond-true, and_from, and_parts, eq-eqb, true≢false}
@@ -96,9 +96,9 @@ all-made mode ms sets g ns found told are numbered met =
 
 -- ---- entries
 
-entered-keys : (es us ms : List Member) (done : List Inference) (entries : List Entry) → AreEntriesOf es us ms done entries → keys_of entries ≡ map (λ (e : Inference). e.key) done
-entered-keys es us ms [] entries none = ap keys_of none
-entered-keys es us ms (d ∷ ds) entries some = ap keys_of some.2 ∙ ap₂ (λ (k : Key) (ks : List Key). k ∷ ks) (some.3).key (entered-keys es us ms ds some.1 some.4)
+entered-keys : (split : Bool) (es us ms : List Member) (done : List Inference) (entries : List Entry) → AreEntriesOf split es us ms done entries → keys_of entries ≡ map (λ (e : Inference). e.key) done
+entered-keys split es us ms [] entries none = ap keys_of none
+entered-keys split es us ms (d ∷ ds) entries some = ap keys_of some.2 ∙ ap₂ (λ (k : Key) (ks : List Key). k ∷ ks) (some.3).key (entered-keys split es us ms ds some.1 some.4)
 
 every : {X : Type 0} (q : X → Bool) (xs : List X) → ((x : X) → Contains xs x → q x ≡ true) → list_all q xs ≡ true
 every {X = X} q xs each = by xs (all-from (λ (x : X). q x ≡ true) xs each)
@@ -124,13 +124,13 @@ module _ (usage : SymbolUse) (options : Options) (clauses : Lookup) (j : GivenJo
   Makes e = IsMade p (mode_of options.select) (told_of clauses j) e.key e.result
 
   fates-right :
-      (es us ms : List Member) (done : List Inference) (entries : List Entry)
-      → AreToldSets usage clauses j es us ms → options.split ≡ false → AreEntriesOf es us ms done entries → All Makes done → All Right entries
-  fates-right es us ms [] entries sets unsplit none made = subst (λ (xs : List Entry). All Right xs) (sym none) (All-nil Right)
-  fates-right es us ms (d ∷ ds) entries sets unsplit some made =
+      (split : Bool) (es us ms : List Member) (done : List Inference) (entries : List Entry)
+      → AreToldSets usage clauses j es us ms → options.split ≡ split → AreEntriesOf split es us ms done entries → All Makes done → All Right entries
+  fates-right split es us ms [] entries sets splits none made = subst (λ (xs : List Entry). All Right xs) (sym none) (All-nil Right)
+  fates-right split es us ms (d ∷ ds) entries sets splits some made =
       subst (λ (xs : List Entry). All Right xs) (sym some.2)
-      (All-cons Right some.0 some.1 ((some.3).right usage options clauses j sets unsplit (All-head Makes d ds made))
-      (fates-right es us ms ds some.1 sets unsplit some.4 (All-tail Makes d ds made)))
+      (All-cons Right some.0 some.1 ((some.3).right usage options clauses j sets splits (All-head Makes d ds made))
+      (fates-right split es us ms ds some.1 sets splits some.4 (All-tail Makes d ds made)))
 
   -- ---- a clause that goes
 
@@ -154,7 +154,7 @@ module _ (usage : SymbolUse) (options : Options) (clauses : Lookup) (j : GivenJo
       (numbered : All (λ (m : Member). m.number < CLAUSE_NUMBERS) (members_in store.slots.items))
       (at : slice_get store.slots.items place ≡ Some (Some given))
       (tells : Tells usage clauses j (members_in store.slots.items))
-      (same_mode : options.select ≡ mode) (unsplit : options.split ≡ false) (same : j.number ≡ given.number) where
+      (same_mode : options.select ≡ mode) (split : Bool) (splits : options.split ≡ split) (same : j.number ≡ given.number) where
     abbrev all_members : List Member
     all_members = members_in store.slots.items
 
@@ -192,9 +192,9 @@ module _ (usage : SymbolUse) (options : Options) (clauses : Lookup) (j : GivenJo
     Finds found = AreInferences p (mode_of options.select) (told_of clauses j) (is_met given.number lower) found
 
     module _ (found : List Inference) (finds : Finds found) (entries : List Entry)
-        (first : AreFirstEntries sets.equations sets.units sets.subsumers found left entries) where
+        (first : AreFirstEntries split sets.equations sets.units sets.subsumers found left entries) where
       keys-are : keys_of entries ≡ map (λ (e : Inference). e.key) first.done
-      keys-are = entered-keys sets.equations sets.units sets.subsumers first.done entries first.entered
+      keys-are = entered-keys split sets.equations sets.units sets.subsumers first.done entries first.entered
 
       each-done : (e : Inference) → Contains first.done e → (is_met given.number lower e.key ≡ true) × Makes e
       each-done e there =
@@ -218,7 +218,7 @@ module _ (usage : SymbolUse) (options : Options) (clauses : Lookup) (j : GivenJo
 
       all-right : All Right entries
       all-right =
-          fates-right sets.equations sets.units sets.subsumers first.done entries told-sets unsplit first.entered
+          fates-right split sets.equations sets.units sets.subsumers first.done entries told-sets splits first.entered
           (all-from Makes first.done (λ e there. (each-done e there).1))
 
       meets-all : first.rest ≡ [] → MeetsAll p options clauses j entries
@@ -266,7 +266,7 @@ module _ (usage : SymbolUse) (options : Options) (clauses : Lookup) (j : GivenJo
 
     meeting :
         IsReducedBeside p options clauses j given.number (clause_at given.clause)
-        → (met : Work) → IsMetBy mode sets all_members lower given left met → j.left ≡ left → IsRightWork p options clauses j met
+        → (met : Work) → IsMetBy split mode sets all_members lower given left met → j.left ≡ left → IsRightWork p options clauses j met
     meeting irreducible met by same_left =
         subst (λ (w : Work). IsRightWork p options clauses j w) (sym by.is)
         (record {
@@ -293,10 +293,10 @@ module _ (usage : SymbolUse) (options : Options) (clauses : Lookup) (j : GivenJo
         removed =
             ⊎_elim
             (λ enough. subst (λ (rs : List Removal). All (Removes p options clauses j) rs) (sym enough.1) (All-nil (Removes p options clauses j)))
-            (λ all. (all usage options clauses j tells unsplit same).0)
+            (λ all. (all usage options clauses j tells splits same).0)
             by.removed
 
-        enough : HasRemovals all_members given left by.entries by.removals → (j.left ≤ length by.entries) ⊎ (MeetsAll p options clauses j by.entries × RemovesAll p options clauses j by.removals)
+        enough : HasRemovals split all_members given left by.entries by.removals → (j.left ≤ length by.entries) ⊎ (MeetsAll p options clauses j by.entries × RemovesAll p options clauses j by.removals)
         enough (inl stopped) = inl (subst (λ n. n ≤ length by.entries) (sym same_left) stopped.0)
         enough (inr all) =
             ⊎_elim
@@ -304,34 +304,34 @@ module _ (usage : SymbolUse) (options : Options) (clauses : Lookup) (j : GivenJo
             (λ whole.
             inr (
               meets-all by.found finds by.entries by.entered whole,
-              removes-all by.removals (all usage options clauses j tells unsplit same),
+              removes-all by.removals (all usage options clauses j tells splits same),
             ))
             (by.entered).enough
 
 -- ---- work
 
 pub meeting-right :
-    (mode : Selection) (store : Store) (sets : Sets) (place : ℕ) (given : Member) (left : ℕ) (work : Work)
+    (split : Bool) (mode : Selection) (store : Store) (sets : Sets) (place : ℕ) (given : Member) (left : ℕ) (work : Work)
     → ArePlaced store → AreSetsOf (members_in store.slots.items) sets → All (λ (m : Member). m.number < CLAUSE_NUMBERS) (members_in store.slots.items)
     → slice_get store.slots.items place ≡ Some (Some given)
-    → IsRemovalOf sets.equations sets.units sets.subsumers given.number (clause_at given.clause) None
-    → IsMetBy mode sets (members_in store.slots.items) (before_place store.slots.items place) given left work
-    → IsRightWorkOf mode (members_in store.slots.items) given.number left work
-meeting-right mode store sets place given left work placed are numbered at stays by usage options clauses j tells same_mode unsplit same same_left =
+    → IsRemovalOf split sets.equations sets.units sets.subsumers given.number (clause_at given.clause) None
+    → IsMetBy split mode sets (members_in store.slots.items) (before_place store.slots.items place) given left work
+    → IsRightWorkOf split mode (members_in store.slots.items) given.number left work
+meeting-right split mode store sets place given left work placed are numbered at stays by usage options clauses j tells same_mode splits same same_left =
     let told = sets-told usage clauses j (members_in store.slots.items) tells sets are numbered in
     let given_told =
     member-told usage clauses j (members_in store.slots.items) tells given (at-living store.slots.items place given at) in
-    meeting usage options clauses j mode store sets place given left placed are numbered at tells same_mode unsplit same
-    (stays usage options clauses j told unsplit given_told) work by same_left
+    meeting usage options clauses j mode store sets place given left placed are numbered at tells same_mode split splits same
+    (stays usage options clauses j told splits given_told) work by same_left
 
 pub going-right :
-    (mode : Selection) (store : Store) (sets : Sets) (place : ℕ) (given : Member) (left : ℕ) (m : Removal)
+    (split : Bool) (mode : Selection) (store : Store) (sets : Sets) (place : ℕ) (given : Member) (left : ℕ) (m : Removal)
     → AreSetsOf (members_in store.slots.items) sets → All (λ (k : Member). k.number < CLAUSE_NUMBERS) (members_in store.slots.items)
     → slice_get store.slots.items place ≡ Some (Some given)
-    → IsRemovalOf sets.equations sets.units sets.subsumers given.number (clause_at given.clause) (Some m)
-    → IsRightWorkOf mode (members_in store.slots.items) given.number left (Gone m)
-going-right mode store sets place given left m are numbered at goes usage options clauses j tells same_mode unsplit same same_left =
+    → IsRemovalOf split sets.equations sets.units sets.subsumers given.number (clause_at given.clause) (Some m)
+    → IsRightWorkOf split mode (members_in store.slots.items) given.number left (Gone m)
+going-right split mode store sets place given left m are numbered at goes usage options clauses j tells same_mode splits same same_left =
     let told = sets-told usage clauses j (members_in store.slots.items) tells sets are numbered in
     let given_told =
     member-told usage clauses j (members_in store.slots.items) tells given (at-living store.slots.items place given at) in
-    goes-right usage options clauses j given.number m same (goes usage options clauses j told unsplit given_told)
+    goes-right usage options clauses j given.number m same (goes usage options clauses j told splits given_told)

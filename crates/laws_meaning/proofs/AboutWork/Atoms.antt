@@ -32,7 +32,7 @@ known-parts n (s ∷ some) more h =
     let rest = known-parts n some more parts.1 in
     (and_from (has_symbol s n.symbols) (list_all (λ u. has_symbol u n.symbols) some) parts.0 rest.0, rest.1)
 
-number-below : (known : List Symbol) (s : Symbol) → has_symbol s known ≡ true → number_of known s < length known
+pub number-below : (known : List Symbol) (s : Symbol) → has_symbol s known ≡ true → number_of known s < length known
 number-below [] s h = absurd (true≢false (sym h))
 number-below (k ∷ known) s h = by (same_symbol s k) h (number-below known s)
   where

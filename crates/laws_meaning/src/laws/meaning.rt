@@ -3,6 +3,7 @@
 ghost use Rattle.laws_meaning.specs.Laws.{
   ModelsExtend,
   FormsReturn,
+  MeaningOfSymbols,
   RefutedProblemsHaveNoModel,
   RefutedConjecturesFollow,
   RefutedAxiomsAreUnsatisfiable,
@@ -17,6 +18,11 @@ pub fn models_extend()
 /// Where the clausal form is true, the formulas are, the conjecture negated.
 pub fn forms_return()
     ensures { FormsReturn }
+{}
+
+/// Whether an interpretation is a model of a problem depends on what the problem's symbols give alone.
+pub fn meaning_of_symbols()
+    ensures { MeaningOfSymbols }
 {}
 
 /// A problem that is refuted by ground instances of its form has no finite model.

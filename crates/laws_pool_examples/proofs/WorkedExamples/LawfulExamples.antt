@@ -101,6 +101,12 @@ given_up = (
 pub solver_and_clause : IsLawful is_predicate split (event.ClaimSolve 1 ∷ event.Claim 2 ∷ [])
 solver_and_clause = (((refl, refl), refl), (((refl, refl), refl, refl), tt))
 
+pub solver_given_up : IsLawful is_predicate split (event.ClaimSolve 1 ∷ event.Abandon 1 ∷ event.ClaimSolve 2 ∷ [])
+solver_given_up = (
+  ((refl, refl), refl),
+  (inr (record { solver = _; out = refl; same = refl; says = tt }), (((refl, refl), refl), tt)),
+)
+
 pub log_returned : IsLawful is_predicate signed signed_history
 log_returned = (
   ((refl, refl), refl),

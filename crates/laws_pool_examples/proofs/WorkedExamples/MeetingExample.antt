@@ -127,7 +127,7 @@ module _
       (subst (λ (c : TreeClause). NamedFactoring is_predicate (mode_of options.select) c i s j z d) (sym (only_told k it.clause it.there)) it.infers)
   none_named (Replaced k) d it = it
 
-  meets_nothing : IsRightMeeting is_predicate options registered job [] []
+  pub meets_nothing : IsRightMeeting is_predicate options registered job [] []
   meets_nothing = record {
     given_irreducible = record { clause = unit; there = is_given; infers = irreducible };
     keys_differ = λ i j d before within. absurd (omega (arith, within));
@@ -193,7 +193,7 @@ only_part zero c there = same_Some part c there
 only_part (suc zero) c there = absurd (none-some c there)
 only_part (suc (suc n)) c there = absurd (none-some c (sym (none-when (is_told part_job (suc (suc n))) (of_parts (suc (suc n))) refl) ∙ there))
 
-no_superposition_of_part :
+pub no_superposition_of_part :
     (s z : Side) (place : List ℕ) (old : Tree) (σ τ : Substitution)
     → subterm place (side_of z (p (x 0))) ≡ Some old → have_heads_of_one_kind is_predicate (side_of s (p (x 0))) old ≡ true
     → (IsTrue (p (x 0)).positive → place ≡ [] → IsFalse (tree_eq (instance σ (other_side_of s (p (x 0)))) (instance τ (other_side_of z (p (x 0))))))

@@ -1,6 +1,6 @@
 -- A pool as it begins: its fields are those of the record with the inputs.
 use Rattle.std.proofs.Common.{◌≡◌, ℕ, ◌%◌, ◌≤◌, true, false, List, [], map, length, ap, sym, ◌∙◌, subst, arith}
-use Rattle.std.specs.Prelude.{Option, Some, slice_get, unwrap_or, option_map, vec_len, vec_capacity, All}
+use Rattle.std.specs.Prelude.{Option, None, Some, slice_get, unwrap_or, option_map, vec_len, vec_capacity, All}
 use Rattle.std.specs.List.{list_all}
 use Rattle.std.proofs.lemmas.List.Elements.{All-nil}
 use Rattle.std.proofs.lemmas.Option.{none-some}
@@ -20,7 +20,7 @@ use Rattle.pool_history.specs.News.{changes_from}
 use Rattle.pool_core.specs.Noted.{IsNoted, change_at}
 use Rattle.pool_history.specs.Inputs.{AreInputs, IsLimit}
 use Rattle.pool_history.specs.Lawful.{IsLawful}
-use Rattle.pool_core.specs.State.{origin_of, job_entry, IsProofStateOf, IsStateOf, IsPool}
+use Rattle.pool_core.specs.State.{origin_of, job_entry, solver_job, IsProofStateOf, IsStateOf, IsPool}
 use Rattle.pool_history.specs.declared.event.Event.{Event}
 use Rattle.pool_core.specs.declared.pool.Pool.TheInside.{Inside}
 use Rattle.pool_history.proofs.AboutRecords.FrameLemmas.{Registers, inputs-register}
@@ -38,10 +38,10 @@ numbered r n x there = ap (λ (o : Option Registered). unwrap_or (option_map (λ
 module _ (a : Inside) (bank : Bank) (r : PoolRecord) where
   begun-state :
       a.table.bank ≡ bank → IsProofStateOf bank a.table a.proof r → Registers nothing_registered r
-      → a.positions.items ≡ [] → a.jobs.entries ≡ [] → keys_in a.counted ≡ [] → a.set_aside.items ≡ [] → a.last_job ≡ 0 → a.place_in_round ≡ 0
+      → a.positions.items ≡ [] → a.jobs.entries ≡ [] → keys_in a.counted ≡ [] → a.set_aside.items ≡ [] → a.last_job ≡ 0 → a.place_in_round ≡ 0 → a.solver ≡ None
       → vec_len a.history.events ≤ vec_capacity a.history.events → vec_len a.notes_before ≤ vec_capacity a.notes_before
       → IsStateOf a r
-  begun-state same_bank is registers positions jobs counted set_aside last_job place room notes_room = record {
+  begun-state same_bank is registers positions jobs counted set_aside last_job place solver room notes_room = record {
     proof = subst (λ (b : Bank). IsProofStateOf b a.table a.proof r) (sym same_bank) is;
     positions = positions ∙ sym (ap (λ (t : PoolRecord). t.positions) registers.same);
     jobs = jobs ∙ sym (ap (λ (t : PoolRecord). map job_entry t.given) registers.same);
@@ -49,6 +49,7 @@ module _ (a : Inside) (bank : Bank) (r : PoolRecord) where
     set_aside = set_aside ∙ sym (ap (λ (t : PoolRecord). t.set_aside) registers.same);
     last_job = last_job ∙ sym (ap (λ (t : PoolRecord). t.jobs) registers.same);
     place = place ∙ sym (ap (λ (t : PoolRecord). t.claims % 6) registers.same);
+    solver = ap (option_map solver_job) solver ∙ sym (ap (λ (t : PoolRecord). t.solver) registers.same);
     no_solver = ap (λ (t : PoolRecord). t.solver) registers.same;
     queue_room = let none : length r.given ≡ 0 = ap (λ (t : PoolRecord). length t.given) registers.same in omega (arith, none);
     history_room = let none : length r.given ≡ 0 = ap (λ (t : PoolRecord). length t.given) registers.same in omega (arith, none, room);
@@ -59,12 +60,12 @@ pub begun :
     (a : Inside) (bank : Bank)
     → a.options.split ≡ false → a.table.bank ≡ bank
     → IsProofStateOf bank a.table a.proof (with_inputs false 0 (origin_of a).inputs nothing_registered)
-    → a.positions.items ≡ [] → a.jobs.entries ≡ [] → keys_in a.counted ≡ [] → a.set_aside.items ≡ [] → a.last_job ≡ 0 → a.place_in_round ≡ 0
+    → a.positions.items ≡ [] → a.jobs.entries ≡ [] → keys_in a.counted ≡ [] → a.set_aside.items ≡ [] → a.last_job ≡ 0 → a.place_in_round ≡ 0 → a.solver ≡ None
     → vec_len a.history.events ≤ vec_capacity a.history.events → vec_len a.notes_before ≤ vec_capacity a.notes_before
     → events_of a.history ≡ [] → a.proof.notes.items ≡ [] → a.notes_before.items ≡ []
     → AreInputs (origin_of a).inputs → IsLimit a.options
     → IsPool a
-begun a bank unsplit same_bank is positions jobs counted set_aside last_job place room notes_room events notes before inputs limit =
+begun a bank unsplit same_bank is positions jobs counted set_aside last_job place solver room notes_room events notes before inputs limit =
     let begun_with : PoolRecord = with_inputs false 0 (origin_of a).inputs nothing_registered in
     let split_is : start (origin_of a) ≡ begun_with = ap (λ b. with_inputs b 0 (origin_of a).inputs nothing_registered) unsplit in
     record {
@@ -76,7 +77,7 @@ begun a bank unsplit same_bank is positions jobs counted set_aside last_job plac
           subst (λ (h : List Event). IsStateOf a (replay (origin_of a) h)) (sym events)
           (subst (IsStateOf a) (sym split_is)
           (begun-state a bank begun_with same_bank is (inputs-register false 0 (origin_of a).inputs nothing_registered) positions jobs
-          counted set_aside last_job place room notes_room));
+          counted set_aside last_job place solver room notes_room));
       news =
           record {
             all =

@@ -26,10 +26,12 @@ use Rattle.pool_history.specs.declared.outcome.Outcome.{Outcome}
 use Rattle.pool_history.specs.declared.outcome.Outcome.TheVariants.{Refuted}
 use Rattle.bank_clause.specs.ClauseHash.{clause_hash}
 use Rattle.pool_core.specs.Placing.{HasParentsBelow, IsInterned}
+use Rattle.pool_core.specs.Splits.{HasTags, AreSplitsOf, split_view}
 use Rattle.pool_core.specs.Started.{registered_at, IsOfTable, with_input}
 use Rattle.pool_core.specs.State.{IsProofStateOf}
 use Rattle.pool_core.specs.declared.pool.ProofState.{ProofState}
 use Rattle.pool_core.proofs.AboutBeginnings.StartLemmas.{with_one, comes-as-clause, comes-empty, comes-again, steps-of}
+use Rattle.pool_core.proofs.AboutSplits.SplitsLemmas.{splits-relined}
 use Rattle.pool_core.proofs.AboutReturns.InternedLemmas.{no-assertions}
 use Rattle.pool_core.proofs.AboutReturns.ComingLemmas.{with_result, result-as-clause, result-empty, result-again, result-ended}
 
@@ -49,6 +51,7 @@ input-interned bank table i input copy made hash copied same hashed no_names of_
   no_names = no-assertions made.names (ap (λ (d : TreeClause). d.names) same ∙ no_names);
   of_bank = of_bank;
   known = known;
+  plain = refl;
   parents = All-cons (HasParentsBelow (CLAUSE_NUMBERS + 1)) (input_line i copy) [] tt (All-nil (HasParentsBelow (CLAUSE_NUMBERS + 1)));
 }
 
@@ -68,6 +71,12 @@ module _ (bank : Bank) (table : Table) (s : ProofState) where
         ∙ ap (λ (xs : List Step). map (λ (l : Line). l.step) r.lines ++ xs) steps
         ∙ sym (map-append (λ (l : Line). l.step) r.lines (line_of (Clausify i) c ∷ []));
     ended = is.ended;
+    splits =
+        splits-relined (split_view s.splits) r.parts (r.lines ++ lines) r.propositional r.model r.modelled (r.lines ++ line_of (Clausify i) c ∷ [])
+        (map-append (λ (l : Line). l.step) r.lines (line_of (Clausify i) c ∷ [])
+        ∙ ap (λ (xs : List Step). map (λ (l : Line). l.step) r.lines ++ xs) (sym steps)
+        ∙ sym (map-append (λ (l : Line). l.step) r.lines lines)) is.splits;
+    tags = is.tags;
     of_registered = record {
       positions = is.of_registered.positions;
       active = is.of_registered.active;
@@ -139,14 +148,16 @@ input-ended bank table s r i c ended is =
 -- the state that has nothing
 pub nothing-state :
     (bank : Bank) (table : Table) (s : ProofState)
-    → s.register.clauses ≡ [] → s.queue.pairs ≡ [] → s.steps.items ≡ [] → s.ended ≡ None → IsProofStateOf bank table s nothing_registered
-nothing-state bank table s register queue steps ended = record {
+    → s.register.clauses ≡ [] → s.queue.pairs ≡ [] → s.steps.items ≡ [] → s.ended ≡ None → AreSplitsOf (split_view s.splits) [] [] [] [] 0 → IsProofStateOf bank table s nothing_registered
+nothing-state bank table s register queue steps ended splits = record {
   registered = ap (map registered_at) register;
   of_table = subst (All (IsOfTable bank table)) (sym register) (All-nil (IsOfTable bank table));
   registrations = λ n z there. absurd (none-some z (ap (λ xs. slice_get xs n) (sym register) ∙ there));
   queue = queue;
   steps = steps;
   ended = ended;
+  splits = splits;
+  tags = All-nil (HasTags 0);
   of_registered = record {
     positions = All-nil (λ (n : ℕ). n < 0);
     active = All-nil (λ (n : ℕ). n < 0);

@@ -16,6 +16,7 @@ use Rattle.kernel_steps.specs.Split.{has_number}
 use Rattle.term_bank.specs.declared.table.Table.{Table}
 use Rattle.bank_clause.specs.Clause.{clause_at}
 use Rattle.clause_queue.specs.Pairs.{without, numbers}
+use Rattle.pool_core.specs.Splits.{SplitView, AreSplitsOf, split_view}
 use Rattle.pool_core.specs.CountedList.{keys_in}
 use Rattle.pool_history.specs.Record.{PoolRecord, Registered, GivenJob, clauses_of, clause_numbered, position_of, given_job, jobs_out}
 use Rattle.pool_history.specs.Claiming.{ready, next_given, can_give, new_job}
@@ -29,7 +30,7 @@ use Rattle.pool_history.specs.Outcomes.{outcome_of, outcome_by, heavy_or_saturat
 use Rattle.pool_core.specs.KeptEvents.{events_of}
 use Rattle.pool_core.specs.Register.{at_position}
 use Rattle.pool_core.specs.Started.{registered_at, IsOfTable}
-use Rattle.pool_core.specs.State.{origin_of, IsRegistration, AreOfRegistered, IsStateOf, IsPool, job_entry}
+use Rattle.pool_core.specs.State.{origin_of, IsRegistration, AreOfRegistered, IsStateOf, IsPool, job_entry, solver_job}
 use Rattle.pool_history.specs.declared.options.Options.{Options}
 use Rattle.pool_history.specs.declared.outcome.Outcome.{Outcome}
 use Rattle.pool_history.specs.declared.event.Event.{Event}
@@ -100,12 +101,12 @@ claimed-state :
     → b.proof.queue.pairs ≡ without n a.proof.queue.pairs → b.proof.queue.spare ≡ a.proof.queue.spare + 1
     → b.jobs.entries ≡ insert_entry nat_cmp a.jobs.entries job (record { number = n; left = left })
     → b.proof.steps.items ≡ a.proof.steps.items → keys_in b.counted ≡ keys_in a.counted → b.set_aside.items ≡ a.set_aside.items
-    → b.proof.ended ≡ a.proof.ended
+    → b.proof.ended ≡ a.proof.ended → split_view b.proof.splits ≡ split_view a.proof.splits → b.solver ≡ a.solver
     → b.last_job ≡ job → b.place_in_round ≡ (a.place_in_round + 1) % 6
     → vec_len b.history.events + (length r.given + 1) ≤ vec_capacity b.history.events
     → vec_len b.notes_before + (length r.given + 1) ≤ vec_capacity b.notes_before
     → IsStateOf b (claim_after a.options job n r ps)
-claimed-state a b r n job left ps is next rise number remaining are register of_table registrations positions queue spare jobs steps counted set_aside ended last_job place events_room before_room = record {
+claimed-state a b r n job left ps is next rise number remaining are register of_table registrations positions queue spare jobs steps counted set_aside ended splits solver last_job place events_room before_room = record {
   proof = record {
     registered = register ∙ is.proof.registered;
     of_table = of_table;
@@ -113,6 +114,8 @@ claimed-state a b r n job left ps is next rise number remaining are register of_
     queue = queue ∙ ap (without n) is.proof.queue ∙ sym (ready-claimed a.options job n r ps);
     steps = steps ∙ is.proof.steps;
     ended = ended ∙ is.proof.ended;
+    splits = subst (λ (v : SplitView). AreSplitsOf v r.parts r.lines r.propositional r.model r.modelled) (sym splits) is.proof.splits;
+    tags = is.proof.tags;
     of_registered = told-of-claimed a.options job n ps r next are is.proof.of_registered;
     no_propositional = is.proof.no_propositional;
     no_names = is.proof.no_names;
@@ -129,6 +132,7 @@ claimed-state a b r n job left ps is next rise number remaining are register of_
   set_aside = set_aside ∙ is.set_aside;
   last_job = last_job;
   place = place ∙ next-place r.claims a.place_in_round is.place;
+  solver = ap (option_map solver_job) solver ∙ is.solver;
   no_solver = is.no_solver;
   queue_room = let more = one-longer in let room = is.queue_room in omega (arith, more, spare, room);
   history_room = let more = one-longer in omega (arith, more, events_room);
@@ -159,6 +163,8 @@ pub record IsGivenOutBy (a b : Inside) (n job left : ℕ) : Type 0 where
   pub counted : keys_in b.counted ≡ keys_in a.counted
   pub set_aside : b.set_aside.items ≡ a.set_aside.items
   pub ended : b.proof.ended ≡ a.proof.ended
+  pub splits : split_view b.proof.splits ≡ split_view a.proof.splits
+  pub solver : b.solver ≡ a.solver
   pub last_job : b.last_job ≡ job
   pub place : b.place_in_round ≡ (a.place_in_round + 1) % 6
 
@@ -207,7 +213,7 @@ claimed-pool a b n job left place s is open_yet solved next there number remaini
         (subst (IsStateOf b) (sym is_after)
         (claimed-state a b r n job left ps st next (pool-rises a is) number remaining (sym are) register
         (subst (λ (t : Table). All (IsOfTable t.bank t) b.proof.register.clauses) (sym given.table) of_table)
-        registrations positions given.queue given.spare given.jobs given.steps given.counted given.set_aside given.ended given.last_job given.place
+        registrations positions given.queue given.spare given.jobs given.steps given.counted given.set_aside given.ended given.splits given.solver given.last_job given.place
         (let many = given-count a r st in let room = given.history_room in omega (arith, many, room))
         (let many = given-count a r st in let room = given.before_room in omega (arith, many, room))))
         register noted (told ∙ ap (changes_between r) (sym is_after)) within given.before

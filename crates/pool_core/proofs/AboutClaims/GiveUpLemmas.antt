@@ -17,6 +17,7 @@ use Rattle.clause_queue.specs.Pairs.{Waiting, with_pair, without, numbers, IsAbs
 use Rattle.clause_queue.proofs.Numbers.{lacks_from}
 use Rattle.clause_queue.proofs.PairsLemmas.{absent-without}
 use Rattle.clause_queue.proofs.PutBack.{put_back_restores}
+use Rattle.pool_core.specs.Splits.{SplitView, AreSplitsOf, split_view}
 use Rattle.pool_core.specs.CountedList.{keys_in}
 use Rattle.pool_history.specs.Record.{PoolRecord, GivenJob, Death, clause_numbered, numbers_of, lives, is_out, waits, is_awake, given_job, without_job}
 use Rattle.pool_history.specs.Claiming.{ready, pair_of}
@@ -26,7 +27,7 @@ use Rattle.pool_core.specs.Noted.{IsNoted}
 use Rattle.pool_core.specs.Started.{registered_at, IsOfTable}
 use Rattle.pool_core.specs.KeptEvents.{events_of}
 use Rattle.pool_history.specs.Lawful.{IsOut}
-use Rattle.pool_core.specs.State.{origin_of, AreOfRegistered, IsStateOf, IsPool}
+use Rattle.pool_core.specs.State.{origin_of, solver_job, AreOfRegistered, IsStateOf, IsPool}
 use Rattle.pool_history.specs.declared.event.Event.{Event}
 use Rattle.pool_history.specs.declared.event.Event.TheVariants.{Abandon}
 use Rattle.pool_history.specs.declared.options.Options.{Options}
@@ -262,6 +263,8 @@ pub record IsGivenUpBy (a b : Inside) (job : ℕ) (e : Event) : Type 0 where
   pub counted : keys_in b.counted ≡ keys_in a.counted
   pub set_aside : b.set_aside.items ≡ a.set_aside.items
   pub ended : b.proof.ended ≡ a.proof.ended
+  pub splits : split_view b.proof.splits ≡ split_view a.proof.splits
+  pub solver : b.solver ≡ a.solver
   pub last_job : b.last_job ≡ a.last_job
   pub place : b.place_in_round ≡ a.place_in_round
 
@@ -292,6 +295,8 @@ given-up-state a b r job e j is rise found by queue spare = record {
     queue = queue;
     steps = by.steps ∙ is.proof.steps;
     ended = by.ended ∙ is.proof.ended;
+    splits = subst (λ (v : SplitView). AreSplitsOf v r.parts r.lines r.propositional r.model r.modelled) (sym by.splits) is.proof.splits;
+    tags = is.proof.tags;
     of_registered = let told = told-without job r is.proof.of_registered in
         record { positions = told.positions; active = told.active; given = told.given; placed = told.placed; victims = told.victims };
     no_propositional = is.proof.no_propositional;
@@ -307,6 +312,7 @@ given-up-state a b r job e j is rise found by queue spare = record {
   set_aside = by.set_aside ∙ is.set_aside;
   last_job = by.last_job ∙ is.last_job;
   place = by.place ∙ is.place;
+  solver = ap (option_map solver_job) by.solver ∙ is.solver ∙ is.no_solver ∙ sym (ap (without_solver job) is.no_solver);
   no_solver = ap (without_solver job) is.no_solver;
   queue_room = let less = one in let room = is.queue_room in omega (arith, less, spare, room);
   history_room = let less = one in let room = is.history_room in omega (arith, less, by.history_len, by.history_room, room);

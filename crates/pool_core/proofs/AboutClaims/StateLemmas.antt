@@ -11,6 +11,7 @@ use Rattle.bank_clause.specs.Clause.{clause_at, IsClauseOf}
 use Rattle.bank_clause.specs.declared.clause.BankClause.{BankClause}
 use Rattle.term_bank.specs.declared.bank.Bank.{Bank}
 use Rattle.term_bank.specs.declared.table.Table.{Table}
+use Rattle.pool_core.specs.Splits.{SplitView, AreSplitsOf, split_view}
 use Rattle.pool_core.specs.CountedList.{keys_in}
 use Rattle.pool_history.specs.Record.{PoolRecord, Registered, GivenJob, clauses_of}
 use Rattle.pool_history.specs.Replay.{Origin, after, start, replay}
@@ -21,7 +22,7 @@ use Rattle.pool_history.specs.Inputs.{AreInputs, IsLimit, IsHistoryOf, IsUseOf}
 use Rattle.pool_history.specs.Lawful.{IsAllowed}
 use Rattle.pool_core.specs.Placing.{KnowsMore}
 use Rattle.pool_core.specs.Started.{registered_at, IsOfTable}
-use Rattle.pool_core.specs.State.{origin_of, IsProofStateOf, IsStateOf, IsPool, job_entry}
+use Rattle.pool_core.specs.State.{origin_of, IsProofStateOf, IsStateOf, IsPool, job_entry, solver_job}
 use Rattle.pool_history.specs.declared.options.Options.{Options}
 use Rattle.pool_history.specs.declared.event.Event.{Event}
 use Rattle.pool_core.specs.declared.register.Registration.{Registration}
@@ -200,6 +201,8 @@ pub record KeepsAll (a b : Inside) : Type 0 where
   pub counted : keys_in b.counted ≡ keys_in a.counted
   pub set_aside : b.set_aside.items ≡ a.set_aside.items
   pub ended : b.proof.ended ≡ a.proof.ended
+  pub splits : split_view b.proof.splits ≡ split_view a.proof.splits
+  pub solver : b.solver ≡ a.solver
   pub last_job : b.last_job ≡ a.last_job
   pub place : b.place_in_round ≡ a.place_in_round
 
@@ -212,15 +215,17 @@ learned-all bank known learned ss more of =
 pub kept-proof :
     (bank : Bank) (known learned : Table) (s t : ProofState) (r : PoolRecord)
     → KnowsMore known learned
-    → t.register.clauses ≡ s.register.clauses → t.queue.pairs ≡ s.queue.pairs → t.steps.items ≡ s.steps.items → t.ended ≡ s.ended
+    → t.register.clauses ≡ s.register.clauses → t.queue.pairs ≡ s.queue.pairs → t.steps.items ≡ s.steps.items → t.ended ≡ s.ended → split_view t.splits ≡ split_view s.splits
     → IsProofStateOf bank known s r → IsProofStateOf bank learned t r
-kept-proof bank known learned s t r more register queue steps ended is = record {
+kept-proof bank known learned s t r more register queue steps ended splits is = record {
   registered = ap (map registered_at) register ∙ is.registered;
   of_table = subst (All (IsOfTable bank learned)) (sym register) (learned-all bank known learned s.register.clauses more is.of_table);
   registrations = λ n z there. is.registrations n z (ap (λ ss. slice_get ss n) (sym register) ∙ there);
   queue = queue ∙ is.queue;
   steps = steps ∙ is.steps;
   ended = ended ∙ is.ended;
+  splits = subst (λ (v : SplitView). AreSplitsOf v r.parts r.lines r.propositional r.model r.modelled) (sym splits) is.splits;
+  tags = is.tags;
   of_registered = is.of_registered;
   no_propositional = is.no_propositional;
   no_names = is.no_names;
@@ -231,13 +236,14 @@ kept-state : (a b : Inside) (r : PoolRecord) → KeepsAll a b → IsStateOf a r 
 kept-state a b r kept is = record {
   proof =
       subst (λ (bank : Bank). IsProofStateOf bank b.table b.proof r) (sym kept.bank)
-      (kept-proof a.table.bank a.table b.table a.proof b.proof r kept.knows kept.register kept.pairs kept.steps kept.ended is.proof);
+      (kept-proof a.table.bank a.table b.table a.proof b.proof r kept.knows kept.register kept.pairs kept.steps kept.ended kept.splits is.proof);
   positions = kept.positions ∙ is.positions;
   jobs = kept.jobs ∙ is.jobs;
   counted = kept.counted ∙ is.counted;
   set_aside = kept.set_aside ∙ is.set_aside;
   last_job = kept.last_job ∙ is.last_job;
   place = kept.place ∙ is.place;
+  solver = ap (option_map solver_job) kept.solver ∙ is.solver;
   no_solver = is.no_solver;
   queue_room = let room = is.queue_room in omega (arith, kept.spare, room);
   history_room = let room = is.history_room in omega (arith, kept.history_len, kept.history_room, room);

@@ -134,6 +134,8 @@ recounted bank table s r counted set_aside events is = record {
   queue = is.queue;
   steps = is.steps;
   ended = is.ended;
+  splits = is.splits;
+  tags = is.tags;
   of_registered = let told = is.of_registered in
       record { positions = told.positions; active = told.active; given = told.given; placed = told.placed; victims = told.victims };
   no_propositional = is.no_propositional;

@@ -8,6 +8,7 @@ use Rattle.std.proofs.lemmas.List.Elements.{All-push, All-weaker}
 use Rattle.std.proofs.lemmas.Option.{none-some, same_Some}
 use Rattle.fol_base.specs.Clause.{TreeClause, clause_eq, clause_size}
 use Rattle.fol_base.specs.Literal.{clause_of}
+use Rattle.plain_types.specs.declared.sequence.NameLit.{NameLit}
 use Rattle.kernel_steps.specs.Conclusion.{empty_clause}
 use Rattle.kernel_steps.specs.Split.{has_number}
 use Rattle.kernel_steps.specs.declared.step.Step.{Step}
@@ -27,6 +28,7 @@ use Rattle.pool_history.specs.Registering.{comes, empty_comes, registered_last, 
 use Rattle.pool_history.specs.Counting.{comes_by, result_comes, refutes}
 use Rattle.pool_history.specs.Tags.{line_names}
 use Rattle.pool_core.specs.Register.{is_living_copy}
+use Rattle.pool_core.specs.Splits.{SplitView, HasTags, AreSplitsOf, is_introduced, split_view}
 use Rattle.pool_core.specs.Started.{registered_at, IsOfTable}
 use Rattle.pool_core.specs.State.{IsRegistration, IsProofStateOf, AreOfRegistered}
 use Rattle.pool_history.specs.declared.outcome.Outcome.{Outcome}
@@ -37,6 +39,7 @@ use Rattle.pool_core.proofs.AboutBeginnings.BegunLemmas.{awake-without, numbered
 use Rattle.pool_history.proofs.AboutRecords.EditLemmas.{get-end, filter-more}
 use Rattle.pool_core.proofs.AboutBeginnings.StartLemmas.{steps-of}
 use Rattle.pool_history.proofs.AboutRecords.ItemLemmas.{all-at, any-by-place, none-passes, clause_eq-refl, clause_eq-says, any-at}
+use Rattle.pool_core.proofs.AboutSplits.SplitsLemmas.{no-tags, splits-longer}
 use Rattle.pool_core.proofs.AboutReturns.ProofStateLemmas.{count-of, get-front, get-last, lives-here, map-filter-within, no-death-of, no-position, not-active, not-dead, not-out, registered-at, with_pair-above}
 
 -- ---- a clause comes
@@ -123,9 +126,9 @@ module _ (bank : Bank) (table : Table) where
       ++ record { clause = made; line = length (r.lines ++ lines) - 1; position = None; death = None; is_active = false } ∷ []
       → t.queue.pairs ≡ with_pair (length s.register.clauses, clause_size c) s.queue.pairs
       → t.steps.items ≡ map (λ (l : Line). l.step) (r.lines ++ lines)
-      → t.ended ≡ e → (e ≡ None → has_none c.literals ≡ false)
+      → t.ended ≡ e → split_view t.splits ≡ split_view s.splits → ((n : NameLit) → is_introduced n lines ≡ false) → (e ≡ None → has_none c.literals ≡ false)
       → IsProofStateOf bank table t (with_result r lines c e)
-  came-state s t r lines c made e is open_yet same no_names of_bank known register queue steps ended some_literal = record {
+  came-state s t r lines c made e is open_yet same no_names of_bank known register queue steps ended splits bare some_literal = record {
     registered =
         ap (map registered_at) register ∙ map-append registered_at ss (z ∷ [])
         ∙ ap₂ (λ xs (d : TreeClause). xs ++ record { clause = d; line = length (r.lines ++ lines) - 1 } ∷ []) is.registered same;
@@ -149,6 +152,12 @@ module _ (bank : Bank) (table : Table) where
         ∙ ready-came r lines c e is.of_registered no_names;
     steps = steps;
     ended = ended;
+    splits =
+        splits-longer (split_view t.splits) r.parts r.lines r.propositional r.model r.modelled lines bare
+        (subst (λ (v : SplitView). AreSplitsOf v r.parts r.lines r.propositional r.model r.modelled) (sym splits) is.splits);
+    tags =
+        All-push (HasTags (length r.parts)) r.registered (record { clause = c; line = length (r.lines ++ lines) - 1 }) is.tags
+        (no-tags (length r.parts) (record { clause = c; line = length (r.lines ++ lines) - 1 }) no_names);
     of_registered = told-came r lines c e is.of_registered no_names;
     no_propositional = is.no_propositional;
     no_names = All-push (λ (x : Registered). x.clause.names ≡ []) r.registered (record { clause = c; line = length (r.lines ++ lines) - 1 }) is.no_names no_names;

@@ -35,6 +35,7 @@ learned-all bank known learned (lines ∷ lss) (x ∷ xs) more are = (
     no_names = are.0.no_names;
     of_bank = are.0.of_bank;
     known = more x.clause.literals are.0.known;
+    plain = are.0.plain;
     parents = are.0.parents;
   },
   learned-all bank known learned lss xs more are.1,
@@ -84,6 +85,7 @@ one-more-result bank known learned lss before after lines results x clause more 
         no_names = no-assertions x.clause.names (ap (λ (d : TreeClause). d.names) whole ∙ fit.no_names);
         of_bank = of_bank;
         known = all_known;
+        plain = fit.plain;
         parents = fit.parents;
       }));
   count =

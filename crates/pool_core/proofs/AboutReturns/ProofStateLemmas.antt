@@ -18,6 +18,7 @@ use Rattle.pool_history.specs.Record.{PoolRecord, Death, GivenJob, clause_number
 use Rattle.pool_history.specs.Claiming.{ready, pair_of}
 use Rattle.pool_history.specs.Returning.{dies, becomes_active}
 use Rattle.pool_history.specs.Answers.{death_of}
+use Rattle.pool_core.specs.Splits.{SplitView, AreSplitsOf, split_view}
 use Rattle.pool_core.specs.Register.{death_at, is_living_at, dead_in, made_active}
 use Rattle.pool_core.specs.Started.{registered_at, IsOfTable}
 use Rattle.pool_core.specs.State.{IsRegistration, IsProofStateOf, AreOfRegistered}
@@ -154,9 +155,9 @@ module _ (bank : Bank) (table : Table) where
       (s t : ProofState) (r : PoolRecord) (n event : ℕ) (justifiers : List ℕ) (pairs : List (ℕ × ℕ)) (z : Registration)
       → slice_get s.register.clauses n ≡ Some z → is_none z.death ≡ true → event ≡ r.events
       → t.register.clauses ≡ set s.register.clauses n (dead_in event z) → t.queue.pairs ≡ without n pairs
-      → t.steps.items ≡ s.steps.items → t.ended ≡ s.ended
+      → t.steps.items ≡ s.steps.items → t.ended ≡ s.ended → split_view t.splits ≡ split_view s.splits
       → IsProofStateOf bank table (with_queue pairs s) r → IsProofStateOf bank table t (dies n justifiers r)
-  died-state s t r n event justifiers pairs z there alive same register queue steps ended is = record {
+  died-state s t r n event justifiers pairs z there alive same register queue steps ended splits is = record {
     registered =
         ap (map registered_at) register
         ∙ map-set_same registered_at ss n (dead_in event z) z (ap registered_at (sym (get_or_from_slice_get ss n z z there))) ∙ is.registered;
@@ -191,6 +192,8 @@ module _ (bank : Bank) (table : Table) where
     queue = queue ∙ ap (without n) is.queue ∙ sym (ready-died n justifiers r);
     steps = steps ∙ is.steps;
     ended = ended ∙ is.ended;
+    splits = subst (λ (v : SplitView). AreSplitsOf v r.parts r.lines r.propositional r.model r.modelled) (sym splits) is.splits;
+    tags = is.tags;
     of_registered = record {
       positions = is.of_registered.positions;
       active = is.of_registered.active;
@@ -240,9 +243,9 @@ module _ (bank : Bank) (table : Table) where
       (s t : ProofState) (r : PoolRecord) (n : ℕ) (pairs : List (ℕ × ℕ)) (z : Registration)
       → slice_get s.register.clauses n ≡ Some z
       → t.register.clauses ≡ set s.register.clauses n (made_active z) → t.queue.pairs ≡ without n pairs
-      → t.steps.items ≡ s.steps.items → t.ended ≡ s.ended
+      → t.steps.items ≡ s.steps.items → t.ended ≡ s.ended → split_view t.splits ≡ split_view s.splits
       → IsProofStateOf bank table (with_queue pairs s) r → IsProofStateOf bank table t (becomes_active n r)
-  finished-state s t r n pairs z there register queue steps ended is = record {
+  finished-state s t r n pairs z there register queue steps ended splits is = record {
     registered =
         ap (map registered_at) register
         ∙ map-set_same registered_at ss n (made_active z) z (ap registered_at (sym (get_or_from_slice_get ss n z z there))) ∙ is.registered;
@@ -276,6 +279,8 @@ module _ (bank : Bank) (table : Table) where
     queue = queue ∙ ap (without n) is.queue ∙ sym (ready-done n r);
     steps = steps ∙ is.steps;
     ended = ended ∙ is.ended;
+    splits = subst (λ (v : SplitView). AreSplitsOf v r.parts r.lines r.propositional r.model r.modelled) (sym splits) is.splits;
+    tags = is.tags;
     of_registered = record {
       positions = is.of_registered.positions;
       active =
@@ -301,9 +306,9 @@ module _ (bank : Bank) (table : Table) where
 
   pub ended-state :
       (s t : ProofState) (r : PoolRecord) (o : Outcome)
-      → t.register.clauses ≡ s.register.clauses → t.queue.pairs ≡ s.queue.pairs → t.steps.items ≡ s.steps.items → t.ended ≡ Some o
+      → t.register.clauses ≡ s.register.clauses → t.queue.pairs ≡ s.queue.pairs → t.steps.items ≡ s.steps.items → t.ended ≡ Some o → split_view t.splits ≡ split_view s.splits
       → IsProofStateOf bank table s r → IsProofStateOf bank table t (record r { ended = Some o })
-  ended-state s t r o register queue steps ended is = record {
+  ended-state s t r o register queue steps ended splits is = record {
     registered = ap (map registered_at) register ∙ is.registered;
     of_table = subst (All (IsOfTable bank table)) (sym register) is.of_table;
     registrations = λ k y at.
@@ -312,6 +317,8 @@ module _ (bank : Bank) (table : Table) where
     queue = queue ∙ is.queue;
     steps = steps ∙ is.steps;
     ended = ended;
+    splits = subst (λ (v : SplitView). AreSplitsOf v r.parts r.lines r.propositional r.model r.modelled) (sym splits) is.splits;
+    tags = is.tags;
     of_registered = let told = is.of_registered in
         record { positions = told.positions; active = told.active; given = told.given; placed = told.placed; victims = told.victims };
     no_propositional = is.no_propositional;

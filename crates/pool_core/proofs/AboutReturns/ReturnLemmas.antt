@@ -17,8 +17,7 @@ use Rattle.pool_history.specs.News.{TreeChange, activated}
 use Rattle.pool_core.specs.Noted.{IsNoted}
 use Rattle.pool_history.specs.Answers.{death_of, dead_justifier}
 use Rattle.pool_core.specs.Started.{registered_at}
-use Rattle.pool_core.specs.KeptEvents.{events_of}
-use Rattle.pool_core.specs.State.{origin_of, IsStateOf, IsPool}
+use Rattle.pool_core.specs.State.{IsStateOf, IsPool}
 use Rattle.pool_history.specs.Claiming.{pair_of}
 use Rattle.pool_history.specs.declared.batch.Work.{Work}
 use Rattle.pool_history.specs.declared.batch.Work.TheVariants.{Gone, Met}

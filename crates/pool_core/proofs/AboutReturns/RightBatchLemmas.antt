@@ -1,8 +1,9 @@
 -- What is right of a batch serves its return: one nameless, canonical and small result for each list of lines, whose parents are there, and justifiers
 -- that are registered.
 use Rattle.std.proofs.Common.{◌≡◌, ℕ, zero, suc, ◌+◌, ◌-◌, ◌<◌, ◌≤◌, Bool, true, false, List, [], ◌∷◌, ◌++◌, map, length, take, get_or, refl, ap, ap₂, sym, ◌∙◌, subst, ⊎_elim, arith}
+use Rattle.std.specs.List.{list_all}
 use Rattle.std.specs.Prelude.{Option, None, Some, nat_lt, option_and_then, slice_get, if◌then◌else◌, All}
-use Rattle.std.proofs.lemmas.Bool.{ltb-true}
+use Rattle.std.proofs.lemmas.Bool.{and_parts, and_from, ltb-true}
 use Rattle.std.proofs.lemmas.List.{length-take}
 use Rattle.std.proofs.lemmas.Option.{none-some, same_Some, slice_get_within, get_or_from_slice_get}
 use Rattle.fol_base.specs.Clause.{TreeClause, clause_size}
@@ -11,7 +12,7 @@ use Rattle.fol_base.specs.Literal.{clause_of}
 use Rattle.fol_base.specs.Canonical.{IsCanonical}
 use Rattle.fol_base.specs.declared.clause.Clause.{Clause}
 use Rattle.kernel_steps.specs.Derivation.{line_parents, line_parent}
-use Rattle.kernel_steps.specs.Lines.{AreLines, IsNumbered, clause_parents}
+use Rattle.kernel_steps.specs.Lines.{AreLines, IsNumbered, clause_parents, is_on_literals, is_plain_step}
 use Rattle.kernel_steps.specs.Moves.{Move, AreMoves, IsMove, end_of_moves}
 use Rattle.kernel_steps.specs.Names.{sorted_names}
 use Rattle.kernel_steps.specs.Parents.{Parent}
@@ -19,6 +20,8 @@ use Rattle.kernel_steps.specs.Sized.{IsSizedInference}
 use Rattle.kernel_steps.specs.declared.key.Key.{Key}
 use Rattle.kernel_steps.specs.declared.key.Key.TheVariants as key
 use Rattle.kernel_steps.specs.declared.step.TheConstants.{CLAUSE_NUMBERS}
+use Rattle.kernel_steps.specs.declared.step.Step.{Step}
+use Rattle.kernel_steps.specs.declared.step.Step.TheVariants.{Input, Negate, Clausify, Para, Refl, Factor, Merge, Component, Opposite, Split, Chain}
 use Rattle.kernel_steps.specs.declared.step.Line.{Line}
 use Rattle.literal_selection.specs.Mode.{mode_of}
 use Rattle.laws_calculus.specs.Lifting.{among}
@@ -73,6 +76,27 @@ module _ (is_predicate : ℕ → Bool) (clauses : Lookup) (lines : List Line) (r
           let short = length-take k lines in
           omega (arith, within, short)
 
+-- ---- steps
+
+plain-step : (step : Step) → is_on_literals step ≡ true → is_plain_step step ≡ true
+plain-step (Clausify i) kind = refl
+plain-step (Para n m j s l z place first second) kind = refl
+plain-step (Refl n l bind) kind = refl
+plain-step (Factor n j s l z bind) kind = refl
+plain-step (Merge n j l bind) kind = refl
+plain-step (Input place) kind = kind
+plain-step (Negate place) kind = kind
+plain-step (Component name) kind = kind
+plain-step (Opposite name) kind = kind
+plain-step (Split parent definitions parts) kind = kind
+plain-step (Chain numbers pivots) kind = kind
+
+all-plain : (lines : List Line) → list_all (λ (l : Line). is_on_literals l.step) lines ≡ true → list_all (λ (l : Line). is_plain_step l.step) lines ≡ true
+all-plain [] kinds = refl
+all-plain (l ∷ ls) kinds =
+    let both = and_parts (is_on_literals l.step) (list_all (λ (m : Line). is_on_literals m.step) ls) kinds in
+    and_from (is_plain_step l.step) (list_all (λ (m : Line). is_plain_step m.step) ls) (plain-step l.step both.0) (all-plain ls both.1)
+
 -- ---- names
 
 move-names : (is_predicate : ℕ → Bool) (clauses : Lookup) (c : TreeClause) (o : Option ℕ) (d : TreeClause) → IsMove is_predicate clauses c o d → d.names ≡ c.names
@@ -118,6 +142,7 @@ module _ (is_predicate : ℕ → Bool) (options : Options) (clauses : Lookup) (j
         canonical = subst IsCanonical (last.3 ∙ sym one.2) (numbered-at last.0 last.1 last.2).canonical;
         no_names = ap (λ (d : TreeClause). d.names) one.2 ∙ no_names;
         small = subst (λ (d : TreeClause). clause_size d ≤ MOST_SYMBOLS) (sym one.2) small;
+        plain = all-plain lines from.lines_right.kinds;
         parents = parents-below is_predicate lookup lines from.lines_right;
       }
     where

@@ -1,6 +1,6 @@
 -- A pool after a stale return.
 use Rattle.std.proofs.Common.{◌≡◌, ℕ, ◌+◌, ◌<◌, ◌≤◌, Bool, true, false, not, ◌&&◌, ◌||◌, ◌==◌, List, [], ◌∷◌, ◌++◌, map, length, append-nil, refl, ap, ap₂, sym, ◌∙◌, subst, arith}
-use Rattle.std.specs.Prelude.{Option, Some, cond, find, filter, vec_len, vec_capacity, All, IsTrue, if◌then◌else◌}
+use Rattle.std.specs.Prelude.{Option, Some, cond, find, filter, option_map, vec_len, vec_capacity, All, IsTrue, if◌then◌else◌}
 use Rattle.std.specs.List.{list_any}
 use Rattle.std.proofs.Math.Seq.{drop-length}
 use Rattle.std.proofs.lemmas.List.{length-append, length-map}
@@ -20,7 +20,7 @@ use Rattle.pool_history.specs.News.{TreeChange, changes_between, news_since}
 use Rattle.pool_core.specs.Noted.{IsNoted, IsTicketAgain, change_at}
 use Rattle.pool_history.specs.Record.{PoolRecord, GivenJob, Death, clauses_of, clause_numbered, numbers_of, lives, is_dead, is_awake, position_of, given_job}
 use Rattle.pool_history.specs.Replay.{Origin, after, retold, replay}
-use Rattle.pool_core.specs.State.{origin_of, IsProofStateOf, IsStateOf, IsPool, job_entry}
+use Rattle.pool_core.specs.State.{origin_of, IsProofStateOf, IsStateOf, IsPool, job_entry, solver_job}
 use Rattle.pool_history.specs.declared.batch.Batch.{Batch}
 use Rattle.pool_history.specs.declared.batch.Work.{Work}
 use Rattle.pool_history.specs.declared.batch.Work.TheVariants.{Gone, Met}
@@ -93,6 +93,7 @@ pub record IsTurnedDownBy (a b : Inside) (e : Event) : Type 0 where
   pub before_room : vec_len b.notes_before + length a.jobs.entries ≤ vec_capacity b.notes_before
   pub counted : keys_in b.counted ≡ keys_in a.counted
   pub set_aside : b.set_aside.items ≡ a.set_aside.items
+  pub solver : b.solver ≡ a.solver
   pub last_job : b.last_job ≡ a.last_job
   pub place : b.place_in_round ≡ a.place_in_round
 
@@ -120,6 +121,8 @@ module _ (a b : Inside) (job justifier : ℕ) (is : IsPool a) (by : IsTurnedDown
           queue = is.state.proof.queue ∙ ap (map (pair_of was)) (sym ready-anew);
           steps = is.state.proof.steps;
           ended = is.state.proof.ended;
+          splits = is.state.proof.splits;
+          tags = is.state.proof.tags;
           of_registered = let told = is.state.proof.of_registered in record {
             positions = told.positions;
             active = told.active;
@@ -137,6 +140,7 @@ module _ (a b : Inside) (job justifier : ℕ) (is : IsPool a) (by : IsTurnedDown
     set_aside = by.set_aside ∙ is.state.set_aside;
     last_job = by.last_job ∙ is.state.last_job;
     place = by.place ∙ is.state.place;
+    solver = ap (option_map solver_job) by.solver ∙ is.state.solver;
     no_solver = is.state.no_solver;
     queue_room =
         let room = is.state.queue_room in let same = many in let kept = ap (λ (s : ProofState). s.queue.spare) by.proof in

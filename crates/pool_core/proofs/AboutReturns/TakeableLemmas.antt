@@ -12,6 +12,7 @@ use Rattle.clause_queue.specs.Pairs.{without as without_pair}
 use Rattle.pool_history.specs.Answers.{dead_justifier}
 use Rattle.pool_history.specs.Batches.{IsRightWork}
 use Rattle.pool_history.specs.Claiming.{ready, pair_of}
+use Rattle.pool_core.specs.Splits.{split_view}
 use Rattle.pool_core.specs.KeptEvents.{events_of}
 use Rattle.pool_history.specs.Inputs.{IsUseOf}
 use Rattle.pool_history.specs.Lawful.{IsAllowed, IsGivenOut, justifiers_live}
@@ -221,16 +222,16 @@ open-record a r is open_yet = sym is.proof.ended ∙ by a.proof.ended open_yet
 pub work-of :
     (a : Inside) (batch : Batch) (n : ℕ) (bank : Bank) (learned : Table) (t : ProofState) (prepared : Prepared) (to : IsToBeTaken a batch n)
     → IsPool a → a.table.bank ≡ bank → KnowsMore a.table learned
-    → t.register.clauses ≡ a.proof.register.clauses → t.queue.pairs ≡ a.proof.queue.pairs → t.steps.items ≡ a.proof.steps.items → t.ended ≡ a.proof.ended
+    → t.register.clauses ≡ a.proof.register.clauses → t.queue.pairs ≡ a.proof.queue.pairs → t.steps.items ≡ a.proof.steps.items → t.ended ≡ a.proof.ended → split_view t.splits ≡ split_view a.proof.splits
     → IsInBank bank learned batch.work prepared
     → IsWorkOf bank learned t n batch.work prepared
     (map (pair_of (without a.options batch.job (record_of a))) (ready (without a.options batch.job (record_of a)))) (without a.options batch.job (record_of a))
-work-of a batch n bank learned t prepared to is same more register pairs steps ended in_bank = record {
+work-of a batch n bank learned t prepared to is same more register pairs steps ended splits in_bank = record {
   in_bank = in_bank;
   queue = queue-without a batch.job n to.given t.queue.pairs is to.found to.same pairs;
   proof =
       subst (λ (k : Bank). IsProofStateOf k learned (with_queue (map (pair_of s) (ready s)) t) s) same
-      (without-state a.table.bank a.table learned a.options a.proof t (record_of a) batch.job more register steps ended is.state.proof);
+      (without-state a.table.bank a.table learned a.options a.proof t (record_of a) batch.job more register steps ended splits is.state.proof);
 }
   where
     s : PoolRecord

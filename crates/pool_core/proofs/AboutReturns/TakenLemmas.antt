@@ -15,6 +15,7 @@ use Rattle.kernel_steps.specs.declared.key.Key.TheVariants.{Replaced}
 use Rattle.kernel_steps.specs.declared.step.Line.{Line}
 use Rattle.term_bank.specs.declared.bank.Bank.{Bank}
 use Rattle.term_bank.specs.declared.table.Table.{Table}
+use Rattle.pool_core.specs.Splits.{SplitView, AreSplitsOf, split_view}
 use Rattle.pool_core.specs.CountedList.{keys_in}
 use Rattle.pool_history.specs.Claiming.{ready, pair_of}
 use Rattle.pool_history.specs.Counting.{result_comes, refutes, spends, counts, keys_of, lines_of_entries}
@@ -28,7 +29,7 @@ use Rattle.pool_history.specs.Record.{PoolRecord, Registered, GivenJob, Death, c
 use Rattle.pool_history.specs.Replay.{after, with_events}
 use Rattle.pool_history.specs.Returning.{dies, replaced, removed, takes_effect, proposed, becomes_active, heavy_entries, sets_aside, worked}
 use Rattle.pool_core.specs.Started.{registered_at, IsOfTable}
-use Rattle.pool_core.specs.State.{origin_of, IsProofStateOf, IsStateOf, IsPool, job_entry}
+use Rattle.pool_core.specs.State.{origin_of, IsProofStateOf, IsStateOf, IsPool, job_entry, solver_job}
 use Rattle.pool_history.specs.declared.batch.Batch.{Batch}
 use Rattle.pool_history.specs.declared.batch.Fate.{Fate}
 use Rattle.pool_history.specs.declared.batch.Fate.TheVariants.{Kept, Dropped, Heavy}
@@ -159,10 +160,10 @@ module _ (options : Options) where
 pub without-state :
     (bank : Bank) (known learned : Table) (options : Options) (s t : ProofState) (r : PoolRecord) (job : ℕ)
     → KnowsMore known learned
-    → t.register.clauses ≡ s.register.clauses → t.steps.items ≡ s.steps.items → t.ended ≡ s.ended
+    → t.register.clauses ≡ s.register.clauses → t.steps.items ≡ s.steps.items → t.ended ≡ s.ended → split_view t.splits ≡ split_view s.splits
     → IsProofStateOf bank known s r
     → IsProofStateOf bank learned (with_queue (map (pair_of (without options job r)) (ready (without options job r))) t) (without options job r)
-without-state bank known learned options s t r job more register steps ended is = record {
+without-state bank known learned options s t r job more register steps ended splits is = record {
   registered = ap (map registered_at) register ∙ is.registered;
   of_table =
       subst (All (IsOfTable bank learned)) (sym register) (learned-all bank known learned s.register.clauses more is.of_table);
@@ -172,6 +173,8 @@ without-state bank known learned options s t r job more register steps ended is 
   queue = refl;
   steps = steps ∙ is.steps;
   ended = ended ∙ is.ended;
+  splits = subst (λ (v : SplitView). AreSplitsOf v r.parts r.lines r.propositional r.model r.modelled) (sym splits) is.splits;
+  tags = is.tags;
   of_registered = let told = told-without job r is.of_registered in
       record { positions = told.positions; active = told.active; given = told.given; placed = told.placed; victims = told.victims };
   no_propositional = is.no_propositional;
@@ -243,6 +246,7 @@ pub record IsTakenBy (a b : Inside) (batch : Batch) : Type 0 where
   pub before : b.notes_before.items ≡ a.notes_before.items ++ length a.proof.notes.items ∷ []
   pub before_len : vec_len b.notes_before ≡ vec_len a.notes_before + 1
   pub before_room : vec_capacity b.notes_before ≡ vec_capacity a.notes_before
+  pub solver : b.solver ≡ a.solver
   pub last_job : b.last_job ≡ a.last_job
   pub place : b.place_in_round ≡ a.place_in_round
 
@@ -272,6 +276,7 @@ module _ (a b : Inside) (batch : Batch) (j : GivenJob) (aside : List Key) (s : P
     set_aside = set_aside ∙ ap (λ (ks : List Key). ks ++ aside) is.state.set_aside ∙ sym follows.set_aside;
     last_job = by.last_job ∙ is.state.last_job ∙ sym follows.jobs;
     place = by.place ∙ is.state.place ∙ ap (λ k. k % 6) (sym follows.claims);
+    solver = ap (option_map solver_job) by.solver ∙ is.state.solver ∙ sym follows.solver;
     no_solver = follows.solver ∙ is.state.no_solver;
     queue_room =
         let less = one in let same : length s.given ≡ length (without_job batch.job r.given) = ap length follows.given in

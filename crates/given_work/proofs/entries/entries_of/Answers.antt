@@ -11,6 +11,6 @@ loop-inference-init c = record {
 pub loop-inference-preserved : goal.loop-inference-preserved
 loop-inference-preserved c = record {
   entered =
-      entries-more _ _ _ _ _ _ _ _ _ _ c.loop-inference.invariant.entered c.in-Some.ensures.steps.0 c.in_ok-push.ensures.items c.in_ok-entry_of.ensures.entry;
+      entries-more _ _ _ _ _ _ _ _ _ _ _ c.loop-inference.invariant.entered c.in-Some.ensures.steps.0 c.in_ok-push.ensures.items c.in_ok-entry_of.ensures.entry;
   dropped = c.in_ok-entry_of.ensures.dropped;
 }

@@ -10,6 +10,6 @@ invariant-loop-inference l = record {
   entered :
       (done : List Inference)
       × (l.fn.inferences.items ≡ done ++ into_iter_items l.inference-iterator)
-      × AreEntriesOf l.by.equations.now l.by.units.now l.by.members.now done l.entries.items;
+      × AreEntriesOf l.split l.by.equations.now l.by.units.now l.by.members.now done l.entries.items;
   dropped : AreDropped l.by.equations.now l.by.units.now l.by.members.now l.dropped;
 }

@@ -24,18 +24,18 @@ simplify-requires-clause-size c =
     conclusion-small t.usage t.mode t.clauses t.job by.equations.now by.units.now by.members.now t.sets t.key c.args.step c.args.clause t.concluded
 
 pub returns-in-Some-clause-fate : goal.returns-in-Some-clause-fate
-returns-in-Some-clause-fate c = λ usage options clauses j key sets unsplit it.
+returns-in-Some-clause-fate c = λ usage options clauses j key sets splits it.
     let by = c.args.by.now in
-    outcome-right usage (mode_of options.select) clauses j by.equations.now by.units.now by.members.now sets key c.args.step c.args.clause it options unsplit refl
+    outcome-right usage (mode_of options.select) clauses j by.equations.now by.units.now by.members.now sets key c.args.step c.args.clause it options c.args.split splits refl
     (outcome_by c.in-Some.cause)
     (cause-right by.equations.now by.units.now by.members.now c.args.dropped.now (clause_of c.args.clause) c.in-Some.cause c.requires.dropped
     (sym c.cause.ensures ∙ c.in-Some.is))
-    (Dropped c.in-Some.cause) (dropped-fate c.args.step c.args.clause c.in-Some.cause)
+    (Dropped c.in-Some.cause) (dropped-fate c.args.split c.args.step c.args.clause c.in-Some.cause)
 
 pub returns-in_ok-fate-in-None-clause-fate : goal.returns-in_ok-fate-in-None-clause-fate
-returns-in_ok-fate-in-None-clause-fate c = λ usage options clauses j key sets unsplit it.
+returns-in_ok-fate-in-None-clause-fate c = λ usage options clauses j key sets splits it.
     let by = c.args.by.now in
-    outcome-right usage (mode_of options.select) clauses j by.equations.now by.units.now by.members.now sets key c.args.step c.args.clause it options unsplit refl
+    outcome-right usage (mode_of options.select) clauses j by.equations.now by.units.now by.members.now sets key c.args.step c.args.clause it options c.args.split splits refl
     c.in_ok-outcome-in-None.outcome
     (subst (λ (o : Option ℕ). IsSimplified by.equations.now by.units.now by.members.now o (clause_of c.args.clause) c.in_ok-outcome-in-None.outcome)
     c.requires.all c.in_ok-outcome-in-None.ensures.outcome)

@@ -7,20 +7,20 @@ use Rattle.given_work.proofs.going.removal_by.Goals as goal
 pub returns-then-is_tautology : goal.returns-then-is_tautology
 returns-then-is_tautology c = λ d reduced.
     let by = c.args.by.now in
-    subst (λ (m : Removal). IsRemovalOf by.equations.now by.units.now by.members.now c.args.number d (Some m)) (sym c.dropped-removal.ensures)
-    (goes-dropped by.equations.now by.units.now by.members.now c.args.number d c.args.reduced reduced (sym c.is_tautology.ensures ∙ c.if-is_tautology.true))
+    subst (λ (m : Removal). IsRemovalOf c.args.split by.equations.now by.units.now by.members.now c.args.number d (Some m)) (sym c.dropped-removal.ensures)
+    (goes-dropped c.args.split by.equations.now by.units.now by.members.now c.args.number d c.args.reduced reduced (sym c.is_tautology.ensures ∙ c.if-is_tautology.true))
 
 pub returns-in_ok-put_used-in-Some : goal.returns-in_ok-put_used-in-Some
 returns-in_ok-put_used-in-Some c = λ d reduced.
     let by = c.args.by.now in
-    subst (λ (m : Removal). IsRemovalOf by.equations.now by.units.now by.members.now c.args.number d (Some m)) (sym c.dropped-removal-in-Some.ensures)
-    (goes-redundant by.equations.now by.units.now by.members.now c.args.number d c.args.reduced c.in-Some.subsumer c.put_used.new.used reduced
+    subst (λ (m : Removal). IsRemovalOf c.args.split by.equations.now by.units.now by.members.now c.args.number d (Some m)) (sym c.dropped-removal-in-Some.ensures)
+    (goes-redundant c.args.split by.equations.now by.units.now by.members.now c.args.number d c.args.reduced c.in-Some.subsumer c.put_used.new.used reduced
     (subst (λ (o : Option ℕ). IsFound by.members.now c.args.number c.args.reduced o) c.in-Some.is c.in_ok-subsumer.ensures)
     c.in_ok-put_used-in-Some.ensures.ok)
 
 pub returns-in_ok-gone-in-None : goal.returns-in_ok-gone-in-None
 returns-in_ok-gone-in-None c = λ d reduced.
     let by = c.args.by.now in
-    goes-or-stays by.equations.now by.units.now by.members.now c.args.number d c.args.reduced c.in_ok-gone-in-None.gone reduced
+    goes-or-stays c.args.split by.equations.now by.units.now by.members.now c.args.number d c.args.reduced c.in_ok-gone-in-None.gone reduced
     (subst (λ (o : Option ℕ). IsFound by.members.now c.args.number c.args.reduced o) c.in-None.is c.in_ok-subsumer.ensures)
     (sym c.is_tautology.ensures ∙ c.if-is_tautology.false) c.in_ok-gone-in-None.ensures

@@ -5,4 +5,4 @@ use Rattle.given_work.proofs.removing.removals_of.Given as goal
 
 abbrev pub invariant-loop-candidate : goal.invariant-loop-candidate
 invariant-loop-candidate l =
-    AreRemovalsAmong (members_in l.store.slots.items) l.given (take l.candidate-index l.candidate-items) l.removals.items
+    AreRemovalsAmong l.known.split (members_in l.known.store.now.slots.items) l.given (take l.candidate-index l.candidate-items) l.removals.items

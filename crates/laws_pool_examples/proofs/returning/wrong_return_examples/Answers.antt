@@ -1,3 +1,4 @@
+use Rattle.laws_pool_examples.proofs.WorkedExamples.PartingExample.{whole_entry}
 use Rattle.laws_pool_examples.proofs.WorkedExamples.ReturnExamples.{stays_uncut, left_there, gone_reducible, kept_reducible, small_heavy, no_tautology, subsumed_by_untold, justifies_itself, superfluous_justifier, other_result, whole_result, others_met, removes_itself, subsumed_by_itself}
 use Rattle.laws_pool_examples.proofs.returning.wrong_return_examples.Goals as goal
 
@@ -33,6 +34,9 @@ returns-clause-other_result c = other_result
 
 pub returns-clause-whole_result : goal.returns-clause-whole_result
 returns-clause-whole_result c = whole_result
+
+pub returns-clause-whole_entry : goal.returns-clause-whole_entry
+returns-clause-whole_entry c = whole_entry
 
 pub returns-clause-others_met : goal.returns-clause-others_met
 returns-clause-others_met c = others_met

@@ -37,7 +37,7 @@ returns-clause-batch c =
     prepared c.args.bank.now pool c.args.index c.in_ok-index.index c.args.ticket.now c.requires.index c.requires.ticket c.in_ok-index.ensures.index
     c.in_ok-index.ensures.of_bank in
     work_makes_right_batches pool.origin pool.history c.args.ticket.now c.in_ok-index.index.members c.in_ok-batch.batch c.history-history.ensures.inputs
-    c.requires.index.unsplit c.history-history.ensures.lawful
+    c.history-history.ensures.lawful
     (knows-told c.args.bank.now pool c.args.index c.in_ok-index.index c.args.ticket.now c.requires.index c.requires.ticket c.in_ok-index.ensures.index
     c.in_ok-index.ensures.of_bank)
     c.in_ok-batch.ensures.job

@@ -8,5 +8,5 @@ saturate-requires-clause-free g c = begun-free _ _ _ c.in_ok-pool.ensures
 
 pub returns : goal.returns
 returns g c =
-    ended-from (map clause_of c.args.inputs.now) c.args.options c.in_ok-pool.pool c.in_ok-pool-2.pool _ c.in-Some.outcome c.in_ok-pool.ensures
-    c.in_ok-pool-2.ensures.later c.history-history.ensures.lawful (sym c.in-Some.ensures)
+    ended-from (map clause_of c.args.inputs.now) c.args.options c.in_ok-pool.pool c.saturate.new.pool _ c.in-Some.outcome c.in_ok-pool.ensures
+    c.saturate.ensures.later c.history-history.ensures.lawful (sym c.in-Some.ensures)

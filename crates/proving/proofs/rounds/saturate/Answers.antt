@@ -3,14 +3,14 @@ use Rattle.proving.proofs.rounds.saturate.Goals as goal
 
 pub rounds-init : goal.rounds-init
 rounds-init g c = record {
-  index = new-index c.args.bank.now c.args.pool c.in_ok-index.index c.options.result c.requires.bank c.requires.unsplit c.options.ensures c.in_ok-index.ensures;
-  free = free-given c.args.pool c.requires.free;
-  later = later-same c.args.pool;
+  index = new-index c.args.bank.now c.args.pool.now c.in_ok-index.index c.options.result c.requires.bank c.requires.unsplit c.options.ensures c.in_ok-index.ensures;
+  free = free-given c.args.pool.now c.requires.free;
+  later = later-same c.args.pool.now;
 }
 
 pub returns-in-None-2-clause-later : goal.returns-in-None-2-clause-later
 returns-in-None-2-clause-later g c =
-    later-then c.args.pool c.rounds.pool c.claim_next.new.pool c.rounds.invariant.later c.claim_next.ensures.later
+    later-then c.args.pool.now c.rounds.pool c.claim_next.new.pool c.rounds.invariant.later c.claim_next.ensures.later
 
 pub finish-requires-clause-index : goal.finish-requires-clause-index
 finish-requires-clause-index g c =
@@ -23,5 +23,9 @@ rounds-preserved g c =
     record {
       index = c.in_ok-index-in-Some-2.ensures.index;
       free = c.in_ok-index-in-Some-2.ensures.free;
-      later = later-then c.args.pool middle last (later-then c.args.pool c.rounds.pool middle c.rounds.invariant.later c.claim_next.ensures.later) c.finish.ensures.later;
+      later = later-then c.args.pool.now middle last (later-then c.args.pool.now c.rounds.pool middle c.rounds.invariant.later c.claim_next.ensures.later) c.finish.ensures.later;
     }
+
+pub returns-in_err-claim_next-clause-later : goal.returns-in_err-claim_next-clause-later
+returns-in_err-claim_next-clause-later g c =
+    later-then c.args.pool.now c.rounds.pool c.claim_next.new.pool c.rounds.invariant.later c.claim_next.ensures.later

@@ -30,7 +30,7 @@ returns-clause-right c =
     let options =
     ap (λ (i : IndexView). i.options) c.in_ok-index-2.ensures.index ∙ ap (λ (i : IndexView). i.options) c.in_ok-index.ensures ∙ c.options.ensures in
     work_makes_right_batches pool.origin pool.history c.args.ticket.now c.in_ok-index-2.index.members c.in_ok-batch.batch c.history-history.ensures.inputs
-    c.requires.pool.unsplit c.history-history.ensures.lawful
+    c.history-history.ensures.lawful
     (knows pool c.in_ok-index.index c.in_ok-index-2.index c.options.result c.args.ticket.now c.in_ok-index.ensures c.in_ok-index-2.ensures.index c.requires.ticket)
     c.in_ok-batch.ensures.job
     (subst (λ (o : Options). IsRightUnder o c.in_ok-index-2.index.members c.args.ticket.now.number c.args.ticket.now.left c.in_ok-batch.batch.work)

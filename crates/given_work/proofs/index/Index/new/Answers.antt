@@ -9,7 +9,6 @@ use Rattle.given_work.proofs.index.Index.new.Goals as goal
 
 pub invariant_of-result : goal.invariant_of-result
 invariant_of-result c = record {
-  unsplit = c.requires;
   mode = c.in_ok-new.ensures.mode;
   placed = c.in_ok-new.ensures.placed;
   listed = subst (λ (ms : List Member). ListsMembers c.in_ok-new.field-0.terms ms) (sym c.in_ok-new.ensures.none) c.in_ok-new.ensures.listed;

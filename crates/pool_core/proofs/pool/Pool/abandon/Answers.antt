@@ -67,6 +67,8 @@ invariant_of-self c =
       counted = refl;
       set_aside = refl;
       ended = refl;
+      splits = refl;
+      solver = refl;
       last_job = refl;
       place = refl;
     })
@@ -100,6 +102,8 @@ invariant_of-self-else-is_none c =
       counted = refl;
       set_aside = refl;
       ended = refl;
+      splits = refl;
+      solver = refl;
       last_job = refl;
       place = refl;
     })

@@ -58,6 +58,7 @@ invariant_of-self c =
       before = c.push_reserved.ensures.items ∙ ap (λ (k : ℕ). c.self.inside.notes_before.items ++ k ∷ []) many;
       before_len = c.push_reserved.ensures.len;
       before_room = c.push_reserved.ensures.capacity;
+      solver = refl;
       last_job = refl;
       place = refl;
     })
@@ -66,7 +67,7 @@ invariant_of-self c =
     (c.finish.ensures.finished c.self.inside.table.bank c.self.inside.table s (map (pair_of s) (ready s))
     (queue-without c.self.inside c.args.batch.job c.args.number to.given c.self.inside.proof.queue.pairs c.self.invariant to.found to.same refl)
     (without-state c.self.inside.table.bank c.self.inside.table c.self.inside.table c.self.inside.options c.self.inside.proof c.self.inside.proof r c.args.batch.job
-    (λ ls known. known) refl refl refl c.self.invariant.state.proof)))
+    (λ ls known. known) refl refl refl refl c.self.invariant.state.proof)))
     c.self.invariant.state.counted
     (sym (append-nil c.self.inside.set_aside.items))
     (no-deaths r (becomes_active to.given.number s) c.self.inside.proof.notes.items c.finish.new.self.notes.items refl c.finish.ensures.notes)

@@ -47,6 +47,8 @@ invariant_of-self c =
       counted = refl;
       set_aside = refl;
       ended = refl;
+      splits = refl;
+      solver = refl;
       last_job = refl;
       place = refl;
     })

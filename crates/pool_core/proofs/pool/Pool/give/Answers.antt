@@ -39,6 +39,8 @@ invariant_of-self c =
       counted = refl;
       set_aside = refl;
       ended = refl;
+      splits = refl;
+      solver = refl;
       last_job = refl;
       place = refl;
     })
@@ -84,6 +86,8 @@ invariant_of-self-2 c =
       counted = refl;
       set_aside = refl;
       ended = refl;
+      splits = refl;
+      solver = refl;
       last_job = refl;
       place = refl;
     })

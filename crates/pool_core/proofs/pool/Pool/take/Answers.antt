@@ -51,6 +51,8 @@ invariant_of-self g c =
       counted = c.take_return_memory-memory.ensures.counted;
       set_aside = c.in_default.ensures.not_set_aside;
       ended = c.take_return_memory-memory.ensures.ended;
+      splits = c.take_return_memory-memory.ensures.splits;
+      solver = refl;
       last_job = refl;
       place = refl;
     })
@@ -86,7 +88,7 @@ work-requires-clause-work g c =
       s,
       map (pair_of s) (ready s),
       work-of c.self.inside c.args.batch c.args.number c.args.bank.now c.take_return_memory-memory.new.table c.take_return_memory-memory.new.proof c.in-Ok.prepared to c.self.invariant bank_is
-          c.take_return_memory-memory.ensures.knows c.take_return_memory-memory.ensures.clauses c.take_return_memory-memory.ensures.pairs c.take_return_memory-memory.ensures.steps c.take_return_memory-memory.ensures.ended c.in-Ok.ensures.prepared,
+          c.take_return_memory-memory.ensures.knows c.take_return_memory-memory.ensures.clauses c.take_return_memory-memory.ensures.pairs c.take_return_memory-memory.ensures.steps c.take_return_memory-memory.ensures.ended c.take_return_memory-memory.ensures.splits c.in-Ok.ensures.prepared,
     )
 
 pub invariant_of-self-2 : goal.invariant_of-self-2
@@ -108,7 +110,7 @@ invariant_of-self-2 g c =
     let is : IsWorkOf c.args.bank.now table c.take_return_memory-memory.new.proof c.args.number c.push_return-work.result.work c.in-Ok.prepared pairs s =
     subst (λ (b : Batch). IsWorkOf c.args.bank.now table c.take_return_memory-memory.new.proof c.args.number b.work c.in-Ok.prepared pairs s) (sym c.push_return-work.ensures.batch)
     (work-of c.self.inside c.args.batch c.args.number c.args.bank.now c.take_return_memory-memory.new.table c.take_return_memory-memory.new.proof c.in-Ok.prepared to c.self.invariant bank_is
-    c.take_return_memory-memory.ensures.knows c.take_return_memory-memory.ensures.clauses c.take_return_memory-memory.ensures.pairs c.take_return_memory-memory.ensures.steps c.take_return_memory-memory.ensures.ended c.in-Ok.ensures.prepared) in
+    c.take_return_memory-memory.ensures.knows c.take_return_memory-memory.ensures.clauses c.take_return_memory-memory.ensures.pairs c.take_return_memory-memory.ensures.steps c.take_return_memory-memory.ensures.ended c.take_return_memory-memory.ensures.splits c.in-Ok.ensures.prepared) in
     let state : IsCountedStateOf c.args.bank.now table c.work.new.self (keys_in c.work.new.counted) t =
     subst (λ k. IsCountedStateOf c.args.bank.now table c.work.new.self (keys_in c.work.new.counted) (worked c.self.inside.options k c.args.batch.work s)) (sym to.same)
     (subst (λ (b : Batch). IsCountedStateOf c.args.bank.now table c.work.new.self (keys_in c.work.new.counted) (worked c.self.inside.options c.args.number b.work s)) c.push_return-work.ensures.batch
@@ -135,6 +137,7 @@ invariant_of-self-2 g c =
       before = c.push_reserved.ensures.items ∙ ap (λ (k : ℕ). c.self.inside.notes_before.items ++ k ∷ []) many;
       before_len = c.push_reserved.ensures.len;
       before_room = c.push_reserved.ensures.capacity;
+      solver = refl;
       last_job = refl;
       place = refl;
     })

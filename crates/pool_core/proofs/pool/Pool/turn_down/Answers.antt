@@ -8,8 +8,65 @@ use Rattle.pool_history.specs.Replay.{replay}
 use Rattle.pool_history.specs.View.{PoolView}
 use Rattle.pool_history.specs.declared.event.Event.{Event}
 use Rattle.pool_history.specs.declared.event.Event.TheVariants.{Stale}
+use Rattle.pool_core.proofs.AboutClaims.StateLemmas.{kept-pool}
 use Rattle.pool_core.proofs.AboutReturns.StaleLemmas.{turned-down-pool, turned-down-ticket, stale-allowed}
 use Rattle.pool_core.proofs.pool.Pool.turn_down.Goals as goal
+
+pub invariant_of-self : goal.invariant_of-self
+invariant_of-self c =
+    kept-pool c.self.inside _ c.self.invariant (record {
+      origin = refl;
+      bank = refl;
+      knows = λ ls known. known;
+      register = refl;
+      positions = refl;
+      pairs = refl;
+      spare = omega arith;
+      jobs = refl;
+      history = c.reserve.ensures.events;
+      history_len = c.reserve.ensures.len;
+      history_room = c.reserve.ensures.kept;
+      notes = refl;
+      before = refl;
+      before_len = refl;
+      before_room = omega arith;
+      steps = refl;
+      counted = refl;
+      set_aside = refl;
+      ended = refl;
+      splits = refl;
+      solver = refl;
+      last_job = refl;
+      place = refl;
+    })
+
+pub invariant_of-self-in_err-reserve-2 : goal.invariant_of-self-in_err-reserve-2
+invariant_of-self-in_err-reserve-2 c =
+    kept-pool c.self.inside _ c.self.invariant (record {
+      origin = refl;
+      bank = refl;
+      knows = λ ls known. known;
+      register = refl;
+      positions = refl;
+      pairs = refl;
+      spare = omega arith;
+      jobs = refl;
+      history = c.reserve.ensures.events;
+      history_len = c.reserve.ensures.len;
+      history_room = c.reserve.ensures.kept;
+      notes = refl;
+      before = c.reserve-2.ensures.items;
+      before_len = c.reserve-2.ensures.len;
+      before_room = let grown = c.reserve-2.ensures.capacity in omega (arith, grown);
+      steps = refl;
+      counted = refl;
+      set_aside = refl;
+      ended = refl;
+      splits = refl;
+      solver = refl;
+      last_job = refl;
+      place = refl;
+    })
 
 pub invariant_of-self-2 : goal.invariant_of-self-2
 invariant_of-self-2 c =
@@ -32,6 +89,7 @@ invariant_of-self-2 c =
           omega (arith, room, c.push_reserved.ensures.len, c.push_reserved.ensures.capacity, c.reserve-2.ensures.len, c.len-more.ensures.len);
       counted = refl;
       set_aside = refl;
+      solver = refl;
       last_job = refl;
       place = refl;
     })

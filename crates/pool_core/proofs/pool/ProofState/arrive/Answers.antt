@@ -18,6 +18,7 @@ use Rattle.pool_history.specs.declared.outcome.Outcome.TheVariants.{Refuted}
 use Rattle.pool_core.specs.declared.pool.ProofState.{ProofState}
 use Rattle.pool_core.specs.declared.register.Registration.{Registration}
 use Rattle.pool_core.proofs.AboutReturns.ComingLemmas.{came-state, not-living, living-already, some-literal-already, result-as-clause, result-empty, result-again, steps-placed, next-is-absent}
+use Rattle.pool_core.proofs.AboutSplits.SplitsLemmas.{none-introduced}
 use Rattle.pool_core.proofs.AboutBeginnings.StartLemmas.{living-equal, no-outcome, no-literals, steps-of}
 use Rattle.pool_history.proofs.AboutRecords.ItemLemmas.{all-at, passes-at}
 use Rattle.pool_core.proofs.AboutClaims.StateLemmas.{at-ok}
@@ -74,7 +75,7 @@ returns-then-is_empty-clause-arrived c = λ table r interned is.
     ∙ ap (λ (k : ℕ). let z : Registration = record { clause = made; line = k; position = None; death = None; is_active = false } in s.register.clauses ++ z ∷ []) line)
     (at-ok c.push-2.result _ c.unwrap.result c.unwrap.ensures c.push-2.ensures.pairs
     ∙ ap₂ (λ (k w : ℕ). with_pair (k, w) s.queue.pairs) c.len-number.ensures.len c.size-size.ensures.size)
-    steps refl (λ none. absurd (none-some Refuted (sym none))))
+    steps refl refl (none-introduced r c.args.lines interned.plain) (λ none. absurd (none-some Refuted (sym none))))
 
 pub returns-else-is_empty-clause-arrived : goal.returns-else-is_empty-clause-arrived
 returns-else-is_empty-clause-arrived c = λ table r interned is.
@@ -99,4 +100,4 @@ returns-else-is_empty-clause-arrived c = λ table r interned is.
     ∙ ap (λ (k : ℕ). let z : Registration = record { clause = made; line = k; position = None; death = None; is_active = false } in s.register.clauses ++ z ∷ []) line)
     (at-ok c.push-2.result _ c.unwrap.result c.unwrap.ensures c.push-2.ensures.pairs
     ∙ ap₂ (λ (k w : ℕ). with_pair (k, w) s.queue.pairs) c.len-number.ensures.len c.size-size.ensures.size)
-    steps (is.ended ∙ open_yet) (λ none. some_literal))
+    steps (is.ended ∙ open_yet) refl (none-introduced r c.args.lines interned.plain) (λ none. some_literal))

@@ -27,7 +27,7 @@ arrive-requires-clause-arrival g c =
           c.in_ok-copy.ensures c.in_ok-clause.ensures.same c.clause_hash-hash.ensures c.requires.names c.in_ok-clause.ensures.of_bank c.in_ok-clause.ensures.known),
       kept-proof c.args.bank.now c.args.table.now c.of_clause.new.table c.args.self.now c.reserve.new.self (c.requires.state).0
           (λ ls known. known-literals-kept _ c.args.table.now c.of_clause.new.table ls c.in_ok-clause.ensures.interned known)
-          c.reserve.ensures.clauses c.reserve.ensures.pairs c.reserve.ensures.steps c.reserve.ensures.ended (c.requires.state).1,
+          c.reserve.ensures.clauses c.reserve.ensures.pairs c.reserve.ensures.steps c.reserve.ensures.ended c.reserve.ensures.splits (c.requires.state).1,
     )
 
 pub arrive-requires-clause-room : goal.arrive-requires-clause-room
@@ -48,7 +48,7 @@ returns-clause-comes g c = λ r is.
     c.in_ok-copy.ensures c.in_ok-clause.ensures.same c.clause_hash-hash.ensures c.requires.names c.in_ok-clause.ensures.of_bank c.in_ok-clause.ensures.known))
     (kept-proof c.args.bank.now c.args.table.now c.of_clause.new.table c.args.self.now c.reserve.new.self r
     (λ ls known. known-literals-kept _ c.args.table.now c.of_clause.new.table ls c.in_ok-clause.ensures.interned known)
-    c.reserve.ensures.clauses c.reserve.ensures.pairs c.reserve.ensures.steps c.reserve.ensures.ended is) in
+    c.reserve.ensures.clauses c.reserve.ensures.pairs c.reserve.ensures.steps c.reserve.ensures.ended c.reserve.ensures.splits is) in
     subst (λ (d : TreeClause). IsProofStateOf c.args.bank.now c.of_clause.new.table c.arrive.new.self (with_input c.args.number d r)) c.in_ok-copy.ensures
     (input-state c.args.bank.now c.of_clause.new.table c.arrive.new.self r c.args.number c.in_ok-copy.field-0
     (ap (λ (d : TreeClause). d.names) c.in_ok-copy.ensures ∙ c.requires.names)

@@ -1,0 +1,3 @@
+pub mod NumberingLemmas
+pub mod SelectionLemmas
+pub mod KeptLemmas

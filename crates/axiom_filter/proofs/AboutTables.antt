@@ -1,0 +1,5 @@
+pub mod SpreadLemmas
+pub mod IndexLemmas
+pub mod TriggerLemmas
+pub mod MemberLemmas
+pub mod WalkLemmas

@@ -1,0 +1,10 @@
+pub mod Digits
+pub mod Model
+pub mod Measure
+pub mod Found
+pub mod Flattening
+pub mod EntryNames
+pub mod Translation
+pub mod Table
+pub mod Agreement
+pub mod Examples

@@ -1,0 +1,4 @@
+pub mod Demands
+pub mod GroundList
+pub mod GroundLaws
+pub mod Examples
