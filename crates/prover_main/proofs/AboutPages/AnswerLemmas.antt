@@ -138,18 +138,18 @@ said-as :
     (outside : Outside) (source : Source) (Said Other : List Annotated → ℕ → List ℕ → Type 0) (status : ℕ) (text : List ℕ)
     → ((formulas : List Annotated) → Said formulas status text → Other formulas status text)
     → IsReadReport outside source Said status text → IsReadReport outside source Other status text
-said-as outside source Said Other status text as (told_unread cause name place h s w) = told_unread cause name place h s w
-said-as outside source Said Other status text as (told_unformed cause name h s w) = told_unformed cause name h s w
-said-as outside source Said Other status text as (of_formulas formulas h w) = of_formulas formulas h (as formulas w)
+said-as outside source Said Other status text turns (told_unread cause name place h s w) = told_unread cause name place h s w
+said-as outside source Said Other status text turns (told_unformed cause name h s w) = told_unformed cause name h s w
+said-as outside source Said Other status text turns (of_formulas formulas h w) = of_formulas formulas h (turns formulas w)
 
 as-command :
     {E : Type 0} (r : Result Report E) (outside : Outside) (command : Command) (Said : List Annotated → ℕ → List ℕ → Type 0)
     → ((formulas : List Annotated) (status : ℕ) (text : List ℕ) → Said formulas status text → Says outside command formulas status text)
     → IfOk r (λ report. IsReadReport outside (source_of command) Said report.status report.text)
     → IfOk r (λ report. IsAnswered command outside report.status report.text)
-as-command (Ok report) outside command Said as told =
-    said-as outside (source_of command) Said (Says outside command) report.status report.text (λ formulas w. as formulas report.status report.text w) told
-as-command (Err fault) outside command Said as told = tt
+as-command (Ok report) outside command Said turns told =
+    said-as outside (source_of command) Said (Says outside command) report.status report.text (λ formulas w. turns formulas report.status report.text w) told
+as-command (Err fault) outside command Said turns told = tt
 
 pub prove-answered :
     {E : Type 0} (r : Result Report E) (outside : Outside) (command : Command) (file : List ℕ) (root : Option (List ℕ)) (options : Options)
