@@ -1,5 +1,5 @@
--- When each report of a command comes: its status and its text, with their cause.
-use Rattle.std.specs.Prelude.{◌≡◌, ◌≢◌, ◌≤◌, ◌⊎◌, ℕ, List, length, map, Option, None, Some, IfSome, slice_get, All, AllPairs, IsTrue}
+-- When each answer of a command comes.
+use Rattle.std.specs.Prelude.{◌≡◌, ◌≢◌, ◌≤◌, ◌⊎◌, ℕ, Bool, List, length, map, Option, None, Some, IfSome, slice_get, All, AllPairs, IsTrue}
 use Rattle.outside.specs.Faults.{Rose}
 use Rattle.outside.specs.Library.{HoldsExactly, FoundMore}
 use Rattle.fol_base.specs.Clause.{TreeClause}
@@ -44,7 +44,8 @@ use Rattle.prover_main.specs.Meaning.{IsTheorem}
 use Rattle.prover_main.specs.Names.{shown}
 use Rattle.prover_main.specs.Outside.{Outside}
 use Rattle.prover_main.specs.Words.{Command, prove, check}
-use Rattle.prover_main.specs.Reports.{read_status, unread_report, unformed_report, lost_report, refuted_report, saturated_report, spent_report, heavy_report, accepted_line, refused_line}
+use Rattle.prover_main.specs.declared.answer.Answer.{Answer}
+use Rattle.prover_main.specs.declared.answer.Answer.TheVariants.{Refuted, Saturated, Spent, Heavy, Accepted, Refused, Unloaded, Unread, Unformed}
 
 -- ---- the problem
 
@@ -109,10 +110,11 @@ pub record HasCounted (symbols : List Symbol) (options : Options) (count : ℕ) 
   pub reached : options.inferences ≤ count
 
 -- So many entries were counted in such a history.
-pub record IsSpent (symbols : List Symbol) (inputs : List TreeClause) (options : Options) (count : ℕ) : Type 0 where
+pub record IsSpent (symbols : List Symbol) (inputs : List TreeClause) (options : Options) (count allowed : ℕ) : Type 0 where
   pub r : PoolRecord
   pub history : HasHistory symbols inputs options (outcome.Spent count) r
   pub counts : HasCounted symbols options count r
+  pub allowed_is : allowed ≡ options.inferences
 
 -- Nothing was left to do in such a history, but the inference of that key was set aside as too heavy, and its premises live and are awake. It
 -- is the one at the place that the outcome names.
@@ -152,56 +154,49 @@ pub record IsSaturation (symbols : List Symbol) (inputs : List TreeClause) (opti
   pub saturated : AreSaturatedFor symbols inputs options (members_of r)
   pub met : HaveMet symbols inputs options history.events r
 
--- ---- what `prove` reports of the formulas, as a status and a text
+-- ---- what `prove` says of the formulas
 
--- The derivation is the text of those lines of a lawful history of the clausal form that its empty clause needs, with the problem's file as
--- it is shown. It is accepted, and some finite list of ground instances of the form is true in no interpretation: the conjecture follows
--- from the axioms, and without one the axioms are unsatisfiable.
-pub record IsRefuted (file : List ℕ) (formulas : List Annotated) (options : Options) (derivation : List ℕ) : Type 0 where
+-- The derivation is what is written of the lines of a lawful history of the clausal form in which the empty clause was derived, with the
+-- problem's file as it is shown. It is accepted, and some finite list of ground instances of the form is true in no interpretation: the
+-- conjecture follows from the axioms, and without one the axioms are unsatisfiable.
+pub record IsRefuted (file : List ℕ) (formulas : List Annotated) (options : Options) (conjecture : Bool) (derivation : List ℕ) : Type 0 where
   pub r : PoolRecord
   pub history : HasHistory (clausal_form formulas).symbols (clausal_form formulas).clauses options outcome.Refuted r
   pub printed : IsRefutationText (shown file) formulas r.lines derivation
+  pub conjecture_is : conjecture ≡ has_conjecture formulas
   pub count : ℕ
   pub accepted : IsAcceptedDerivation formulas derivation count
   pub herbrand : IsHerbrandRefuted formulas
   pub theorem : IsTheorem formulas
 
--- The report of a refutation, of a saturated set, of the entries that were counted, or of an inference that is too heavy.
-pub data IsProofReport (file : List ℕ) (formulas : List Annotated) (options : Options) (status : ℕ) (text : List ℕ) : Type 0 where
-  told_refuted :
-      (derivation : List ℕ) → IsRefuted file formulas options derivation → status ≡ 0
-      → text ≡ refuted_report file (has_conjecture formulas) derivation → IsProofReport file formulas options status text
-  told_saturated :
-      (members : List ℕ) → IsSaturation (clausal_form formulas).symbols (clausal_form formulas).clauses options members → status ≡ 1
-      → text ≡ saturated_report file (has_conjecture formulas) members → IsProofReport file formulas options status text
-  told_spent :
-      (count : ℕ) → IsSpent (clausal_form formulas).symbols (clausal_form formulas).clauses options count → status ≡ 2
-      → text ≡ spent_report file count options.inferences → IsProofReport file formulas options status text
-  told_heavy :
-      (key : List ℕ) → IsHeavy (clausal_form formulas).symbols (clausal_form formulas).clauses options key → status ≡ 2
-      → text ≡ heavy_report file key → IsProofReport file formulas options status text
+abbrev pub IsProofAnswer : List ℕ → List Annotated → Options → Answer → Type 0
+IsProofAnswer file formulas options (Refuted conjecture derivation) = IsRefuted file formulas options conjecture derivation
+IsProofAnswer file formulas options (Spent count allowed) =
+    IsSpent (clausal_form formulas).symbols (clausal_form formulas).clauses options count allowed
+IsProofAnswer file formulas options (Heavy text) = IsHeavy (clausal_form formulas).symbols (clausal_form formulas).clauses options text
+IsProofAnswer file formulas options (Saturated conjecture members) =
+    (conjecture ≡ has_conjecture formulas) × IsSaturation (clausal_form formulas).symbols (clausal_form formulas).clauses options members
+IsProofAnswer file formulas options other = ⊥
 
--- ---- what `check` reports of them
+-- ---- what `check` says of the formulas
 
 -- The text is that of the derivation's file.
 pub record IsLoaded (outside : Outside) (derivation : List ℕ) (text : List ℕ) : Type 0 where
   pub held : HoldsExactly outside.told derivation text
   pub short : length text ≤ MOST_TEXT_BYTES
 
--- The text of the derivation's file is accepted, with this number of lines; and so some finite list of ground instances of the clausal form
--- is true in no interpretation, and the problem is a theorem.
-pub record IsAccepted (outside : Outside) (derivation : List ℕ) (formulas : List Annotated) (lines : ℕ) : Type 0 where
-  pub text : List ℕ
-  pub loaded : IsLoaded outside derivation text
-  pub accepted : IsAcceptedDerivation formulas text lines
-  pub herbrand : IsHerbrandRefuted formulas
-  pub theorem : IsTheorem formulas
+-- accepted, and so some finite list of ground instances of the clausal form is true in no interpretation, and the problem is a theorem; or
+-- refused at a line
+abbrev pub IsJudgement : List Annotated → List ℕ → Answer → Type 0
+IsJudgement formulas text (Accepted lines) = IsAcceptedDerivation formulas text lines × IsHerbrandRefuted formulas × IsTheorem formulas
+IsJudgement formulas text (Refused line cause) = IsRefusedDerivation formulas text line (cause_meant cause)
+IsJudgement formulas text other = ⊥
 
--- The text is refused at its first bad line, for the first cause there.
-pub record IsRefusedText (outside : Outside) (derivation : List ℕ) (formulas : List Annotated) (line : ℕ) (cause : Cause) : Type 0 where
+-- This is judged of the text of the derivation's file.
+pub record IsJudged (outside : Outside) (derivation : List ℕ) (formulas : List Annotated) (answer : Answer) : Type 0 where
   pub text : List ℕ
   pub loaded : IsLoaded outside derivation text
-  pub refused : IsRefusedDerivation formulas text line (cause_meant cause)
+  pub judgement : IsJudgement formulas text answer
 
 -- A file over the limit is refused as a text, at line 0.
 pub record IsTooLong (outside : Outside) (derivation : List ℕ) (line : ℕ) (cause : Cause) : Type 0 where
@@ -215,43 +210,35 @@ pub record IsUnloaded (outside : Outside) (derivation name : List ℕ) : Type 0 
   pub name_is : name ≡ derivation
   pub failed : IfSome outside.failed_after (λ failed. failed ≡ derivation)
 
--- The report that the derivation is accepted, or refused at a line, or that its file couldn't be loaded.
-pub data IsCheckReport (outside : Outside) (file derivation : List ℕ) (formulas : List Annotated) (status : ℕ) (text : List ℕ) : Type 0 where
-  told_accepted :
-      (lines : ℕ) → IsAccepted outside derivation formulas lines → status ≡ 0 → text ≡ accepted_line lines
-      → IsCheckReport outside file derivation formulas status text
-  told_refused :
-      (line : ℕ) (cause : Cause) → IsRefusedText outside derivation formulas line cause ⊎ IsTooLong outside derivation line cause → status ≡ 9
-      → text ≡ refused_line line cause → IsCheckReport outside file derivation formulas status text
-  told_unloaded :
-      (name : List ℕ) → IsUnloaded outside derivation name → status ≡ 4 → text ≡ lost_report file name
-      → IsCheckReport outside file derivation formulas status text
+abbrev pub IsLoadAnswer : Outside → List ℕ → List Annotated → Answer → Type 0
+IsLoadAnswer outside derivation formulas (Unloaded name) = IsUnloaded outside derivation name
+IsLoadAnswer outside derivation formulas (Refused line cause) =
+    IsJudged outside derivation formulas (Refused line cause) ⊎ IsTooLong outside derivation line cause
+IsLoadAnswer outside derivation formulas answer = IsJudged outside derivation formulas answer
 
--- ---- by the command: the first stage that fails reports
+-- ---- by the command: the first stage that fails answers
 
--- The report of the problem's first fault, or of the first formula that passes a limit, or what is said of the formulas: where they come so,
--- faults are told so, and the problem's file has this name.
-pub data IsReport (Gives : List Annotated → Type 0) (Fails : ReadCause → List ℕ → ℕ → Type 0) (file : List ℕ)
-    (Says : List Annotated → ℕ → List ℕ → Type 0) (status : ℕ) (text : List ℕ) : Type 0 where
-  told_unread :
-      (cause : ReadCause) (name : List ℕ) (place : ℕ) → Fails cause name place → status ≡ read_status cause
-      → text ≡ unread_report file cause name place → IsReport Gives Fails file Says status text
-  told_unformed :
-      (cause : FormCause) (name : List ℕ) → IsUnformed Gives cause name → status ≡ 3 → text ≡ unformed_report file cause name
-      → IsReport Gives Fails file Says status text
-  of_formulas :
-      (formulas : List Annotated) → IsFormed Gives formulas → Says formulas status text
-      → IsReport Gives Fails file Says status text
+-- what `prove` answers on formulas that come so, where faults are told so, and the name of their file
+abbrev pub IsProveAnswer : (List Annotated → Type 0) → (ReadCause → List ℕ → ℕ → Type 0) → List ℕ → Options → Answer → Type 0
+IsProveAnswer Gives Fails file options (Unread cause name place) = Fails cause name place
+IsProveAnswer Gives Fails file options (Unformed cause name) = IsUnformed Gives cause name
+IsProveAnswer Gives Fails file options answer = OfFormed Gives (λ formulas. IsProofAnswer file formulas options answer)
 
--- where the formulas are read
-abbrev pub IsReadReport : Outside → Source → (List Annotated → ℕ → List ℕ → Type 0) → ℕ → List ℕ → Type 0
-IsReadReport outside source Says status text = IsReport (IsRead outside source) (IsUnread outside source) source.file Says status text
+-- and `check`, on the file of a derivation
+abbrev pub IsCheckAnswer : (List Annotated → Type 0) → (ReadCause → List ℕ → ℕ → Type 0) → Outside → List ℕ → Answer → Type 0
+IsCheckAnswer Gives Fails outside derivation (Unread cause name place) = Fails cause name place
+IsCheckAnswer Gives Fails outside derivation (Unformed cause name) = IsUnformed Gives cause name
+IsCheckAnswer Gives Fails outside derivation answer = OfFormed Gives (λ formulas. IsLoadAnswer outside derivation formulas answer)
 
--- what a command says of them
-abbrev pub Says : Outside → Command → List Annotated → ℕ → List ℕ → Type 0
-Says outside (prove file root options) formulas status text = IsProofReport file formulas options status text
-Says outside (check file derivation root) formulas status text = IsCheckReport outside file derivation formulas status text
+-- the same where the formulas are read
+abbrev pub IsReadProveAnswer : Outside → Source → Options → Answer → Type 0
+IsReadProveAnswer outside source options answer =
+    IsProveAnswer (IsRead outside source) (IsUnread outside source) source.file options answer
 
--- A report of a command, with its cause.
-abbrev pub IsAnswered : Command → Outside → ℕ → List ℕ → Type 0
-IsAnswered command outside status text = IsReadReport outside (source_of command) (Says outside command) status text
+abbrev pub IsReadCheckAnswer : Outside → Source → List ℕ → Answer → Type 0
+IsReadCheckAnswer outside source derivation answer =
+    IsCheckAnswer (IsRead outside source) (IsUnread outside source) outside derivation answer
+
+abbrev pub IsAnswer : Outside → Command → Answer → Type 0
+IsAnswer outside (prove file root options) answer = IsReadProveAnswer outside (source_at file root) options answer
+IsAnswer outside (check file derivation root) answer = IsReadCheckAnswer outside (source_at file root) derivation answer

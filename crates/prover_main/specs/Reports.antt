@@ -10,6 +10,8 @@ use Rattle.clausal_form.specs.declared.fault.FormCause.TheVariants.{Expansion, T
 use Rattle.tstp_checker.specs.declared.cause.Cause.{Cause}
 use Rattle.tstp_checker.specs.declared.cause.Cause.TheVariants.{Text, Order, UnknownParent, Leaf, Clausify, Binding, Rule, Conclusion, NewSymbol, NoEmptyClause}
 use Rattle.tstp_writer.specs.LineTexts.{formula_name_text}
+use Rattle.prover_main.specs.declared.answer.Answer.{Answer}
+use Rattle.prover_main.specs.declared.answer.Answer.TheVariants.{Refuted, Saturated, Spent, Heavy, Accepted, Refused, Unloaded, Unread, Unformed}
 use Rattle.prover_main.specs.Names.{shown, problem_name}
 
 -- ---- causes by their names
@@ -144,6 +146,29 @@ spent_report file count allowed = status_line (codes "GaveUp") file ++ spent_lin
 
 abbrev pub heavy_report : List ℕ → List ℕ → List ℕ
 heavy_report file key = status_line (codes "GaveUp") file ++ heavy_line key
+
+abbrev pub status_of : Answer → ℕ
+status_of (Refuted conjecture derivation) = 0
+status_of (Accepted lines) = 0
+status_of (Saturated conjecture members) = 1
+status_of (Spent count allowed) = 2
+status_of (Heavy key) = 2
+status_of (Unformed cause name) = 3
+status_of (Unloaded name) = 4
+status_of (Unread cause name place) = read_status cause
+status_of (Refused line cause) = 9
+
+-- the report of an answer on the problem in a file
+abbrev pub report_of : List ℕ → Answer → List ℕ
+report_of file (Refuted conjecture derivation) = refuted_report file conjecture derivation
+report_of file (Accepted lines) = accepted_line lines
+report_of file (Saturated conjecture members) = saturated_report file conjecture members
+report_of file (Spent count allowed) = spent_report file count allowed
+report_of file (Heavy key) = heavy_report file key
+report_of file (Unformed cause name) = unformed_report file cause name
+report_of file (Unloaded name) = lost_report file name
+report_of file (Unread cause name place) = unread_report file cause name place
+report_of file (Refused line cause) = refused_line line cause
 
 -- the program is out of memory
 abbrev pub memory_out_report : List ℕ → List ℕ

@@ -10,16 +10,17 @@ use Rattle.tptp_reader.specs.declared.cause.ReadCause.TheVariants.{Inappropriate
 use Rattle.tptp_problem.specs.Problem.{IsProblemFault}
 use Rattle.signature.specs.Form.{clausal_form}
 use Rattle.clausal_form.specs.FormFunctions.{IsHerbrandRefuted}
-use Rattle.clausal_form.specs.DerivationTexts.{IsAcceptedDerivation}
+use Rattle.clausal_form.specs.DerivationTexts.{IsAcceptedDerivation, IsRefusedDerivation}
 use Rattle.clausal_form.specs.declared.fault.FormCause.{FormCause}
 use Rattle.laws_meaning.specs.Meaning.{has_conjecture}
+use Rattle.tstp_checker.specs.Causes.{cause_meant}
 use Rattle.tstp_checker.specs.declared.cause.Cause.{Cause}
 use Rattle.pool_history.specs.declared.options.Options.{Options}
 use Rattle.prover_main.specs.Outside.{Outside, IsTold}
 use Rattle.prover_main.specs.Meaning.{IsTheorem}
 use Rattle.prover_main.specs.Words.{Command, prove, check, command_of}
 use Rattle.prover_main.specs.declared.status.TheConstants.{SINK_FAILED, USAGE_SHOWN, MEMORY_OUT}
-use Rattle.prover_main.specs.Answer.{Source, source_at, source_of, IsUnread, IsUnformed, IsFormed, OfFormed, IsRefuted, IsSpent, IsHeavy, IsSaturation, IsLoaded, IsRefusedText, IsTooLong, IsUnloaded, IsRead}
+use Rattle.prover_main.specs.Answer.{Source, source_at, source_of, IsUnread, IsUnformed, IsFormed, OfFormed, IsRefuted, IsSpent, IsHeavy, IsSaturation, IsLoaded, IsTooLong, IsUnloaded, IsRead}
 use Rattle.prover_main.specs.Reports.{read_status, unread_report, unformed_report, lost_report, refuted_report, saturated_report, spent_report, heavy_report, accepted_line, refused_line, memory_out_report, usage_report}
 use Rattle.prover_main.specs.Run.{file_of, Taken, IsDue}
 
@@ -71,7 +72,7 @@ TheoremRow words outside status =
 -- The report of a refutation, with the word Theorem exactly where there is a conjecture, was taken.
 pub record PrintedRefutation (taken : Taken) (file : List ℕ) (options : Options) (formulas : List Annotated) : Type 0 where
   pub derivation : List ℕ
-  pub refuted : IsRefuted file formulas options derivation
+  pub refuted : IsRefuted file formulas options (has_conjecture formulas) derivation
   pub report : Took taken (refuted_report file (has_conjecture formulas) derivation)
 
 -- With 0 of `prove` an accepted derivation was printed: that of a lawful history.
@@ -99,7 +100,7 @@ SaturatedRow words outside taken status =
 -- The report that so many entries were counted was taken.
 pub record PrintedSpent (taken : Taken) (file : List ℕ) (options : Options) (formulas : List Annotated) : Type 0 where
   pub count : ℕ
-  pub spent : IsSpent (clausal_form formulas).symbols (clausal_form formulas).clauses options count
+  pub spent : IsSpent (clausal_form formulas).symbols (clausal_form formulas).clauses options count options.inferences
   pub report : Took taken (spent_report file count options.inferences)
 
 -- The report that an inference is too heavy was taken.
@@ -208,7 +209,13 @@ pub record PrintedAcceptance (outside : Outside) (taken : Taken) (derivation : L
   pub accepted : IsAcceptedDerivation formulas text lines
   pub report : Took taken (accepted_line lines)
 
--- The text is refused at its first bad line, or the file is too long, and the report of that was taken.
+-- The text is refused at its first bad line, for the first cause there.
+pub record IsRefusedText (outside : Outside) (derivation : List ℕ) (formulas : List Annotated) (line : ℕ) (cause : Cause) : Type 0 where
+  pub text : List ℕ
+  pub loaded : IsLoaded outside derivation text
+  pub refused : IsRefusedDerivation formulas text line (cause_meant cause)
+
+-- It is refused so, or the file is too long, and the report of that was taken.
 pub record PrintedRefusal (outside : Outside) (taken : Taken) (derivation : List ℕ) (formulas : List Annotated) : Type 0 where
   pub line : ℕ
   pub cause : Cause

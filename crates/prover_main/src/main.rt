@@ -1,8 +1,8 @@
 //! The program: `prove` and `check` as one call, `run`, over any library of files and any sink for the report.
 //!
-//! There are five stages, and the first that fails reports: the words of the command line (`words.rt`); reading and clausal form
-//! (`problem.rt`); the proof (`prove.rt` on `proved.rt`) or the check (`check.rt`); the report (`report.rt` on `report_lines.rt`,
-//! `report_words.rt` and `names.rt`); its writes (`run.rt`; when out of memory in pieces that take none, `memory_out.rt`).
+//! There are five stages, and the first that fails answers: the words of the command line (`words.rt`); reading and clausal form
+//! (`problem.rt`); the proof (`prove.rt` on `proved.rt`) or the check (`check.rt`); the report (`report.rt`, `names.rt`); its writes (`run.rt`;
+//! when out of memory in pieces that take none, `memory_out.rt`).
 //!
 //! **What is proved.** The clauses of `run`: one for each row of the table of answers (`specs/Rows.antt`), that every valid input is answered,
 //! and which writes deliver the report.
@@ -11,6 +11,7 @@
 //! run shows it.
 #![tactic(auto)]
 
+mod answer;
 mod check;
 pub mod laws;
 mod memory_out;
@@ -19,7 +20,6 @@ mod problem;
 mod prove;
 mod proved;
 mod report;
-mod report_lines;
 mod report_words;
 mod run;
 mod status;

@@ -8,7 +8,8 @@ ghost use Rattle.prover_main.specs.Examples.{formula_in, made_formulas};
 
 use super::*;
 use crate::problem::FormedProblem;
-use crate::prove::formed_report;
+use crate::prove::formed_answer;
+use crate::report::report_of;
 use clausal_form::clausal;
 use literal_selection::Selection;
 use plain_types::{DEFAULT_INFERENCES, Text};
@@ -68,8 +69,9 @@ fn made_outcome<R: Wait>(rt: &R, alloc: Global) -> Mem<(u8, Text)> {
         return Err(NoMemory);
     };
     let formed = FormedProblem { problem, form };
-    let report = formed_report(rt, alloc, "made", &formed, options())?;
-    Ok((report.status, report.text))
+    let answer = formed_answer(rt, alloc, "made", &formed, options())?;
+    let report = report_of(alloc, "made", &answer)?;
+    Ok((answer.status(), report))
 }
 
 #[test]

@@ -1,13 +1,9 @@
 use Rattle.prover_main.proofs.AboutOutcomes.TheoremLemmas.{refuted-theorem}
-use Rattle.prover_main.proofs.AboutPages.AnswerLemmas.{accepted-judged, refused-judged}
 use Rattle.prover_main.proofs.check.judged.Goals as goal
 
 pub returns-in-Ok : goal.returns-in-Ok
-returns-in-Ok c =
-    accepted-judged c.accepted.result c.args.formed.now.problem.formulas c.args.text.now c.in-Ok.lines c.in-Ok.ensures.accepted
-    c.in-Ok.ensures.refuted (refuted-theorem c.args.formed.now.problem.formulas c.requires.closed c.in-Ok.ensures.refuted) c.accepted.ensures
-
-pub returns-in-Err-Refused : goal.returns-in-Err-Refused
-returns-in-Err-Refused c =
-    refused-judged c.refused.result c.args.formed.now.problem.formulas c.args.text.now c.in-Err-Refused.line c.in-Err-Refused.cause
-    c.in-Err-Refused.ensures.refused c.refused.ensures
+returns-in-Ok c = (
+  c.in-Ok.ensures.accepted,
+  c.in-Ok.ensures.refuted,
+  refuted-theorem c.args.formed.now.problem.formulas c.requires.closed c.in-Ok.ensures.refuted,
+)
