@@ -15,6 +15,7 @@
 //! - Of splitting (`splits.rt`) the parts with their tags and signed names, the numbers of the lines that introduce these, the clauses over
 //!   names with their lines, and the last model. A clause that falls into parts (`splitting.rt`) gives its parts their tags, in order, with the
 //!   lines that introduce new names; then comes its split line, and the clause over names. That takes no memory where there is room.
+//!   No call does this yet, since pools are made without splitting.
 //! - Of the events and the counted keys only the numbers (`history.rt`, `counted_keys.rt`): what a batch held is in the clauses and lines,
 //!   and contracts alone see more. The keys that were set aside are kept, since the outcome names one.
 //!
