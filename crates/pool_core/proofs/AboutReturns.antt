@@ -1,6 +1,9 @@
 -- The work of a batch and its return.
 pub mod ArrivalLemmas
 pub mod ComingLemmas
+pub mod FormLemmas
+pub mod GrownLemmas
+pub mod SplitComingLemmas
 pub mod InternedLemmas
 pub mod ProofStateLemmas
 pub mod ProposedLemmas
@@ -9,3 +12,4 @@ pub mod RightBatchLemmas
 pub mod StaleLemmas
 pub mod TakeableLemmas
 pub mod TakenLemmas
+pub mod WholeComingLemmas

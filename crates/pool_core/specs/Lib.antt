@@ -26,11 +26,14 @@ pub use Rattle.pool_history.specs.Chains
 pub mod Noted
 pub mod KeptEvents
 pub mod CountedList
-pub mod RegisterCode
-pub mod Register
-pub mod RegisterLiving
 pub mod Started
 pub mod Splits
+pub mod Demanded
+pub mod Asserting
+pub mod TagIndex
+pub mod Ready
 pub mod State
 pub mod Placing
 pub mod Parted
+pub mod Answered
+pub mod Waking

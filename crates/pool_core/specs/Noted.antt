@@ -7,7 +7,7 @@ use Rattle.pool_history.specs.Record.{GivenJob, clauses_of, position_of}
 use Rattle.pool_history.specs.Replay.{Origin, replay}
 use Rattle.pool_history.specs.News.{first_told, TreeChange, activated, died, change_of, news_since}
 use Rattle.pool_history.specs.declared.event.Event.{Event}
-use Rattle.pool_core.specs.declared.register.Registration.{Registration}
+use Rattle.clause_register.specs.declared.register.Registration.{Registration}
 use Rattle.pool_core.specs.declared.pool.Note.{Note}
 use Rattle.pool_core.specs.declared.pool.Note.TheVariants.{Activated, Died}
 use Rattle.pool_history.specs.declared.ticket.Ticket.{Ticket}

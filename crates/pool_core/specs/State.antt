@@ -1,5 +1,5 @@
 -- What a pool keeps: each field is what the replay of its history has.
-use Rattle.std.specs.Prelude.{◌≡◌, ℕ, ◌+◌, ◌<◌, ◌≤◌, ◌%◌, ◌==◌, true, false, [], map, length, take, position, slice_get, None, Some, option_map, vec_len, vec_capacity, All}
+use Rattle.std.specs.Prelude.{◌≡◌, ℕ, ◌+◌, ◌<◌, ◌≤◌, ◌%◌, ◌==◌, true, false, map, length, take, position, slice_get, None, Some, option_map, vec_len, vec_capacity, All}
 use Rattle.fol_base.specs.Literal.{clause_of}
 use Rattle.kernel_steps.specs.Split.{has_number}
 use Rattle.kernel_steps.specs.declared.step.Line.{Line}
@@ -8,7 +8,7 @@ use Rattle.term_bank.specs.declared.table.Table.{Table}
 use Rattle.pool_history.specs.View.{PoolView}
 use Rattle.pool_core.specs.CountedList.{keys_in}
 use Rattle.pool_core.specs.KeptEvents.{events_of}
-use Rattle.pool_history.specs.Record.{PoolRecord, Registered, Death, GivenJob, SolverJob}
+use Rattle.pool_history.specs.Record.{PoolRecord, Registered, Death, GivenJob, SolverJob, jobs_out}
 use Rattle.pool_history.specs.Registering.{has_none}
 use Rattle.pool_history.specs.Claiming.{pair_of, ready}
 use Rattle.pool_history.specs.Replay.{Origin, start, replay}
@@ -17,8 +17,9 @@ use Rattle.pool_core.specs.Noted.{IsNoted, change_at}
 use Rattle.pool_history.specs.Answers.{death_of}
 use Rattle.pool_history.specs.Inputs.{AreInputs, IsLimit, IsHistoryOf}
 use Rattle.pool_core.specs.Splits.{HasTags, AreSplitsOf, split_view}
+use Rattle.pool_core.specs.Asserting.{assertions_from}
 use Rattle.pool_core.specs.Started.{registered_at, IsOfTable}
-use Rattle.pool_core.specs.declared.register.Registration.{Registration}
+use Rattle.clause_register.specs.declared.register.Registration.{Registration}
 use Rattle.pool_core.specs.declared.pool.OutJob.{OutJob}
 use Rattle.pool_core.specs.declared.pool.SolverOut.{SolverOut}
 use Rattle.pool_core.specs.declared.pool.ProofState.{ProofState}
@@ -66,12 +67,26 @@ pub record IsProofStateOf (bank : Bank) (table : Table) (s : ProofState) (r : Po
   pub ended : s.ended ≡ r.ended
   pub splits : AreSplitsOf (split_view s.splits) r.parts r.lines r.propositional r.model r.modelled
   pub tags : All (HasTags (length r.parts)) r.registered
+  pub asserting : s.asserting.entries ≡ assertions_from 0 r.registered
   pub of_registered : AreOfRegistered r
-  -- nothing is split
-  pub no_propositional : r.propositional ≡ []
-  pub no_names : All (λ (c : Registered). c.clause.names ≡ []) r.registered
   -- the empty clause ends the pool
   pub no_empty : r.ended ≡ None → All (λ (c : Registered). has_none c.clause.literals ≡ false) r.registered
+
+-- each clause asserts tags of parts
+abbrev pub AreTagged : ProofState → Type 0
+AreTagged s =
+    (n : ℕ) (z : Registration) → slice_get s.register.clauses n ≡ Some z → All (λ tag. tag < length s.splits.parts.parts) z.clause.names
+
+-- The queue has a node for each registered clause and for so many more. A clause that sleeps, is out or is done doesn't stand in it, and leaves
+-- its node free: so a clause that wakes or is given up finds one.
+abbrev pub HasNodes : ProofState → ℕ → Type 0
+HasNodes s more = length s.register.clauses + more ≤ length s.queue.pairs + s.queue.spare
+
+-- room for clauses that are registered, and for their assertions
+pub record HasPlaces (s : ProofState) (clauses assertions : ℕ) : Type 0 where
+  pub register : clauses ≤ s.register.spare
+  pub queue : HasNodes s clauses
+  pub index : assertions ≤ s.asserting.spare
 
 -- ---- the whole
 
@@ -85,12 +100,10 @@ pub record IsStateOf (a : Inside) (r : PoolRecord) : Type 0 where
   pub last_job : a.last_job ≡ r.jobs
   pub place : a.place_in_round ≡ r.claims % 6
   pub solver : option_map solver_job a.solver ≡ r.solver
-  -- nothing is split
-  pub no_solver : r.solver ≡ None
+  pub queue_room : HasNodes a.proof 0
   -- there is room for what a job that is given up needs
-  pub queue_room : length r.given ≤ a.proof.queue.spare
-  pub history_room : vec_len a.history.events + length r.given ≤ vec_capacity a.history.events
-  pub notes_room : vec_len a.notes_before + length r.given ≤ vec_capacity a.notes_before
+  pub history_room : vec_len a.history.events + jobs_out r ≤ vec_capacity a.history.events
+  pub notes_room : vec_len a.notes_before + jobs_out r ≤ vec_capacity a.notes_before
 
 -- the activations and deaths of the history, with how many came before each event
 pub record HasNews (a : Inside) : Type 0 where
@@ -104,7 +117,6 @@ pub record HasNews (a : Inside) : Type 0 where
 pub record IsPool (a : Inside) : Type 0 where
   pub inputs : AreInputs (origin_of a).inputs
   pub limit : IsLimit a.options
-  pub unsplit : a.options.split ≡ false
   pub lawful : IsHistoryOf (origin_of a) (events_of a.history)
   pub state : IsStateOf a (replay (origin_of a) (events_of a.history))
   pub news : HasNews a

@@ -9,18 +9,18 @@ ghost use Rattle.pool_core.specs.KeptEvents.{events_of};
 ghost use Rattle.pool_history.specs.News.{change_of, changes_from, news_since, first_told};
 ghost use Rattle.pool_core.specs.Noted.{AreOfBank, IsNoted, IsNextTicket, change_at};
 ghost use Rattle.pool_history.specs.Record.{jobs_out, position_of};
-ghost use Rattle.pool_core.specs.Register.{at_position};
+ghost use Rattle.clause_register.specs.Register.{at_position};
 ghost use Rattle.pool_history.specs.Replay.{start, replay};
 ghost use Rattle.pool_history.specs.Solving.{must_solve};
 ghost use Rattle.pool_history.specs.declared.event.Event.TheVariants.{Claim};
 ghost use Rattle.pool_core.specs.declared.pool.Note.TheVariants.{Activated};
-ghost use Rattle.pool_core.specs.declared.register.Registration.{Registration};
+ghost use Rattle.clause_register.specs.declared.register.Registration.{Registration};
 
 use crate::history::History;
 use crate::pool::{Note, OutJob, Pool};
-use crate::register::Register;
 use bank_clause::Member;
 use clause_queue::Choice;
+use clause_register::Register;
 use plain_types::{Mem, NoMemory};
 use pool_history::{Change, Claimed, Event, News, Ticket};
 use std::alloc::Global;
@@ -30,8 +30,8 @@ use std::collections::BTreeMap;
 const CLAIMS_IN_A_ROUND: u64 = 6;
 
 impl Pool {
-    /// The answer to a caller that knows the activations and deaths of the first `told` events: an outcome that stands, a clause to work on,
-    /// or how many jobs are out. After an out-of-memory error the pool is as before.
+    /// The answer to a caller that knows the activations and deaths of the first `told` events: an outcome that stands, the clauses over names
+    /// for the solver, a clause to work on, or how many jobs are out. After an out-of-memory error the pool is as before.
     pub fn claim(&mut self, alloc: Global, told: u64) -> Mem<Claimed>
         requires told { told ≤ length self.old.history }
         ensures bank { self.new.bank ≡ self.old.bank }
@@ -43,22 +43,30 @@ impl Pool {
         if let Some(outcome) = self.outcome() {
             return Ok(Claimed::Ended(outcome));
         }
+        if self.must_solve() {
+            return Ok(Claimed::Solve(self.give_clauses(alloc)?));
+        }
         match self.next_given() {
             Some(number) => Ok(Claimed::Given(self.give(alloc, number, told)?)),
-            None => Ok(Claimed::Idle(self.jobs_out())),
+            None => Ok(Claimed::Idle(self.jobs_out()?)),
         }
     }
 
-    /// How many jobs are out. They are on different clauses, so there are few.
-    fn jobs_out(&self) -> u32
-        ensures { result ≡ jobs_out (replay self.now.origin self.now.history) }
+    /// How many jobs are out. Those on given clauses are on different ones, so there are few. A number past 32 bits is told as out of memory.
+    fn jobs_out(&self) -> Mem<u32>
+        ensures { IfOk result (λ count. count ≡ jobs_out (replay self.now.origin self.now.history)) }
     {
-        self.jobs.len() as u32
+        let given = self.jobs.len() as u32;
+        match given.checked_add(u32::from(self.solver.is_some())) {
+            Some(count) => Ok(count),
+            None => Err(NoMemory),
+        }
     }
 
     /// Gives out the clause that is next.
     fn give(&mut self, alloc: Global, number: u32, told: u64) -> Mem<Ticket>
         requires open { (replay self.old.origin self.old.history).ended ≡ None }
+        requires solved { IsFalse (must_solve (replay self.old.origin self.old.history)) }
         requires next { next_given (replay self.old.origin self.old.history) ≡ Some number }
         requires told { told ≤ length self.old.history }
         ensures bank { self.new.bank ≡ self.old.bank }
@@ -165,10 +173,9 @@ impl Pool {
         }
     }
 
-    /// The clause that is given next. Nothing is to be solved before, since nothing is split.
+    /// The clause that is given next.
     fn next_given(&self) -> Option<u32>
-        ensures next { result ≡ next_given (replay self.now.origin self.now.history) }
-        ensures solved { IsFalse (must_solve (replay self.now.origin self.now.history)) }
+        ensures { result ≡ next_given (replay self.now.origin self.now.history) }
     {
         let choice = if self.place_in_round == CLAIMS_IN_A_ROUND - 1 {
             Choice::Old
@@ -194,7 +201,8 @@ fn change(register: &Register, note: Note) -> Mem<Change>
     }
 }
 
-/// Takes the memory of a claim: the job's entry, and room for an activation and for the events of all jobs that are out.
+/// Takes the memory of a claim: the job's entry, and room for an activation, for this event, and for one of each job that is out, this one and
+/// the solver's among them.
 fn take_claim_memory(
     history: &mut History,
     positions: &mut Vec<u32>,
@@ -206,7 +214,7 @@ fn take_claim_memory(
 ) -> Mem<()>
     ensures events { events_of history.new ≡ events_of history.old }
     ensures events_len { vec_len history.new.events ≡ vec_len history.old.events }
-    ensures events_room { OnOk result (vec_len history.old.events + (length jobs.old.entries + 2) ≤ vec_capacity history.new.events) }
+    ensures events_room { OnOk result (vec_len history.old.events + (length jobs.old.entries + 3) ≤ vec_capacity history.new.events) }
     ensures events_kept { vec_capacity history.old.events ≤ vec_capacity history.new.events }
     ensures positions { positions.new.items ≡ positions.old.items }
     ensures positions_room { OnOk result (vec_len positions.new < vec_capacity positions.new) }
@@ -214,12 +222,12 @@ fn take_claim_memory(
     ensures notes_room { OnOk result (vec_len notes.new < vec_capacity notes.new) }
     ensures before { notes_before.new.items ≡ notes_before.old.items }
     ensures before_len { vec_len notes_before.new ≡ vec_len notes_before.old }
-    ensures before_room { OnOk result (vec_len notes_before.old + (length jobs.old.entries + 2) ≤ vec_capacity notes_before.new) }
+    ensures before_room { OnOk result (vec_len notes_before.old + (length jobs.old.entries + 3) ≤ vec_capacity notes_before.new) }
     ensures before_kept { vec_capacity notes_before.old ≤ vec_capacity notes_before.new }
     ensures jobs { OnOk result (jobs.new.entries ≡ insert_entry nat_cmp jobs.old.entries job out) }
     ensures no_job { OnErr result (jobs.new.entries ≡ jobs.old.entries) }
 {
-    let more = jobs.len() + 2;
+    let more = jobs.len() + 3;
     history.reserve(more)?;
     positions.reserve(1)?;
     notes.reserve(1)?;

@@ -1,6 +1,6 @@
 // The work of a batch as it is counted: entries, and clauses that go. What is done here takes no memory, since there is room.
 
-ghost use Rattle.std.specs.Prelude.{◌≡◌, ℕ, ◌+◌, ◌<◌, ◌≤◌, ◌&&◌, ◌++◌, [], List, None, false, is_none, fold, length, option_to_list, vec_len, vec_capacity};
+ghost use Rattle.std.specs.Prelude.{◌≡◌, ℕ, ◌+◌, ◌<◌, ◌≤◌, ◌&&◌, ◌++◌, Bool, List, None, is_none, fold, length, option_to_list, vec_len, vec_capacity};
 ghost use Rattle.std.specs.List.{list_all};
 ghost use Rattle.kernel_steps.specs.declared.step.Line.{Line};
 ghost use Rattle.std.specs.Vec.Iter.{into_iter_items};
@@ -8,6 +8,8 @@ ghost use Rattle.term_bank.specs.declared.bank.Bank.{Bank};
 ghost use Rattle.term_bank.specs.declared.table.Table.{Table};
 ghost use Rattle.pool_core.specs.CountedList.{keys_in};
 ghost use Rattle.pool_history.specs.Counting.{counts, keys_of, lines_of_entries, lines_of_fate};
+ghost use Rattle.pool_core.specs.Demanded.{no_demand, plus, total};
+ghost use Rattle.pool_core.specs.declared.demand.Demand.{Demand};
 ghost use Rattle.pool_core.specs.Placing.{
   AreInterned,
   IsResultOf,
@@ -20,11 +22,12 @@ ghost use Rattle.pool_core.specs.Placing.{
   IsCountedStateOf,
   NotesDeaths,
   HasRoom,
+  brought,
   entries_of,
   lines_of_removals,
 };
 ghost use Rattle.pool_history.specs.Record.{PoolRecord};
-ghost use Rattle.pool_core.specs.Register.{is_living_at};
+ghost use Rattle.clause_register.specs.Register.{is_living_at};
 ghost use Rattle.pool_history.specs.Returning.{removals_of, replaced, proposed, worked};
 
 use crate::counted_keys::CountedKeys;
@@ -47,22 +50,19 @@ impl ProofState {
         work: Work,
         prepared: Prepared,
     )
-        requires unsplit { options.split ≡ false }
         requires open { self.old.ended ≡ None }
         requires living { IsLiving self.old.register.clauses number }
         requires given { IsOfGiven number work }
-        requires work { IsSomeWork bank.now self.old number work prepared }
-        requires room { HasRoom self.old (lines_of_entries (entries_of work) ++ lines_of_removals (removals_of work)) (length (removals_of work)) 0 }
+        requires work { IsSomeWork bank.now options.split self.old number work prepared }
+        requires room { HasRoom self.old (brought prepared) (length (removals_of work)) }
         requires counted_room { vec_len counted.old.keys + (length (entries_of work) + length (removals_of work)) ≤ vec_capacity counted.old.keys }
         ensures worked { (table : Table) (r : PoolRecord) (pairs : List (ℕ × ℕ)) → event ≡ r.events
-            → IsWorkOf bank.now table self.old number work prepared pairs r → keys_in counted.old ≡ r.counted
+            → IsWorkOf bank.now table options.split self.old number work prepared pairs r → keys_in counted.old ≡ r.counted
             → IsCountedStateOf bank.now table self.new (keys_in counted.new) (worked options number work r) }
         ensures noted { (table : Table) (r : PoolRecord) (pairs : List (ℕ × ℕ)) → event ≡ r.events
-            → IsWorkOf bank.now table self.old number work prepared pairs r → keys_in counted.old ≡ r.counted
+            → IsWorkOf bank.now table options.split self.old number work prepared pairs r → keys_in counted.old ≡ r.counted
             → NotesDeaths r (worked options number work r) self.old.notes.items self.new.notes.items }
-        ensures room { (out : ℕ)
-            → HasRoom self.old (lines_of_entries (entries_of work) ++ lines_of_removals (removals_of work)) (length (removals_of work)) out
-            → HasRoom self.new [] 0 out }
+        ensures room { HasRoom self.new no_demand 0 }
     {
         let Prepared {
             entries: results,
@@ -107,16 +107,14 @@ impl ProofState {
         entries: MetEntries,
         results: Vec<Interned>,
     )
-        requires unsplit { options.split ≡ false }
         requires open { self.old.ended ≡ None }
-        requires results { AreArrivals bank.now self.old (lines_of_entries entries) results.items }
-        requires room { HasRoom self.old (lines_of_entries entries) 0 0 }
+        requires results { AreArrivals bank.now self.old options.split (lines_of_entries entries) results.items }
+        requires room { HasRoom self.old (total results.items) 0 }
         requires counted_room { vec_len counted.old.keys + length entries ≤ vec_capacity counted.old.keys }
-        ensures counted { (table : Table) (r : PoolRecord) → AreInterned bank.now table (lines_of_entries entries) results.items
+        ensures counted { (table : Table) (r : PoolRecord) → AreInterned bank.now table options.split (length r.parts) (lines_of_entries entries) results.items
             → IsCountedStateOf bank.now table self.old (keys_in counted.old) r
             → IsCountedStateOf bank.now table self.new (keys_in counted.new) (counts options (keys_of entries) (lines_of_entries entries) r) }
-        ensures room { (lss : List (List Line)) (deaths out : ℕ)
-            → HasRoom self.old (lines_of_entries entries ++ lss) deaths out → HasRoom self.new lss deaths out }
+        ensures room { (d : Demand) (deaths : ℕ) → HasRoom self.old (plus (total results.items) d) deaths → HasRoom self.new d deaths }
         ensures counted_len { vec_len counted.new.keys ≡ vec_len counted.old.keys + length entries }
         ensures counted_room { vec_capacity counted.new.keys ≡ vec_capacity counted.old.keys }
         ensures notes { self.new.notes.items ≡ self.old.notes.items }
@@ -146,17 +144,16 @@ impl ProofState {
         removals: Removals,
         results: Vec<Interned>,
     )
-        requires unsplit { options.split ≡ false }
-        requires results { AreArrivals bank.now self.old (lines_of_removals removals) results.items }
-        requires room { HasRoom self.old (lines_of_removals removals) (length removals) 0 }
+        requires results { AreArrivals bank.now self.old options.split (lines_of_removals removals) results.items }
+        requires room { HasRoom self.old (total results.items) (length removals) }
         requires counted_room { vec_len counted.old.keys + length removals ≤ vec_capacity counted.old.keys }
-        ensures proposed { (table : Table) (r : PoolRecord) → event ≡ r.events → AreInterned bank.now table (lines_of_removals removals) results.items
+        ensures proposed { (table : Table) (r : PoolRecord) → event ≡ r.events → AreInterned bank.now table options.split (length r.parts) (lines_of_removals removals) results.items
             → IsCountedStateOf bank.now table self.old (keys_in counted.old) r
             → IsCountedStateOf bank.now table self.new (keys_in counted.new) (fold (proposed options) r removals) }
-        ensures noted { (table : Table) (r : PoolRecord) → event ≡ r.events → AreInterned bank.now table (lines_of_removals removals) results.items
+        ensures noted { (table : Table) (r : PoolRecord) → event ≡ r.events → AreInterned bank.now table options.split (length r.parts) (lines_of_removals removals) results.items
             → IsCountedStateOf bank.now table self.old (keys_in counted.old) r
             → NotesDeaths r (fold (proposed options) r removals) self.old.notes.items self.new.notes.items }
-        ensures room { (out : ℕ) → HasRoom self.old (lines_of_removals removals) (length removals) out → HasRoom self.new [] 0 out }
+        ensures room { HasRoom self.new no_demand 0 }
     {
         let mut results = results.into_iter();
         for removal in removals.into_vec() {
@@ -195,16 +192,14 @@ impl ProofState {
         fate: Fate,
         interned: Option<Interned>,
     )
-        requires unsplit { options.split ≡ false }
         requires open { self.old.ended ≡ None }
-        requires interned { IsReplacement bank.now self.old fate interned }
-        requires room { HasRoom self.old (option_to_list (lines_of_fate fate)) 0 0 }
+        requires interned { IsReplacement bank.now self.old options.split fate interned }
+        requires room { HasRoom self.old (total (option_to_list interned)) 0 }
         requires counted_room { vec_len counted.old.keys < vec_capacity counted.old.keys }
-        ensures replaced { (table : Table) (r : PoolRecord) → IsResultOf bank.now table fate interned
+        ensures replaced { (table : Table) (r : PoolRecord) → IsResultOf bank.now table options.split (length r.parts) fate interned
             → IsCountedStateOf bank.now table self.old (keys_in counted.old) r
             → IsCountedStateOf bank.now table self.new (keys_in counted.new) (replaced options victim fate r) }
-        ensures room { (lss : List (List Line)) (deaths out : ℕ)
-            → HasRoom self.old (option_to_list (lines_of_fate fate) ++ lss) deaths out → HasRoom self.new lss deaths out }
+        ensures room { (d : Demand) (deaths : ℕ) → HasRoom self.old (plus (total (option_to_list interned)) d) deaths → HasRoom self.new d deaths }
         ensures counted_len { vec_len counted.new.keys ≤ vec_len counted.old.keys + 1 }
         ensures counted_room { vec_capacity counted.new.keys ≡ vec_capacity counted.old.keys }
         ensures notes { self.new.notes.items ≡ self.old.notes.items }
@@ -224,9 +219,10 @@ impl ProofState {
 
 /// The next result, where the fate has one.
 fn next_result(results: &mut IntoIter<Interned>, fate: &Fate) -> Option<Interned>
-    ensures { (bank : Bank) (table : Table) (lss : List (List Line))
-        → AreInterned bank table (option_to_list (lines_of_fate fate.now) ++ lss) (into_iter_items results.old)
-        → IsResultOf bank table fate.now result × AreInterned bank table lss (into_iter_items results.new) }
+    ensures next { (bank : Bank) (table : Table) (split : Bool) (count : ℕ) (lss : List (List Line))
+        → AreInterned bank table split count (option_to_list (lines_of_fate fate.now) ++ lss) (into_iter_items results.old)
+        → IsResultOf bank table split count fate.now result × AreInterned bank table split count lss (into_iter_items results.new) }
+    ensures taken { into_iter_items results.old ≡ option_to_list result ++ into_iter_items results.new }
 {
     match fate {
         Fate::Kept { .. } => results.next(),

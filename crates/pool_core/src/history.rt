@@ -1,12 +1,13 @@
 // The history of a pool, as contracts see it.
 
-ghost use Rattle.std.specs.Prelude.{◌≡◌, Some, ◌+◌, ◌<◌, ◌≤◌, ◌++◌, [], ◌∷◌, length, vec_len, vec_capacity, OnOk};
+ghost use Rattle.std.specs.Prelude.{◌≡◌, ℕ, Bool, List, Some, ◌+◌, ◌<◌, ◌≤◌, ◌++◌, [], ◌∷◌, length, vec_len, vec_capacity, OnOk};
 ghost use Rattle.pool_core.specs.KeptEvents.{events_of};
 ghost use Rattle.pool_history.specs.declared.batch.Batch.{Batch};
-ghost use Rattle.pool_history.specs.declared.event.Event.TheVariants.{Return};
+ghost use Rattle.pool_history.specs.declared.event.Event.TheVariants.{Return, ReturnModel};
 
 use plain_types::Mem;
 use pool_history::{Batch, Event};
+use sat_core::Truths;
 use std::alloc::Global;
 use std::snapshot::Snapshot;
 
@@ -70,6 +71,22 @@ impl History {
         };
         batch
     }
+
+    /// Adds that a model of the clauses over names was taken, which comes back. There is room for it.
+    pub(crate) fn push_model(&mut self, job: u64, truths: Truths) -> Truths
+        requires { vec_len self.old.events < vec_capacity self.old.events }
+        ensures truths { result ≡ truths }
+        ensures events { events_of self.new ≡ events_of self.old ++ ReturnModel job truths ∷ [] }
+        ensures len { vec_len self.new.events ≡ vec_len self.old.events + 1 }
+        ensures room { vec_capacity self.new.events ≡ vec_capacity self.old.events }
+    {
+        let event = Event::ReturnModel { job, truths };
+        self.push(&event);
+        let Some(truths) = returned_model(event) else {
+            unreachable!();
+        };
+        truths
+    }
 }
 
 /// The batch that was taken in an event, if one was.
@@ -78,6 +95,16 @@ fn returned_batch(event: Event) -> Option<Batch>
 {
     match event {
         Event::Return(batch) => Some(batch),
+        _other => None,
+    }
+}
+
+/// The model that was taken in an event, if one was.
+fn returned_model(event: Event) -> Option<Truths>
+    ensures { (job : ℕ) (truths : List Bool) → event ≡ ReturnModel job truths → result ≡ Some truths }
+{
+    match event {
+        Event::ReturnModel { truths, .. } => Some(truths),
         _other => None,
     }
 }

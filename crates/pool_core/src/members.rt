@@ -10,6 +10,7 @@ use crate::pool::Pool;
 use bank_clause::{Member, Members};
 use kernel_steps::Step;
 use plain_types::Mem;
+use split_parts::NameTable;
 use std::alloc::Global;
 
 impl Pool {
@@ -21,13 +22,10 @@ impl Pool {
     {
         let mut members = Members::new(alloc);
         for number in 0..self.proof.register.len() {
-            let registration = self.proof.register.get(number);
-            // All living clauses are awake, since none has assertions.
-            if registration.death.is_none() {
-                members.push(Member {
-                    number: number as u32,
-                    clause: registration.clause.copied()?,
-                })?;
+            let number = number as u32;
+            if self.is_member(number) {
+                let clause = self.proof.register.get(number as usize).clause.copied()?;
+                members.push(Member { number, clause })?;
             }
         }
         Ok(members)
@@ -38,5 +36,12 @@ impl Pool {
         ensures { result.now ≡ map (λ (l : Line). l.step) (replay self.now.origin self.now.history).lines }
     {
         self.proof.steps.as_slice()
+    }
+
+    /// The parts that were met, with their tags and signed names.
+    pub fn parts(&self) -> &NameTable
+        ensures { result.now.parts ≡ (replay self.now.origin self.now.history).parts }
+    {
+        &self.proof.splits.parts
     }
 }

@@ -1,20 +1,21 @@
 // The pool of clauses: how it begins, and what it tells of itself.
 
-ghost use Rattle.std.specs.Prelude.{◌≡◌, ◌<◌, ◌&&◌, [], false, length, map, position, slice_get, Some, IfOk};
+ghost use Rattle.std.specs.Prelude.{◌≡◌, ◌<◌, ◌&&◌, ◌==◌, [], not, length, map, position, slice_get, Some, IfOk};
 ghost use Rattle.fol_base.specs.Literal.{clause_of};
 ghost use Rattle.term_bank.specs.Bank.{identity};
 ghost use Rattle.term_bank.specs.Table.{IsTableOf};
 ghost use Rattle.pool_core.specs.KeptEvents.{events_of};
 ghost use Rattle.pool_history.specs.Inputs.{AreInputs, IsLimit, IsHistoryOf};
-ghost use Rattle.pool_history.specs.Outcomes.{is_of_living, outcome_of};
-ghost use Rattle.pool_history.specs.Record.{is_awake, lives};
+ghost use Rattle.pool_history.specs.Outcomes.{is_at_rest, is_of_living, outcome_of};
+ghost use Rattle.pool_history.specs.Record.{is_awake, jobs_out, lives};
 ghost use Rattle.pool_history.specs.Replay.{replay};
 
 use crate::counted_keys::CountedKeys;
 use crate::history::History;
-use crate::register::Register;
+use crate::ready_queue::ReadyQueue;
 use crate::splits::Splits;
-use clause_queue::Queue;
+use crate::tag_index::TagIndex;
+use clause_register::Register;
 use fol_base::Clauses;
 use kernel_steps::{Key, Step};
 use plain_types::Mem;
@@ -53,8 +54,8 @@ pub enum Note {
 #[derive(Drop)]
 pub struct ProofState {
     pub(crate) register: Register,
-    /// The clauses that wait and are awake, with their sizes. It has room for those whose jobs are out.
-    pub(crate) queue: Queue,
+    /// The clauses that wait and are awake, with their sizes. It has a node for each registered clause.
+    pub(crate) queue: ReadyQueue,
     /// All activations and deaths.
     pub(crate) notes: Vec<Note>,
     /// The steps of the lines.
@@ -62,6 +63,8 @@ pub struct ProofState {
     /// Refuted or spent.
     pub(crate) ended: Option<Outcome>,
     pub(crate) splits: Splits,
+    /// Which clause asserts which tag.
+    pub(crate) asserting: TagIndex,
 }
 
 /// A pool of clauses. Contracts see which bank it is of, what it began with, and its history, the list of its events. What it answers is told by
@@ -104,7 +107,7 @@ impl Model for Pool {
 }
 
 impl Pool {
-    /// A pool of the inputs, which are registered in order. The empty clause among them refutes the pool.
+    /// A pool of the inputs, which come in order, split where splitting is on. The empty clause among them refutes the pool.
     pub fn new<R: Wait>(
         rt: &R,
         alloc: Global,
@@ -116,7 +119,6 @@ impl Pool {
         requires table { IsTableOf bank.now table }
         requires inputs { AreInputs (map clause_of inputs.now) }
         requires limit { IsLimit options }
-        requires unsplit { options.split ≡ false }
         ensures { IfOk result (λ pool. pool ≡ record {
           bank = identity bank.now;
           origin = record { inputs = map clause_of inputs.now; options = options };
@@ -124,7 +126,14 @@ impl Pool {
         }) }
     {
         let mut table = table;
-        let proof = ProofState::of_inputs(rt, alloc, bank, &mut table, inputs.as_slice())?;
+        let proof = ProofState::of_inputs(
+            rt,
+            alloc,
+            bank,
+            &mut table,
+            inputs.as_slice(),
+            options.split,
+        )?;
         Ok(Pool {
             inputs: Snapshot::of(inputs),
             options,
@@ -171,7 +180,7 @@ impl Pool {
         if self.proof.ended.is_some() {
             return self.proof.ended;
         }
-        if !self.proof.queue.is_empty() || !self.jobs.is_empty() {
+        if !self.is_at_rest() {
             return None;
         }
         match self.heavy_place() {
@@ -180,7 +189,21 @@ impl Pool {
         }
     }
 
-    /// The place of the first inference that was set aside and whose premises live.
+    /// Whether nothing is to be solved or given, and no job is out.
+    fn is_at_rest(&self) -> bool
+        ensures { result ≡ is_at_rest (replay self.now.origin self.now.history) }
+    {
+        !self.must_solve() && self.proof.queue.is_empty() && !self.has_jobs()
+    }
+
+    /// Whether a job is out.
+    fn has_jobs(&self) -> bool
+        ensures { result ≡ not (jobs_out (replay self.now.origin self.now.history) == 0) }
+    {
+        !self.jobs.is_empty() || self.solver.is_some()
+    }
+
+    /// The place of the first inference that was set aside and whose premises live and are awake.
     fn heavy_place(&self) -> Option<usize>
         ensures { let r = replay self.now.origin self.now.history in result ≡ position (is_of_living r) r.set_aside }
     {
@@ -190,24 +213,23 @@ impl Pool {
             .position(|key| self.is_of_living(key))
     }
 
-    /// Whether all premises of an inference live.
+    /// Whether all premises of an inference live and are awake.
     fn is_of_living(&self, key: &Key) -> bool
         ensures { result ≡ is_of_living (replay self.now.origin self.now.history) key.now }
     {
         match key {
-            Key::Para { first, second, .. } => self.is_living(*first) && self.is_living(*second),
+            Key::Para { first, second, .. } => self.is_member(*first) && self.is_member(*second),
             Key::Refl { clause, .. } | Key::Factor { clause, .. } | Key::Replaced(clause) => {
-                self.is_living(*clause)
+                self.is_member(*clause)
             }
         }
     }
 
-    /// Whether the clause of a number lives. All clauses are awake, since none has assertions.
-    fn is_living(&self, number: u32) -> bool
+    /// Whether the clause of a number lives and is awake.
+    pub(crate) fn is_member(&self, number: u32) -> bool
         ensures { let r = replay self.now.origin self.now.history in result ≡ (lives r number && is_awake r number) }
     {
-        let number = number as usize;
-        number < self.proof.register.len() && self.proof.register.get(number).death.is_none()
+        self.proof.register.is_living(u64::from(number)) && self.proof.is_awake(number)
     }
 
     /// The events so far. They are lawful, and the pool began with inputs and options as it may.
@@ -216,7 +238,6 @@ impl Pool {
         ensures lawful { IsHistoryOf self.now.origin self.now.history }
         ensures inputs { AreInputs self.now.origin.inputs }
         ensures limit { IsLimit self.now.origin.options }
-        ensures unsplit { self.now.origin.options.split ≡ false }
     {
         &self.history
     }

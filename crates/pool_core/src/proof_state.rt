@@ -1,36 +1,31 @@
 // The part of a pool that the work of a batch changes: clauses come and die. What is done here takes no memory, since there is room.
 
-ghost use Rattle.std.specs.Prelude.{◌≡◌, ℕ, suc, ◌<◌, ◌≤◌, ◌++◌, [], ◌∷◌, List, false, length, OnOk};
+ghost use Rattle.std.specs.Prelude.{◌≡◌, ℕ, suc, ◌<◌, ◌≤◌, ◌++◌, ◌∷◌, [], Bool, List, length, OnOk};
 ghost use Rattle.clause_queue.specs.Pairs.{without};
-ghost use Rattle.kernel_steps.specs.declared.step.Line.{Line};
 ghost use Rattle.term_bank.specs.declared.bank.Bank.{Bank};
 ghost use Rattle.term_bank.specs.declared.table.Table.{Table};
 ghost use Rattle.pool_history.specs.Counting.{result_comes};
-ghost use Rattle.pool_core.specs.Placing.{IsInterned, IsArrival, IsLiving, HasRoom, line_count, with_queue, comes_if, spent_if};
+ghost use Rattle.pool_core.specs.Demanded.{no_demand, plus};
+ghost use Rattle.pool_core.specs.Placing.{IsInterned, IsArrival, IsLiving, HasRoom, with_queue, comes_if, spent_if};
 ghost use Rattle.pool_history.specs.Record.{PoolRecord};
 ghost use Rattle.pool_history.specs.Returning.{dies, becomes_active};
 ghost use Rattle.pool_core.specs.Splits.{split_view};
 ghost use Rattle.pool_core.specs.State.{IsProofStateOf};
+ghost use Rattle.pool_core.specs.declared.demand.Demand.{Demand};
 ghost use Rattle.pool_core.specs.declared.pool.Note.TheVariants.{Died};
 
+use crate::demand::{Demand, sum};
+use crate::form::Form;
 use crate::interning::Interned;
-use crate::placing::place_steps;
 use crate::pool::{Note, ProofState};
 use kernel_steps::Derivation;
-use plain_types::{Mem, NoMemory};
+use plain_types::Mem;
 use pool_history::Outcome;
 use term_bank::Bank;
 
 impl ProofState {
-    /// Makes room for a number of clauses that come, for their lines, for deaths, and for the clauses of the jobs that are out. After
-    /// an out-of-memory error there may be some of that room.
-    pub(crate) fn reserve(
-        &mut self,
-        clauses: usize,
-        lines: usize,
-        deaths: usize,
-        out: usize,
-    ) -> Mem<()>
+    /// Makes room for what results may bring, and for deaths. After an out-of-memory error there may be some of that room.
+    pub(crate) fn reserve(&mut self, demand: Demand, deaths: usize) -> Mem<()>
         ensures clauses { self.new.register.clauses ≡ self.old.register.clauses }
         ensures pairs { self.new.queue.pairs ≡ self.old.queue.pairs }
         ensures kept { self.old.queue.spare ≤ self.new.queue.spare }
@@ -38,45 +33,38 @@ impl ProofState {
         ensures steps { self.new.steps.items ≡ self.old.steps.items }
         ensures ended { self.new.ended ≡ self.old.ended }
         ensures splits { split_view self.new.splits ≡ split_view self.old.splits }
-        ensures room { OnOk result ((lss : List (List Line)) → length lss ≤ clauses → line_count lss ≤ lines → HasRoom self.new lss deaths out) }
+        ensures asserting { self.new.asserting.entries ≡ self.old.asserting.entries }
+        ensures room { OnOk result (HasRoom self.new demand deaths) }
     {
-        let Ok(waiting) = u32::try_from(clauses.saturating_add(out)) else {
-            return Err(NoMemory);
-        };
-        self.register.reserve(clauses)?;
-        self.queue.reserve(waiting)?;
-        self.steps.reserve(lines)?;
+        self.register.reserve(demand.clauses)?;
+        self.queue
+            .reserve(sum(self.register.len(), demand.clauses)?)?;
+        self.asserting.reserve(demand.tags)?;
+        self.steps.reserve(demand.lines)?;
+        self.splits
+            .reserve(demand.parts, demand.splits, demand.names)?;
         self.notes.reserve(deaths)?;
         Ok(())
     }
 
     /// The result of a batch's lines comes by them, unless the pool is refuted or spent. A result that lives already changes nothing; the empty
-    /// clause refutes.
+    /// clause refutes, and one that is split comes in parts.
     pub(crate) fn arrive(&mut self, bank: &Bank, lines: Derivation, interned: Interned)
         requires arrival { IsArrival bank.now self.old lines interned }
-        requires room { HasRoom self.old (lines ∷ []) 0 0 }
-        ensures arrived { (table : Table) (r : PoolRecord) → IsInterned bank.now table lines interned
-            → IsProofStateOf bank.now table self.old r → IsProofStateOf bank.now table self.new (result_comes false r lines) }
-        ensures room { (lss : List (List Line)) (deaths out : ℕ) → HasRoom self.old (lines ∷ lss) deaths out → HasRoom self.new lss deaths out }
+        requires room { HasRoom self.old interned.demand 0 }
+        ensures arrived { (table : Table) (split : Bool) (r : PoolRecord) → IsInterned bank.now table split (length r.parts) lines interned
+            → IsProofStateOf bank.now table self.old r → IsProofStateOf bank.now table self.new (result_comes split r lines) }
+        ensures room { (d : Demand) (deaths : ℕ) → HasRoom self.old (plus interned.demand d) deaths → HasRoom self.new d deaths }
         ensures notes { self.new.notes.items ≡ self.old.notes.items }
     {
         if self.ended.is_some() {
             return;
         }
-        let Interned { clause, hash } = interned;
-        if let Some(copy) = self.register.find(&clause, hash) {
-            clause.agree(bank, &self.register.get(copy as usize).clause);
-            return;
-        }
-        let number = self.register.len() as u32;
-        let size = clause.size();
-        let is_empty = clause.literals().is_empty();
-        place_steps(&mut self.steps, &self.register, lines);
-        self.register
-            .push(clause, hash, self.steps.len() as u64 - 1);
-        self.queue.push(number, size).unwrap();
-        if is_empty {
-            self.ended = Some(Outcome::Refuted);
+        let Interned { form, .. } = interned;
+        match form {
+            Form::Whole(whole) => self.whole_comes(bank, lines, whole),
+            Form::Contradiction(asserted) => self.contradiction_comes(bank, lines, asserted),
+            Form::Parts(split) => self.split_comes(bank, lines, split),
         }
     }
 
@@ -89,13 +77,13 @@ impl ProofState {
         interned: Interned,
     )
         requires arrival { IsArrival bank.now self.old lines interned }
-        requires room { HasRoom self.old (lines ∷ []) 0 0 }
-        ensures arrived { (table : Table) (r : PoolRecord) → IsInterned bank.now table lines interned
-            → IsProofStateOf bank.now table self.old r → IsProofStateOf bank.now table self.new (comes_if is_spent r lines) }
-        ensures room { (lss : List (List Line)) (deaths out : ℕ) → HasRoom self.old (lines ∷ lss) deaths out → HasRoom self.new lss deaths out }
+        requires room { HasRoom self.old interned.demand 0 }
+        ensures arrived { (table : Table) (split : Bool) (r : PoolRecord) → IsInterned bank.now table split (length r.parts) lines interned
+            → IsProofStateOf bank.now table self.old r → IsProofStateOf bank.now table self.new (comes_if split is_spent r lines) }
+        ensures room { (d : Demand) (deaths : ℕ) → HasRoom self.old (plus interned.demand d) deaths → HasRoom self.new d deaths }
         ensures notes { self.new.notes.items ≡ self.old.notes.items }
     {
-        if !is_spent || interned.clause.literals().is_empty() {
+        if !is_spent || interned.form.refutes() {
             self.arrive(bank, lines, interned);
         }
     }
@@ -104,7 +92,7 @@ impl ProofState {
     pub(crate) fn spend(&mut self, is_spent: bool, count: u64)
         ensures spent { (bank : Bank) (table : Table) (r : PoolRecord) → count ≡ length r.counted
             → IsProofStateOf bank table self.old r → IsProofStateOf bank table self.new (spent_if is_spent r) }
-        ensures room { (lss : List (List Line)) (deaths out : ℕ) → HasRoom self.old lss deaths out → HasRoom self.new lss deaths out }
+        ensures room { (d : Demand) (deaths : ℕ) → HasRoom self.old d deaths → HasRoom self.new d deaths }
         ensures notes { self.new.notes.items ≡ self.old.notes.items }
     {
         if is_spent && self.ended.is_none() {
@@ -115,12 +103,12 @@ impl ProofState {
     /// A living clause dies in the event of that place.
     pub(crate) fn die(&mut self, number: u32, event: u64)
         requires living { IsLiving self.old.register.clauses number }
-        requires room { HasRoom self.old [] 1 0 }
+        requires room { HasRoom self.old no_demand 1 }
         ensures died { (bank : Bank) (table : Table) (r : PoolRecord) (justifiers : List ℕ) (pairs : List (ℕ × ℕ)) → event ≡ r.events
             → without number self.old.queue.pairs ≡ without number pairs → IsProofStateOf bank table (with_queue pairs self.old) r
             → IsProofStateOf bank table self.new (dies number justifiers r) }
         ensures ended { self.new.ended ≡ self.old.ended }
-        ensures room { (lss : List (List Line)) (deaths out : ℕ) → HasRoom self.old lss (suc deaths) out → HasRoom self.new lss deaths out }
+        ensures room { (d : Demand) (deaths : ℕ) → HasRoom self.old d (suc deaths) → HasRoom self.new d deaths }
         ensures notes { self.new.notes.items ≡ self.old.notes.items ++ Died number ∷ [] }
     {
         self.register.bury(number as usize, event);
@@ -133,7 +121,7 @@ impl ProofState {
         requires there { number < length self.old.register.clauses }
         ensures finished { (bank : Bank) (table : Table) (r : PoolRecord) (pairs : List (ℕ × ℕ)) → self.old.queue.pairs ≡ without number pairs
             → IsProofStateOf bank table (with_queue pairs self.old) r → IsProofStateOf bank table self.new (becomes_active number r) }
-        ensures room { (lss : List (List Line)) (deaths out : ℕ) → HasRoom self.old lss deaths out → HasRoom self.new lss deaths out }
+        ensures room { (d : Demand) (deaths : ℕ) → HasRoom self.old d deaths → HasRoom self.new d deaths }
         ensures notes { self.new.notes.items ≡ self.old.notes.items }
         ensures ended { self.new.ended ≡ self.old.ended }
     {

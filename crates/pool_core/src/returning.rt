@@ -147,7 +147,7 @@ impl Pool {
         ensures unchanged { OnErr result (self.new ≡ self.old) }
     {
         let ticket = self.ticket_again(alloc, batch.job, out, told)?;
-        let more = self.jobs.len() + 1;
+        let more = self.jobs.len() + 2;
         self.history.reserve(more)?;
         self.notes_before.reserve(more)?;
         self.notes_before.push_reserved(self.proof.notes.len());

@@ -88,7 +88,7 @@ impl Splits {
         ensures room { (more : ℕ) → HasPartRoom self.old (suc more) → HasPartRoom self.new more }
         ensures steps_len { vec_len steps.new ≤ vec_len steps.old + 2 }
         ensures steps_capacity { vec_capacity steps.new ≡ vec_capacity steps.old }
-        ensures clauses { self.new.propositional ≡ self.old.propositional }
+        ensures clause_room { (clauses literals : ℕ) → HasClauseRoom self.old clauses literals → HasClauseRoom self.new clauses literals }
     {
         let names = self.parts.names();
         let (tag, is_new) = self.parts.put(part);

@@ -31,6 +31,10 @@ impl Splits {
         ensures defined { (r : PoolRecord) → AreStepsAndSplitsOf (split_view self.old) steps.old.items r
             → AreStepsAndSplitsOf (split_view self.new) steps.new.items (fold with_tag r (map key_part parts.items)) }
         ensures tags { tags.new.items ≡ tags.old.items ++ map (λ part. tag_of self.new.parts.parts (key_part part)) parts.items }
+        ensures part_room { (more : ℕ) → HasPartRoom self.old (length parts.items + more) → HasPartRoom self.new more }
+        ensures clause_room { (clauses literals : ℕ) → HasClauseRoom self.old clauses literals → HasClauseRoom self.new clauses literals }
+        ensures steps_len { vec_len steps.new ≤ vec_len steps.old + 2 * length parts.items }
+        ensures steps_capacity { vec_capacity steps.new ≡ vec_capacity steps.old }
     {
         for part in parts {
             let tag = self.define(steps, part);

@@ -1,22 +1,22 @@
 // Batches that are taken: first all memory that a return needs, and then what takes none.
 
-ghost use Rattle.std.specs.Prelude.{◌≡◌, ◌+◌, ◌≤◌, ◌++◌, [], ◌∷◌, None, true, is_some, length, IfOk, IfErr, OnOk, OnErr, vec_len, vec_capacity};
+ghost use Rattle.std.specs.Prelude.{◌≡◌, ℕ, Bool, ◌+◌, ◌≤◌, ◌++◌, [], ◌∷◌, None, true, is_some, length, IfOk, IfErr, OnOk, OnErr, vec_len, vec_capacity};
 ghost use Rattle.term_bank.specs.Bank.{identity};
 ghost use Rattle.term_bank.specs.Table.{IsTableOf};
 ghost use Rattle.pool_core.specs.CountedList.{keys_in};
-ghost use Rattle.pool_history.specs.Counting.{lines_of_entries};
-ghost use Rattle.pool_core.specs.Placing.{KnowsMore, HasRoom, IsFitWork, IsInBank, IsTakeable, entries_of, lines_of_removals, heavy_keys_of};
+ghost use Rattle.pool_core.specs.Placing.{KnowsMore, HasRoom, IsFitWork, IsInBank, IsTakeable, brought, entries_of, heavy_keys_of};
 ghost use Rattle.pool_core.specs.Splits.{split_view};
 ghost use Rattle.pool_history.specs.Returning.{removals_of};
 ghost use Rattle.pool_history.specs.Replay.{replay};
 ghost use Rattle.pool_history.specs.declared.event.Event.TheVariants.{Return};
 
 use crate::counted_keys::CountedKeys;
+use crate::demand::sum;
 use crate::interning::{Prepared, prepare};
 use crate::pool::{Pool, ProofState};
 use crate::returning::NotTaken;
 use kernel_steps::Key;
-use plain_types::{Mem, NoMemory};
+use plain_types::Mem;
 use pool_history::{Batch, Event, Work};
 use std::alloc::Global;
 use std::sync::Wait;
@@ -53,7 +53,6 @@ impl Pool {
             &mut self.proof,
             &mut self.counted,
             &mut self.set_aside,
-            self.jobs.len(),
             &batch.work,
         );
         let Ok(prepared) = memory else {
@@ -110,8 +109,8 @@ fn removal_count(work: &Work) -> usize
     }
 }
 
-/// Takes the memory of a return: the results in the bank, room for whatever the work may bring and for the clauses of the jobs that are out,
-/// and at last the names that are set aside, which stay out after an out-of-memory error.
+/// Takes the memory of a return: the results in the bank, room for whatever the work may bring, and at last the names that are set aside, which
+/// stay out after an out-of-memory error.
 fn take_return_memory<R: Wait>(
     rt: &R,
     alloc: Global,
@@ -120,14 +119,14 @@ fn take_return_memory<R: Wait>(
     proof: &mut ProofState,
     counted: &mut CountedKeys,
     set_aside: &mut Vec<Key>,
-    out: usize,
     work: &Work,
 ) -> Mem<Prepared>
     requires table { IsTableOf bank.now table.old }
-    requires fit { IsFitWork work.now }
+    requires fit { (split : Bool) × (count : ℕ) × IsFitWork split count work.now }
     ensures table { IsTableOf bank.now table.new }
     ensures knows { KnowsMore table.old table.new }
-    ensures prepared { IfOk result (IsInBank bank.now table.new work.now) }
+    ensures prepared { IfOk result (λ prepared. (split : Bool) (count : ℕ) → IsFitWork split count work.now
+        → IsInBank bank.now table.new split count work.now prepared) }
     ensures clauses { proof.new.register.clauses ≡ proof.old.register.clauses }
     ensures pairs { proof.new.queue.pairs ≡ proof.old.queue.pairs }
     ensures spare { proof.old.queue.spare ≤ proof.new.queue.spare }
@@ -135,8 +134,8 @@ fn take_return_memory<R: Wait>(
     ensures steps { proof.new.steps.items ≡ proof.old.steps.items }
     ensures ended { proof.new.ended ≡ proof.old.ended }
     ensures splits { split_view proof.new.splits ≡ split_view proof.old.splits }
-    ensures room { OnOk result
-        (HasRoom proof.new (lines_of_entries (entries_of work.now) ++ lines_of_removals (removals_of work.now)) (length (removals_of work.now)) out) }
+    ensures asserting { proof.new.asserting.entries ≡ proof.old.asserting.entries }
+    ensures room { IfOk result (λ prepared. HasRoom proof.new (brought prepared) (length (removals_of work.now))) }
     ensures counted { keys_in counted.new ≡ keys_in counted.old }
     ensures counted_room { OnOk result
         (vec_len counted.new.keys + (length (entries_of work.now) + length (removals_of work.now)) ≤ vec_capacity counted.new.keys) }
@@ -144,23 +143,9 @@ fn take_return_memory<R: Wait>(
     ensures not_set_aside { OnErr result (set_aside.new.items ≡ set_aside.old.items) }
 {
     let mut prepared = prepare(rt, alloc, bank, table, work)?;
-    let clauses = sum(
-        prepared.entries.clauses.len(),
-        prepared.removals.clauses.len(),
-    )?;
-    let lines = sum(prepared.entries.lines, prepared.removals.lines)?;
-    proof.reserve(clauses, lines, removal_count(work), out)?;
+    let demand = prepared.entries.demand.plus(prepared.removals.demand)?;
+    proof.reserve(demand, removal_count(work))?;
     counted.reserve(sum(entry_count(work), removal_count(work))?)?;
     set_aside.append(&mut prepared.heavy)?;
     Ok(prepared)
-}
-
-/// The sum of two sizes. One past 64 bits is told as out of memory.
-fn sum(first: usize, second: usize) -> Mem<usize>
-    ensures { IfOk result (λ all. all ≡ first + second) }
-{
-    match first.checked_add(second) {
-        Some(all) => Ok(all),
-        None => Err(NoMemory),
-    }
 }

@@ -1,5 +1,5 @@
 -- A pool as it begins: its fields are those of the record with the inputs.
-use Rattle.std.proofs.Common.{◌≡◌, ℕ, ◌%◌, ◌≤◌, true, false, List, [], map, length, ap, sym, ◌∙◌, subst, arith}
+use Rattle.std.proofs.Common.{◌≡◌, ℕ, ◌%◌, ◌≤◌, true, List, [], map, length, ap, sym, ◌∙◌, subst, arith}
 use Rattle.std.specs.Prelude.{Option, None, Some, slice_get, unwrap_or, option_map, vec_len, vec_capacity, All}
 use Rattle.std.specs.List.{list_all}
 use Rattle.std.proofs.lemmas.List.Elements.{All-nil}
@@ -12,15 +12,14 @@ use Rattle.sat_core.specs.Clause.{literal_true, valuation_of}
 use Rattle.term_bank.specs.declared.bank.Bank.{Bank}
 use Rattle.pool_core.specs.CountedList.{keys_in}
 use Rattle.pool_history.specs.Tags.{name_of_tag}
-use Rattle.pool_history.specs.Record.{PoolRecord, Registered, clause_numbered, is_awake_under, nothing_registered}
-use Rattle.pool_history.specs.Registering.{with_inputs}
+use Rattle.pool_history.specs.Record.{PoolRecord, Registered, clause_numbered, is_awake_under, jobs_out, nothing_registered}
 use Rattle.pool_history.specs.Replay.{start, replay}
 use Rattle.pool_core.specs.KeptEvents.{events_of}
 use Rattle.pool_history.specs.News.{changes_from}
 use Rattle.pool_core.specs.Noted.{IsNoted, change_at}
 use Rattle.pool_history.specs.Inputs.{AreInputs, IsLimit}
 use Rattle.pool_history.specs.Lawful.{IsLawful}
-use Rattle.pool_core.specs.State.{origin_of, job_entry, solver_job, IsProofStateOf, IsStateOf, IsPool}
+use Rattle.pool_core.specs.State.{origin_of, job_entry, solver_job, HasNodes, IsProofStateOf, IsStateOf, IsPool}
 use Rattle.pool_history.specs.declared.event.Event.{Event}
 use Rattle.pool_core.specs.declared.pool.Pool.TheInside.{Inside}
 use Rattle.pool_history.proofs.AboutRecords.FrameLemmas.{Registers, inputs-register}
@@ -39,9 +38,9 @@ module _ (a : Inside) (bank : Bank) (r : PoolRecord) where
   begun-state :
       a.table.bank ≡ bank → IsProofStateOf bank a.table a.proof r → Registers nothing_registered r
       → a.positions.items ≡ [] → a.jobs.entries ≡ [] → keys_in a.counted ≡ [] → a.set_aside.items ≡ [] → a.last_job ≡ 0 → a.place_in_round ≡ 0 → a.solver ≡ None
-      → vec_len a.history.events ≤ vec_capacity a.history.events → vec_len a.notes_before ≤ vec_capacity a.notes_before
+      → HasNodes a.proof 0 → vec_len a.history.events ≤ vec_capacity a.history.events → vec_len a.notes_before ≤ vec_capacity a.notes_before
       → IsStateOf a r
-  begun-state same_bank is registers positions jobs counted set_aside last_job place solver room notes_room = record {
+  begun-state same_bank is registers positions jobs counted set_aside last_job place solver nodes room notes_room = record {
     proof = subst (λ (b : Bank). IsProofStateOf b a.table a.proof r) (sym same_bank) is;
     positions = positions ∙ sym (ap (λ (t : PoolRecord). t.positions) registers.same);
     jobs = jobs ∙ sym (ap (λ (t : PoolRecord). map job_entry t.given) registers.same);
@@ -50,34 +49,29 @@ module _ (a : Inside) (bank : Bank) (r : PoolRecord) where
     last_job = last_job ∙ sym (ap (λ (t : PoolRecord). t.jobs) registers.same);
     place = place ∙ sym (ap (λ (t : PoolRecord). t.claims % 6) registers.same);
     solver = ap (option_map solver_job) solver ∙ sym (ap (λ (t : PoolRecord). t.solver) registers.same);
-    no_solver = ap (λ (t : PoolRecord). t.solver) registers.same;
-    queue_room = let none : length r.given ≡ 0 = ap (λ (t : PoolRecord). length t.given) registers.same in omega (arith, none);
-    history_room = let none : length r.given ≡ 0 = ap (λ (t : PoolRecord). length t.given) registers.same in omega (arith, none, room);
-    notes_room = let none : length r.given ≡ 0 = ap (λ (t : PoolRecord). length t.given) registers.same in omega (arith, none, notes_room);
+    queue_room = nodes;
+    history_room = let none : jobs_out r ≡ 0 = ap (λ (t : PoolRecord). jobs_out t) registers.same in omega (arith, none, room);
+    notes_room = let none : jobs_out r ≡ 0 = ap (λ (t : PoolRecord). jobs_out t) registers.same in omega (arith, none, notes_room);
   }
 
 pub begun :
     (a : Inside) (bank : Bank)
-    → a.options.split ≡ false → a.table.bank ≡ bank
-    → IsProofStateOf bank a.table a.proof (with_inputs false 0 (origin_of a).inputs nothing_registered)
+    → a.table.bank ≡ bank
+    → IsProofStateOf bank a.table a.proof (start (origin_of a))
     → a.positions.items ≡ [] → a.jobs.entries ≡ [] → keys_in a.counted ≡ [] → a.set_aside.items ≡ [] → a.last_job ≡ 0 → a.place_in_round ≡ 0 → a.solver ≡ None
-    → vec_len a.history.events ≤ vec_capacity a.history.events → vec_len a.notes_before ≤ vec_capacity a.notes_before
+    → HasNodes a.proof 0 → vec_len a.history.events ≤ vec_capacity a.history.events → vec_len a.notes_before ≤ vec_capacity a.notes_before
     → events_of a.history ≡ [] → a.proof.notes.items ≡ [] → a.notes_before.items ≡ []
     → AreInputs (origin_of a).inputs → IsLimit a.options
     → IsPool a
-begun a bank unsplit same_bank is positions jobs counted set_aside last_job place solver room notes_room events notes before inputs limit =
-    let begun_with : PoolRecord = with_inputs false 0 (origin_of a).inputs nothing_registered in
-    let split_is : start (origin_of a) ≡ begun_with = ap (λ b. with_inputs b 0 (origin_of a).inputs nothing_registered) unsplit in
+begun a bank same_bank is positions jobs counted set_aside last_job place solver nodes room notes_room events notes before inputs limit =
     record {
       inputs = inputs;
       limit = limit;
-      unsplit = unsplit;
       lawful = λ usage used. subst (λ (h : List Event). IsLawful usage.is_predicate (origin_of a) h) (sym events) tt;
       state =
           subst (λ (h : List Event). IsStateOf a (replay (origin_of a) h)) (sym events)
-          (subst (IsStateOf a) (sym split_is)
-          (begun-state a bank begun_with same_bank is (inputs-register false 0 (origin_of a).inputs nothing_registered) positions jobs
-          counted set_aside last_job place solver room notes_room));
+          (begun-state a bank (start (origin_of a)) same_bank is (inputs-register a.options.split 0 (origin_of a).inputs nothing_registered) positions jobs
+          counted set_aside last_job place solver nodes room notes_room);
       news =
           record {
             all =

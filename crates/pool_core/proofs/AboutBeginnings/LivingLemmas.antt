@@ -1,22 +1,18 @@
 -- What a pool's fields tell of living clauses and of its end.
-use Rattle.std.proofs.Common.{◌≡◌, ℕ, suc, ◌+◌, Bool, true, false, not, ◌&&◌, ◌||◌, ◌==◌, List, [], ◌∷◌, map, length, refl, ap, sym, ◌∙◌, arith}
-use Rattle.std.specs.Prelude.{Option, None, Some, cond, nat_lt, is_none, is_some, find, position, slice_get, option_map, if◌then◌else◌}
-use Rattle.std.proofs.lemmas.Bool.{lt-ltb, le-ltb, ne_eqb, true≢false}
-use Rattle.std.proofs.lemmas.Option.{slice_get-map, slice_get_within}
-use Rattle.fol_base.specs.Clause.{TreeClause}
+use Rattle.std.proofs.Common.{◌≡◌, ℕ, suc, ◌+◌, Bool, true, false, not, ◌&&◌, ◌||◌, ◌==◌, List, [], ◌∷◌, map, length, refl, ap, ap₂, sym, ◌∙◌, arith}
+use Rattle.std.specs.Prelude.{Option, None, Some, cond, nat_lt, is_none, is_some, find, position, option_map, if◌then◌else◌}
+use Rattle.std.proofs.lemmas.Bool.{and_from, ne_eqb, true≢false}
+use Rattle.std.proofs.lemmas.List.{length-map}
 use Rattle.clause_queue.specs.declared.choice.Choice.{Choice}
 use Rattle.clause_queue.specs.declared.choice.Choice.TheVariants.{Light, Old}
-use Rattle.pool_history.specs.Record.{PoolRecord, Registered, Death, GivenJob, SolverJob, PropositionalClause, clause_numbered, has_died, lives, is_awake, jobs_out}
+use Rattle.pool_history.specs.Record.{PoolRecord, Death, SolverJob, PropositionalClause, has_died, jobs_out}
 use Rattle.pool_history.specs.Claiming.{ready, picked, next_choice, can_give, pair_of}
 use Rattle.pool_history.specs.Solving.{must_solve}
 use Rattle.pool_history.specs.Outcomes.{is_at_rest, is_of_living, heavy_or_saturated, outcome_of, outcome_by}
-use Rattle.pool_core.specs.Started.{registered_at}
-use Rattle.pool_core.specs.State.{IsStateOf, job_entry}
+use Rattle.pool_core.specs.State.{IsStateOf, job_entry, solver_job}
 use Rattle.pool_history.specs.declared.outcome.Outcome.{Outcome}
-use Rattle.pool_core.specs.declared.register.Registration.{Registration}
+use Rattle.pool_core.specs.declared.pool.SolverOut.{SolverOut}
 use Rattle.pool_core.specs.declared.pool.Pool.TheInside.{Inside}
-use Rattle.pool_history.proofs.AboutRecords.ItemLemmas.{all-at}
-use Rattle.pool_core.proofs.AboutBeginnings.BegunLemmas.{awake-without, numbered}
 
 -- ---- a clause of a number
 
@@ -30,37 +26,20 @@ no-death (d ∷ ds) n = by (n == d.victim) (no-death ds n)
     by true rest = refl
     by false rest = rest
 
-pub registered-there :
-    (a : Inside) (r : PoolRecord) (n : ℕ) (s : Registration) → IsStateOf a r → slice_get a.proof.register.clauses n ≡ Some s → slice_get r.registered n ≡ Some (registered_at s)
-registered-there a r n s is there =
-    ap (λ xs. slice_get xs n) (sym is.proof.registered) ∙ slice_get-map registered_at a.proof.register.clauses n ∙ ap (λ (o : Option Registration). option_map registered_at o) there
-
-pub awake-there : (a : Inside) (r : PoolRecord) (n : ℕ) (x : Registered) → IsStateOf a r → slice_get r.registered n ≡ Some x → is_awake r n ≡ true
-awake-there a r n x is there =
-    awake-without r (clause_numbered r n)
-    (ap (λ (d : TreeClause). d.names) (numbered r n x there) ∙ all-at (λ (c : Registered). c.clause.names ≡ []) r.registered n x is.proof.no_names there)
-
-pub lives-there :
-    (a : Inside) (r : PoolRecord) (n : ℕ) (s : Registration)
-    → IsStateOf a r → slice_get a.proof.register.clauses n ≡ Some s → is_none s.death ≡ (lives r n && is_awake r n)
-lives-there a r n s is there =
-    let there_too = registered-there a r n s is there in
-    ap is_none (is.proof.registrations n s there).death
-    ∙ no-death r.deaths n
-    ∙ sym (and-true (not (has_died r.deaths n)))
-    ∙ ap (λ b. (b && not (has_died r.deaths n)) && true) (sym (lt-ltb n (length r.registered) (slice_get_within r.registered n (registered_at s) there_too)))
-    ∙ ap (λ b. lives r n && b) (sym (awake-there a r n (registered_at s) is there_too))
-  where
-    and-true : (b : Bool) → (b && true) ≡ b
-    and-true true = refl
-    and-true false = refl
-
 -- ---- whether the pool is at rest
 
-pub nothing-to-solve : (a : Inside) (r : PoolRecord) → IsStateOf a r → must_solve r ≡ false
-nothing-to-solve a r is =
-    ap (λ (cs : List PropositionalClause). nat_lt r.modelled (length cs) && is_none r.solver) is.proof.no_propositional
-    ∙ ap (λ b. b && is_none r.solver) (le-ltb r.modelled 0 (omega arith))
+-- what is kept tells whether the solver is to be asked
+pub to-be-solved :
+    (a : Inside) (r : PoolRecord) → IsStateOf a r
+    → (nat_lt a.proof.splits.modelled (length a.proof.splits.propositional.lists) && is_none a.solver) ≡ must_solve r
+to-be-solved a r is =
+    ap₂ (λ (m n : ℕ). nat_lt m n && is_none a.solver) is.proof.splits.modelled
+    (ap length is.proof.splits.propositional ∙ length-map r.propositional (λ (c : PropositionalClause). c.names))
+    ∙ ap (λ b. nat_lt r.modelled (length r.propositional) && b) (sym (none-of a.solver) ∙ ap is_none is.solver)
+  where
+    none-of : (o : Option SolverOut) → is_none (option_map solver_job o) ≡ is_none o
+    none-of None = refl
+    none-of (Some s) = refl
 
 gives-some : (r : PoolRecord) (choice : Choice) (ns : List ℕ) → is_some (picked r choice ns) ≡ not (length ns == 0)
 gives-some r Light [] = refl
@@ -72,33 +51,44 @@ ready-count : (r : PoolRecord) (ns : List ℕ) → length (map (pair_of r) ns) �
 ready-count r [] = refl
 ready-count r (n ∷ ns) = ap suc (ready-count r ns)
 
-gives : (a : Inside) (r : PoolRecord) → IsStateOf a r → can_give r ≡ not (length a.proof.queue.pairs == 0)
+pub gives : (a : Inside) (r : PoolRecord) → IsStateOf a r → can_give r ≡ not (length a.proof.queue.pairs == 0)
 gives a r is =
     gives-some r (next_choice r) (ready r)
     ∙ ap (λ k. not (k == 0)) (sym (ready-count r (ready r)) ∙ ap length (sym is.proof.queue))
 
-pub jobs-count : (a : Inside) (r : PoolRecord) → IsStateOf a r → jobs_out r ≡ length a.jobs.entries
+pub jobs-count : (a : Inside) (r : PoolRecord) → IsStateOf a r → jobs_out r ≡ length a.jobs.entries + (if is_some a.solver then 1 else 0)
 jobs-count a r is =
-    ap (λ (o : Option SolverJob). length r.given + (if is_some o then 1 else 0)) is.no_solver
-    ∙ plus-none (length r.given) ∙ sym (entries r.given) ∙ ap length (sym is.jobs)
+    ap₂ (λ (n m : ℕ). n + m) (sym (length-map r.given job_entry) ∙ ap length (sym is.jobs))
+    (ap (λ (o : Option SolverJob). if is_some o then 1 else 0) (sym is.solver) ∙ ap (λ b. if b then 1 else 0) (some-of a.solver))
   where
-    plus-none : (n : ℕ) → n + 0 ≡ n
-    plus-none n = omega arith
+    some-of : (o : Option SolverOut) → is_some (option_map solver_job o) ≡ is_some o
+    some-of None = refl
+    some-of (Some s) = refl
 
-    entries : (js : List GivenJob) → length (map job_entry js) ≡ length js
-    entries [] = refl
-    entries (j ∷ js) = ap suc (entries js)
+-- it is where nothing is to be solved, nothing waits, and no job is out
+pub rests :
+    (r : PoolRecord) → must_solve r ≡ false → can_give r ≡ false → (jobs_out r == 0) ≡ true → is_at_rest r ≡ true
+rests r solved given none =
+    and_from (not (must_solve r)) (not (can_give r) && (jobs_out r == 0)) (ap not solved)
+    (and_from (not (can_give r)) (jobs_out r == 0) (ap not given) none)
 
-pub rests : (a : Inside) (r : PoolRecord) → IsStateOf a r → is_at_rest r ≡ (length a.proof.queue.pairs == 0 && (length a.jobs.entries == 0))
-rests a r is =
-    ap (λ b. not b && (not (can_give r) && (jobs_out r == 0))) (nothing-to-solve a r is)
-    ∙ ap (λ b. not b && (jobs_out r == 0)) (gives a r is)
-    ∙ ap (λ b. b && (jobs_out r == 0)) (twice (length a.proof.queue.pairs == 0))
-    ∙ ap (λ k. (length a.proof.queue.pairs == 0) && (k == 0)) (jobs-count a r is)
+pub solves-first : (r : PoolRecord) → must_solve r ≡ true → is_at_rest r ≡ false
+solves-first r unsolved = ap (λ b. not b && (not (can_give r) && (jobs_out r == 0))) unsolved
+
+pub gives-first : (r : PoolRecord) → can_give r ≡ true → is_at_rest r ≡ false
+gives-first r gives_one = ap (λ b. not (must_solve r) && (not b && (jobs_out r == 0))) gives_one ∙ none (not (must_solve r))
   where
-    twice : (b : Bool) → not (not b) ≡ b
-    twice true = refl
-    twice false = refl
+    none : (b : Bool) → (b && false) ≡ false
+    none true = refl
+    none false = refl
+
+pub waits-first : (r : PoolRecord) → (jobs_out r == 0) ≡ false → is_at_rest r ≡ false
+waits-first r some = ap (λ b. not (must_solve r) && (not (can_give r) && b)) some ∙ none (not (must_solve r)) (not (can_give r))
+  where
+    none : (b c : Bool) → (b && (c && false)) ≡ false
+    none true true = refl
+    none true false = refl
+    none false c = refl
 
 -- ---- the outcome
 
@@ -112,10 +102,8 @@ ended-outcome a r is some = is.proof.ended ∙ by r.ended (ap is_some (sym is.pr
 pub open-outcome :
     (a : Inside) (r : PoolRecord)
     → IsStateOf a r → is_some a.proof.ended ≡ false
-    → outcome_of r ≡ (if length a.proof.queue.pairs == 0 && (length a.jobs.entries == 0) then Some (heavy_or_saturated (position (is_of_living r) r.set_aside)) else None)
-open-outcome a r is none =
-    ap (λ o. outcome_by o r) (sym is.proof.ended ∙ by a.proof.ended none)
-    ∙ ap (λ b. if b then Some (heavy_or_saturated (position (is_of_living r) r.set_aside)) else None) (rests a r is)
+    → outcome_of r ≡ (if is_at_rest r then Some (heavy_or_saturated (position (is_of_living r) r.set_aside)) else None)
+open-outcome a r is none = ap (λ o. outcome_by o r) (sym is.proof.ended ∙ by a.proof.ended none)
   where
     by : (o : Option Outcome) → is_some o ≡ false → o ≡ None
     by None h = refl

@@ -1,12 +1,12 @@
 -- A pool after a claim.
 use Rattle.std.proofs.Common.{◌≡◌, ℕ, suc, ◌+◌, ◌-◌, ◌%◌, ◌<◌, ◌≤◌, Bool, true, false, not, ◌&&◌, ◌||◌, ◌==◌, List, [], ◌∷◌, ◌++◌, map, length, append-nil, refl, ap, ap₂, sym, ◌∙◌, subst, ⊎_elim, arith}
-use Rattle.std.specs.Prelude.{Option, None, Some, cond, if◌then◌else◌, position, slice_get, is_some, option_map, unwrap_or, vec_len, vec_capacity, All, Contains, IsFalse}
+use Rattle.std.specs.Prelude.{Option, None, Some, cond, if◌then◌else◌, position, slice_get, is_some, option_map, unwrap_or, vec_len, vec_capacity, All, IsFalse}
 use Rattle.std.specs.List.{position_or_len}
 use Rattle.std.specs.Ordering.{nat_cmp}
 use Rattle.std.specs.BTreeMap.{insert_entry}
 use Rattle.std.proofs.Math.ListN.{set}
 use Rattle.std.proofs.Math.Seq.{map-set_same}
-use Rattle.std.proofs.lemmas.Bool.{true≢false, and_from, eq-eqb, ne_eqb, eqb-false, cond-true, cond-false, or_left, or_right}
+use Rattle.std.proofs.lemmas.Bool.{and_from, eq-eqb, ne_eqb, eqb-false, cond-true, cond-false, or_left, or_right}
 use Rattle.std.proofs.lemmas.List.{length-append, map-append}
 use Rattle.std.proofs.lemmas.List.Elements.{All-set, All-push, All-weaker}
 use Rattle.std.proofs.lemmas.List.Folds.{list_any-append, position_or_len_push}
@@ -15,11 +15,11 @@ use Rattle.kernel_steps.specs.Conclusion.{empty_clause}
 use Rattle.kernel_steps.specs.Split.{has_number}
 use Rattle.term_bank.specs.declared.table.Table.{Table}
 use Rattle.bank_clause.specs.Clause.{clause_at}
-use Rattle.clause_queue.specs.Pairs.{without, numbers}
+use Rattle.clause_queue.specs.Pairs.{without}
 use Rattle.pool_core.specs.Splits.{SplitView, AreSplitsOf, split_view}
 use Rattle.pool_core.specs.CountedList.{keys_in}
 use Rattle.pool_history.specs.Record.{PoolRecord, Registered, GivenJob, clauses_of, clause_numbered, position_of, given_job, jobs_out}
-use Rattle.pool_history.specs.Claiming.{ready, next_given, can_give, new_job}
+use Rattle.pool_history.specs.Claiming.{next_given, can_give, new_job}
 use Rattle.pool_history.specs.Replay.{Origin, after, replay}
 use Rattle.pool_history.specs.News.{TreeChange, changes_between, news_since, first_told}
 use Rattle.pool_core.specs.Noted.{IsNoted, IsNextTicket, clause_in, change_at}
@@ -28,7 +28,7 @@ use Rattle.pool_history.specs.Lawful.{IsAllowed}
 use Rattle.pool_history.specs.Solving.{must_solve}
 use Rattle.pool_history.specs.Outcomes.{outcome_of, outcome_by, heavy_or_saturated, is_of_living}
 use Rattle.pool_core.specs.KeptEvents.{events_of}
-use Rattle.pool_core.specs.Register.{at_position}
+use Rattle.clause_register.specs.Register.{at_position}
 use Rattle.pool_core.specs.Started.{registered_at, IsOfTable}
 use Rattle.pool_core.specs.State.{origin_of, IsRegistration, AreOfRegistered, IsStateOf, IsPool, job_entry, solver_job}
 use Rattle.pool_history.specs.declared.options.Options.{Options}
@@ -39,16 +39,15 @@ use Rattle.pool_core.specs.declared.pool.OutJob.{OutJob}
 use Rattle.pool_core.specs.declared.pool.Note.{Note}
 use Rattle.pool_core.specs.declared.pool.Note.TheVariants.{Activated}
 use Rattle.pool_core.specs.declared.pool.Pool.TheInside.{Inside}
-use Rattle.pool_core.specs.declared.register.Registration.{Registration}
+use Rattle.clause_register.specs.declared.register.Registration.{Registration}
 use Rattle.pool_history.specs.declared.ticket.Ticket.{Ticket}
 use Rattle.pool_history.proofs.AboutRecords.EditLemmas.{at-set, insert-last}
 use Rattle.pool_history.proofs.AboutRecords.FrameLemmas.{by-if}
 use Rattle.pool_history.proofs.AboutClaims.HistoryLemmas.{event-count, replay-end, news-end}
 use Rattle.pool_history.proofs.AboutBounds.JobLemmas.{Rising}
-use Rattle.pool_history.proofs.AboutClaims.PickLemmas.{given-in, number-in}
 use Rattle.pool_history.proofs.AboutRecords.ItemLemmas.{all-at, clause-numbered}
-use Rattle.pool_core.proofs.AboutRegister.RegisterLemmas.{found-place, position-end-new, position-end-old}
-use Rattle.pool_core.proofs.AboutClaims.StateLemmas.{rising-by, clause-in, record_of, pool-rises, one-more-event, clause-there, registered-count, given-count}
+use Rattle.clause_register.proofs.PlaceLemmas.{found-place, position-end-new, position-end-old}
+use Rattle.pool_core.proofs.AboutClaims.StateLemmas.{rising-by, clause-in, record_of, pool-rises, one-more-event, clause-there, registered-count, given-count, long-register, solver-few}
 use Rattle.pool_history.proofs.AboutClaims.ClaimedRecords.{absent-place, absent-position, after-claim, changes-claimed, claim_after, find-last, given-waits, has-no-position, has-position, positions_with, present-place, ready-claimed, told-first}
 
 -- ---- the pool after a claim
@@ -98,15 +97,17 @@ claimed-state :
     → All (IsOfTable b.table.bank b.table) b.proof.register.clauses
     → ((k : ℕ) (s : Registration) → slice_get b.proof.register.clauses k ≡ Some s → IsRegistration (claim_after a.options job n r ps) k s)
     → b.positions.items ≡ ps
-    → b.proof.queue.pairs ≡ without n a.proof.queue.pairs → b.proof.queue.spare ≡ a.proof.queue.spare + 1
+    → b.proof.queue.pairs ≡ without n a.proof.queue.pairs
+    → length b.proof.queue.pairs + b.proof.queue.spare ≡ length a.proof.queue.pairs + a.proof.queue.spare
     → b.jobs.entries ≡ insert_entry nat_cmp a.jobs.entries job (record { number = n; left = left })
     → b.proof.steps.items ≡ a.proof.steps.items → keys_in b.counted ≡ keys_in a.counted → b.set_aside.items ≡ a.set_aside.items
-    → b.proof.ended ≡ a.proof.ended → split_view b.proof.splits ≡ split_view a.proof.splits → b.solver ≡ a.solver
+    → b.proof.ended ≡ a.proof.ended → split_view b.proof.splits ≡ split_view a.proof.splits
+    → b.proof.asserting.entries ≡ a.proof.asserting.entries → b.solver ≡ a.solver
     → b.last_job ≡ job → b.place_in_round ≡ (a.place_in_round + 1) % 6
-    → vec_len b.history.events + (length r.given + 1) ≤ vec_capacity b.history.events
-    → vec_len b.notes_before + (length r.given + 1) ≤ vec_capacity b.notes_before
+    → vec_len b.history.events + (length r.given + 2) ≤ vec_capacity b.history.events
+    → vec_len b.notes_before + (length r.given + 2) ≤ vec_capacity b.notes_before
     → IsStateOf b (claim_after a.options job n r ps)
-claimed-state a b r n job left ps is next rise number remaining are register of_table registrations positions queue spare jobs steps counted set_aside ended splits solver last_job place events_room before_room = record {
+claimed-state a b r n job left ps is next rise number remaining are register of_table registrations positions queue nodes jobs steps counted set_aside ended splits asserting solver last_job place events_room before_room = record {
   proof = record {
     registered = register ∙ is.proof.registered;
     of_table = of_table;
@@ -116,9 +117,8 @@ claimed-state a b r n job left ps is next rise number remaining are register of_
     ended = ended ∙ is.proof.ended;
     splits = subst (λ (v : SplitView). AreSplitsOf v r.parts r.lines r.propositional r.model r.modelled) (sym splits) is.proof.splits;
     tags = is.proof.tags;
+    asserting = asserting ∙ is.proof.asserting;
     of_registered = told-of-claimed a.options job n ps r next are is.proof.of_registered;
-    no_propositional = is.proof.no_propositional;
-    no_names = is.proof.no_names;
     no_empty = is.proof.no_empty;
   };
   positions = positions;
@@ -133,10 +133,11 @@ claimed-state a b r n job left ps is next rise number remaining are register of_
   last_job = last_job;
   place = place ∙ next-place r.claims a.place_in_round is.place;
   solver = ap (option_map solver_job) solver ∙ is.solver;
-  no_solver = is.no_solver;
-  queue_room = let more = one-longer in let room = is.queue_room in omega (arith, more, spare, room);
-  history_room = let more = one-longer in omega (arith, more, events_room);
-  notes_room = let more = one-longer in omega (arith, more, before_room);
+  queue_room =
+      let room = is.queue_room in let same = long-register a.proof.register.clauses b.proof.register.clauses register in
+      omega (arith, room, same, nodes);
+  history_room = let more = one-longer in let few = solver-few r.solver in omega (arith, more, few, events_room);
+  notes_room = let more = one-longer in let few = solver-few r.solver in omega (arith, more, few, before_room);
 }
   where
     one-longer : length (r.given ++ new_job a.options job n (record r { positions = ps }) ∷ []) ≡ length r.given + 1
@@ -153,17 +154,18 @@ pub record IsGivenOutBy (a b : Inside) (n job left : ℕ) : Type 0 where
   pub origin : origin_of b ≡ origin_of a
   pub table : b.table ≡ a.table
   pub queue : b.proof.queue.pairs ≡ without n a.proof.queue.pairs
-  pub spare : b.proof.queue.spare ≡ a.proof.queue.spare + 1
+  pub nodes : length b.proof.queue.pairs + b.proof.queue.spare ≡ length a.proof.queue.pairs + a.proof.queue.spare
   pub jobs : b.jobs.entries ≡ insert_entry nat_cmp a.jobs.entries job (record { number = n; left = left })
   pub history : events_of b.history ≡ events_of a.history ++ Claim job ∷ []
-  pub history_room : vec_len b.history.events + (length a.jobs.entries + 1) ≤ vec_capacity b.history.events
+  pub history_room : vec_len b.history.events + (length a.jobs.entries + 2) ≤ vec_capacity b.history.events
   pub before : b.notes_before.items ≡ a.notes_before.items ++ length a.proof.notes.items ∷ []
-  pub before_room : vec_len b.notes_before + (length a.jobs.entries + 1) ≤ vec_capacity b.notes_before
+  pub before_room : vec_len b.notes_before + (length a.jobs.entries + 2) ≤ vec_capacity b.notes_before
   pub steps : b.proof.steps.items ≡ a.proof.steps.items
   pub counted : keys_in b.counted ≡ keys_in a.counted
   pub set_aside : b.set_aside.items ≡ a.set_aside.items
   pub ended : b.proof.ended ≡ a.proof.ended
   pub splits : split_view b.proof.splits ≡ split_view a.proof.splits
+  pub asserting : b.proof.asserting.entries ≡ a.proof.asserting.entries
   pub solver : b.solver ≡ a.solver
   pub last_job : b.last_job ≡ job
   pub place : b.place_in_round ≡ (a.place_in_round + 1) % 6
@@ -213,7 +215,7 @@ claimed-pool a b n job left place s is open_yet solved next there number remaini
         (subst (IsStateOf b) (sym is_after)
         (claimed-state a b r n job left ps st next (pool-rises a is) number remaining (sym are) register
         (subst (λ (t : Table). All (IsOfTable t.bank t) b.proof.register.clauses) (sym given.table) of_table)
-        registrations positions given.queue given.spare given.jobs given.steps given.counted given.set_aside given.ended given.splits given.solver given.last_job given.place
+        registrations positions given.queue given.nodes given.jobs given.steps given.counted given.set_aside given.ended given.splits given.asserting given.solver given.last_job given.place
         (let many = given-count a r st in let room = given.history_room in omega (arith, many, room))
         (let many = given-count a r st in let room = given.before_room in omega (arith, many, room))))
         register noted (told ∙ ap (changes_between r) (sym is_after)) within given.before
@@ -399,13 +401,7 @@ activated-by a b n place s ps notes same_positions same_notes register positions
       ∙ ap₂ (λ (qs : List ℕ) (xs : List Note). if place == length qs then xs ++ Activated n ∷ [] else xs) same_positions same_notes;
 }
 
--- the clause that is given leaves the queue
-pub in-queue : (a : Inside) (r : PoolRecord) (n : ℕ) → IsStateOf a r → next_given r ≡ Some n → Contains (numbers a.proof.queue.pairs) n
-in-queue a r n is next = subst (λ ps. Contains (numbers ps) n) (sym is.proof.queue) (number-in r n (ready r) (given-in r n next))
-
-pub one-spare : (b : Bool) (spare now : ℕ) → b ≡ true → now ≡ spare + (if b then 1 else 0) → now ≡ spare + 1
-one-spare true spare now is e = e
-one-spare false spare now is e = absurd (true≢false (sym is))
+-- ---- no value
 
 pub no-value : {X : Type 0} (o : Option X) → ((x : X) → o ≡ Some x → ⊥) → o ≡ None
 no-value None none = refl

@@ -1,46 +1,39 @@
 -- A pool after a job is given up.
-use Rattle.std.proofs.Common.{◌≡◌, ℕ, zero, suc, ◌+◌, ◌-◌, ◌<◌, ◌≤◌, Bool, true, false, not, ◌&&◌, ◌||◌, ◌==◌, List, [], ◌∷◌, ◌++◌, map, length, append-nil, refl, ap, ap₂, sym, ◌∙◌, subst, inl, inr, ◌⊎◌, ⊎_elim, arith}
-use Rattle.std.specs.Prelude.{Option, None, Some, cond, find, filter, option_map, slice_get, is_none, vec_len, vec_capacity, All, Contains}
+use Rattle.std.proofs.Common.{◌≡◌, ℕ, zero, suc, ◌+◌, ◌<◌, ◌≤◌, Bool, true, false, not, ◌&&◌, ◌||◌, ◌==◌, List, [], ◌∷◌, map, length, refl, ap, ap₂, sym, ◌∙◌, subst, inl, inr, ◌⊎◌, ⊎_elim, arith}
+use Rattle.std.specs.Prelude.{Option, None, Some, cond, find, filter, option_map, is_some, if◌then◌else◌, vec_len, vec_capacity, Contains}
 use Rattle.std.specs.List.{list_any, range_with_len, AllByRecursion}
 use Rattle.std.specs.Ordering.{nat_cmp}
 use Rattle.std.specs.BTreeMap.{is_at}
 use Rattle.std.specs.Map.{remove_entry, lookup}
-use Rattle.std.proofs.Math.Seq.{drop-length}
-use Rattle.std.proofs.lemmas.Bool.{true≢false, and_from, and_parts, eqb-true, not_from_false, cases_eq}
+use Rattle.std.proofs.lemmas.Bool.{true≢false, and_from, eqb-true, eq-eqb, not_from_false, cases_eq}
 use Rattle.std.proofs.lemmas.List.Elements.{All-filter}
 use Rattle.std.proofs.lemmas.Option.{none-some, same_Some}
 use Rattle.fol_base.specs.Clause.{clause_size}
 use Rattle.kernel_steps.specs.Split.{has_number}
+use Rattle.term_bank.specs.declared.bank.Bank.{Bank}
 use Rattle.term_bank.specs.declared.table.Table.{Table}
-use Rattle.bank_clause.specs.Clause.{clause_at}
-use Rattle.clause_queue.specs.Pairs.{Waiting, with_pair, without, numbers, IsAbsent, IsRising}
+use Rattle.clause_queue.specs.Pairs.{with_pair, without, numbers, IsAbsent, IsRising}
 use Rattle.clause_queue.proofs.Numbers.{lacks_from}
 use Rattle.clause_queue.proofs.PairsLemmas.{absent-without}
 use Rattle.clause_queue.proofs.PutBack.{put_back_restores}
-use Rattle.pool_core.specs.Splits.{SplitView, AreSplitsOf, split_view}
-use Rattle.pool_core.specs.CountedList.{keys_in}
-use Rattle.pool_history.specs.Record.{PoolRecord, GivenJob, Death, clause_numbered, numbers_of, lives, is_out, waits, is_awake, given_job, without_job}
+use Rattle.pool_history.specs.Record.{PoolRecord, GivenJob, SolverJob, clause_numbered, numbers_of, lives, is_out, waits, is_awake, given_job, jobs_out, without_job}
 use Rattle.pool_history.specs.Claiming.{ready, pair_of}
 use Rattle.pool_history.specs.Replay.{after, without_solver}
-use Rattle.pool_history.specs.News.{TreeChange}
-use Rattle.pool_core.specs.Noted.{IsNoted}
-use Rattle.pool_core.specs.Started.{registered_at, IsOfTable}
 use Rattle.pool_core.specs.KeptEvents.{events_of}
-use Rattle.pool_history.specs.Lawful.{IsOut}
-use Rattle.pool_core.specs.State.{origin_of, solver_job, AreOfRegistered, IsStateOf, IsPool}
+use Rattle.pool_history.specs.Lawful.{IsAllowed, IsOut}
+use Rattle.pool_core.specs.State.{origin_of, solver_job, AreOfRegistered, IsProofStateOf, IsStateOf, IsPool}
 use Rattle.pool_history.specs.declared.event.Event.{Event}
 use Rattle.pool_history.specs.declared.event.Event.TheVariants.{Abandon}
 use Rattle.pool_history.specs.declared.options.Options.{Options}
 use Rattle.pool_core.specs.declared.pool.OutJob.{OutJob}
+use Rattle.pool_core.specs.declared.pool.ProofState.{ProofState}
 use Rattle.pool_core.specs.declared.pool.Pool.TheInside.{Inside}
-use Rattle.pool_core.specs.declared.register.Registration.{Registration}
 use Rattle.pool_history.proofs.AboutRecords.EditLemmas.{filter-less, filter-pairs, remove-filter, lookup-find}
 use Rattle.pool_history.proofs.AboutClaims.HandLemmas.{AreInHand, hands-of, others-apart, all-none, all-found}
 use Rattle.pool_history.proofs.AboutBounds.JobLemmas.{Rising, none-removed}
-use Rattle.pool_core.proofs.AboutBeginnings.LivingLemmas.{lives-there, awake-there, registered-there}
 use Rattle.pool_history.proofs.AboutClaims.PickLemmas.{In, RiseFrom, filter-rises, contains-in}
-use Rattle.pool_core.proofs.AboutClaims.StateLemmas.{rising-by, clause-there, record_of, pool-rises, one-more-event, registered-count}
-use Rattle.pool_history.proofs.AboutRecords.ItemLemmas.{clause-numbered}
+use Rattle.pool_core.proofs.AboutClaims.QuietLemmas.{IsQuietBy, quiet-pool}
+use Rattle.pool_core.proofs.AboutClaims.StateLemmas.{rising-by, record_of, pool-rises}
 
 -- ---- one job less
 
@@ -94,6 +87,10 @@ module _ (job : ℕ) where
 
 abbrev pub given_up : Options → ℕ → PoolRecord → PoolRecord
 given_up options job r = after options r (Abandon job)
+
+-- the job isn't on a given clause any more, and the solver has that job then
+abbrev pub let_go : Option SolverJob → ℕ → PoolRecord → PoolRecord
+let_go solver job r = record r { given = without_job job r.given; solver = solver; events = r.events + 1 }
 
 -- the clause was in no other hand, so it is in none
 pub in-no-hand :
@@ -228,45 +225,94 @@ absent-from-ready options job low high r j pairs rise found are =
 
 -- ---- the job that is out
 
--- since no solver is out it is on a given clause
-pub out-given : (r : PoolRecord) (job : ℕ) → r.solver ≡ None → IsOut r job → (j : GivenJob) × (given_job r job ≡ Some j)
-out-given r job none (inl given) = (given.given, given.out)
-out-given r job none (inr solver) = absurd (none-some solver.solver (sym none ∙ solver.out))
+abbrev out_of : GivenJob → OutJob
+out_of j = record { number = j.number; left = j.left }
+
+entries-found :
+    (a : Inside) (r : PoolRecord) (job : ℕ)
+    → IsStateOf a r → Rising 0 r.jobs r.given → lookup (is_at (nat_cmp job)) a.jobs.entries ≡ option_map out_of (given_job r job)
+entries-found a r job is rise =
+    ap (lookup (is_at (nat_cmp job))) is.jobs
+    ∙ lookup-find (λ (i : GivenJob). i.job) out_of 0 r.jobs job r.given (rising-by 0 r.jobs r.given rise)
 
 pub entry-out :
     (a : Inside) (r : PoolRecord) (job : ℕ) (j : GivenJob)
     → IsStateOf a r → Rising 0 r.jobs r.given → given_job r job ≡ Some j
     → lookup (is_at (nat_cmp job)) a.jobs.entries ≡ Some (record { number = j.number; left = j.left })
-entry-out a r job j is rise found =
-    ap (lookup (is_at (nat_cmp job))) is.jobs
-    ∙ lookup-find (λ (i : GivenJob). i.job) (λ (i : GivenJob). let o : OutJob = record { number = i.number; left = i.left } in o) 0 r.jobs job r.given
-    (rising-by 0 r.jobs r.given rise)
-    ∙ ap (option_map (λ (i : GivenJob). let o : OutJob = record { number = i.number; left = i.left } in o)) found
+entry-out a r job j is rise found = entries-found a r job is rise ∙ ap (option_map out_of) found
+
+-- an entry that is found is of a job that is out
+pub record IsOutBy (r : PoolRecord) (job n : ℕ) : Type 0 where
+  pub given : GivenJob
+  pub found : given_job r job ≡ Some given
+  pub same : given.number ≡ n
+
+pub out-by :
+    (a : Inside) (r : PoolRecord) (job : ℕ) (out : OutJob)
+    → IsStateOf a r → Rising 0 r.jobs r.given → lookup (is_at (nat_cmp job)) a.jobs.entries ≡ Some out → IsOutBy r job out.number
+out-by a r job out is rise there = by (given_job r job) refl
+  where
+    by : (o : Option GivenJob) → given_job r job ≡ o → IsOutBy r job out.number
+    by None none = absurd (none-some out (sym (ap (option_map out_of) none) ∙ sym (entries-found a r job is rise) ∙ there))
+    by (Some j) found = record {
+      given = j;
+      found = found;
+      same =
+          ap (λ (e : OutJob). e.number)
+          (same_Some (out_of j) out (sym (ap (option_map out_of) found) ∙ sym (entries-found a r job is rise) ∙ there));
+    }
+
+-- where none is found, the job is on no given clause
+pub out-nowhere :
+    (a : Inside) (r : PoolRecord) (job : ℕ)
+    → IsStateOf a r → Rising 0 r.jobs r.given → lookup (is_at (nat_cmp job)) a.jobs.entries ≡ None → given_job r job ≡ None
+out-nowhere a r job is rise none = by (given_job r job) refl
+  where
+    by : (o : Option GivenJob) → given_job r job ≡ o → o ≡ None
+    by None nothing = refl
+    by (Some j) found = absurd (none-some (out_of j) (sym none ∙ entries-found a r job is rise ∙ ap (option_map out_of) found))
+
+-- ---- one job less is out
+
+abbrev one_if : Option SolverJob → ℕ
+one_if o = if is_some o then 1 else 0
+
+solver-left : (job : ℕ) (o : Option SolverJob) → one_if (without_solver job o) ≤ one_if o
+solver-left job None = omega arith
+solver-left job (Some s) = by (s.job == job)
+  where
+    by : (b : Bool) → one_if (if b then None else Some s) ≤ 1
+    by true = omega arith
+    by false = omega arith
+
+given-left : (job : ℕ) (js : List GivenJob) → length (without_job job js) ≤ length js
+given-left job [] = omega arith
+given-left job (j ∷ js) = by (not (j.job == job)) (given-left job js)
+  where
+    by : (b : Bool) → length (without_job job js) ≤ length js → length (cond b (j ∷ without_job job js) (without_job job js)) ≤ suc (length js)
+    by true rest = omega (arith, rest)
+    by false rest = omega (arith, rest)
+
+pub fewer-out :
+    (job : ℕ) (r : PoolRecord)
+    → Rising 0 r.jobs r.given → IsOut r job → (length (without_job job r.given) + one_if (without_solver job r.solver)) + 1 ≤ length r.given + one_if r.solver
+fewer-out job r rise (inl given) =
+    let one = length-without job 0 r.jobs r.given given.given rise given.out in
+    let left = solver-left job r.solver in
+    omega (arith, one, left)
+fewer-out job r rise (inr solver) =
+    let none : one_if (without_solver job r.solver) ≡ 0 =
+    ap (λ (o : Option SolverJob). one_if (without_solver job o)) solver.out
+    ∙ ap (λ b. one_if (if b then None else Some solver.solver)) (eq-eqb solver.solver.job job solver.same) in
+    let one : one_if r.solver ≡ 1 = ap one_if solver.out in
+    let left = given-left job r.given in
+    omega (arith, none, one, left)
+
+-- so one is out, for whose event there is room
+pub some-out : (job : ℕ) (r : PoolRecord) → Rising 0 r.jobs r.given → IsOut r job → 1 ≤ jobs_out r
+some-out job r rise out = let less = fewer-out job r rise out in omega (arith, less)
 
 -- ---- the pool
-
--- what giving up a job changes, and what it keeps
-pub record IsGivenUpBy (a b : Inside) (job : ℕ) (e : Event) : Type 0 where
-  pub origin : origin_of b ≡ origin_of a
-  pub table : b.table ≡ a.table
-  pub register : b.proof.register.clauses ≡ a.proof.register.clauses
-  pub positions : b.positions.items ≡ a.positions.items
-  pub jobs : b.jobs.entries ≡ remove_entry (is_at (nat_cmp job)) a.jobs.entries
-  pub history : events_of b.history ≡ events_of a.history ++ e ∷ []
-  pub history_len : vec_len b.history.events ≡ vec_len a.history.events + 1
-  pub history_room : vec_capacity b.history.events ≡ vec_capacity a.history.events
-  pub notes : b.proof.notes.items ≡ a.proof.notes.items
-  pub before : b.notes_before.items ≡ a.notes_before.items ++ length a.proof.notes.items ∷ []
-  pub before_len : vec_len b.notes_before ≡ vec_len a.notes_before + 1
-  pub before_room : vec_capacity b.notes_before ≡ vec_capacity a.notes_before
-  pub steps : b.proof.steps.items ≡ a.proof.steps.items
-  pub counted : keys_in b.counted ≡ keys_in a.counted
-  pub set_aside : b.set_aside.items ≡ a.set_aside.items
-  pub ended : b.proof.ended ≡ a.proof.ended
-  pub splits : split_view b.proof.splits ≡ split_view a.proof.splits
-  pub solver : b.solver ≡ a.solver
-  pub last_job : b.last_job ≡ a.last_job
-  pub place : b.place_in_round ≡ a.place_in_round
 
 -- what is told of fewer jobs
 pub told-without : (job : ℕ) (r : PoolRecord) → AreOfRegistered r → AreOfRegistered (record r { given = without_job job r.given })
@@ -278,156 +324,118 @@ told-without job r told = record {
   victims = told.victims;
 }
 
-pub given-up-state :
-    (a b : Inside) (r : PoolRecord) (job : ℕ) (e : Event) (j : GivenJob)
-    → IsStateOf a r → Rising 0 r.jobs r.given → given_job r job ≡ Some j → IsGivenUpBy a b job e
-    → b.proof.queue.pairs ≡ map (pair_of (given_up a.options job r)) (ready (given_up a.options job r)) → a.proof.queue.spare ≤ b.proof.queue.spare + 1
-    → IsStateOf b (given_up a.options job r)
-given-up-state a b r job e j is rise found by queue spare = record {
-  proof = record {
-    registered = ap (map registered_at) by.register ∙ is.proof.registered;
-    of_table =
-        subst (λ (t : Table). All (IsOfTable t.bank t) b.proof.register.clauses) (sym by.table)
-        (subst (All (IsOfTable a.table.bank a.table)) (sym by.register) is.proof.of_table);
-    registrations = λ k s there.
-        let was = is.proof.registrations k s (ap (λ ss. slice_get ss k) (sym by.register) ∙ there) in
-        record { position = was.position; death = was.death; active = was.active };
-    queue = queue;
-    steps = by.steps ∙ is.proof.steps;
-    ended = by.ended ∙ is.proof.ended;
-    splits = subst (λ (v : SplitView). AreSplitsOf v r.parts r.lines r.propositional r.model r.modelled) (sym by.splits) is.proof.splits;
-    tags = is.proof.tags;
-    of_registered = let told = told-without job r is.proof.of_registered in
-        record { positions = told.positions; active = told.active; given = told.given; placed = told.placed; victims = told.victims };
-    no_propositional = is.proof.no_propositional;
-    no_names = is.proof.no_names;
-    no_empty = is.proof.no_empty;
-  };
-  positions = by.positions ∙ is.positions;
-  jobs =
-      by.jobs ∙ ap (remove_entry (is_at (nat_cmp job))) is.jobs
-      ∙ remove-filter (λ (i : GivenJob). i.job) (λ (i : GivenJob). let o : OutJob = record { number = i.number; left = i.left } in o) 0 r.jobs job r.given
-      (rising-by 0 r.jobs r.given rise);
-  counted = by.counted ∙ is.counted;
-  set_aside = by.set_aside ∙ is.set_aside;
-  last_job = by.last_job ∙ is.last_job;
-  place = by.place ∙ is.place;
-  solver = ap (option_map solver_job) by.solver ∙ is.solver ∙ is.no_solver ∙ sym (ap (without_solver job) is.no_solver);
-  no_solver = ap (without_solver job) is.no_solver;
-  queue_room = let less = one in let room = is.queue_room in omega (arith, less, spare, room);
-  history_room = let less = one in let room = is.history_room in omega (arith, less, by.history_len, by.history_room, room);
-  notes_room = let less = one in let room = is.notes_room in omega (arith, less, by.before_len, by.before_room, room);
-}
-  where
-    one : length r.given ≡ length (without_job job r.given) + 1
-    one = length-without job 0 r.jobs r.given j rise found
+-- the fields without the job, where the queue is what it is to be
+pub let-go-proof :
+    (bank : Bank) (table : Table) (s t : ProofState) (r : PoolRecord) (job : ℕ) (solver : Option SolverJob)
+    → t ≡ record s { queue = t.queue }
+    → t.queue.pairs ≡ map (pair_of (let_go solver job r)) (ready (let_go solver job r))
+    → IsProofStateOf bank table s r → IsProofStateOf bank table t (let_go solver job r)
+let-go-proof bank table s t r job solver same queue is =
+    subst (λ (u : ProofState). IsProofStateOf bank table u (let_go solver job r)) (sym same) (record {
+      registered = is.registered;
+      of_table = is.of_table;
+      registrations = λ k z there. let was = is.registrations k z there in record { position = was.position; death = was.death; active = was.active };
+      queue = queue;
+      steps = is.steps;
+      ended = is.ended;
+      splits = is.splits;
+      tags = is.tags;
+      asserting = is.asserting;
+      of_registered = let told = told-without job r is.of_registered in
+          record { positions = told.positions; active = told.active; given = told.given; placed = told.placed; victims = told.victims };
+      no_empty = is.no_empty;
+    })
 
-pub given-up-pool :
-    (a b : Inside) (job : ℕ) (j : GivenJob)
-    → IsPool a → given_job (record_of a) job ≡ Some j → IsGivenUpBy a b job (Abandon job)
-    → b.proof.queue.pairs ≡ map (pair_of (given_up a.options job (record_of a))) (ready (given_up a.options job (record_of a))) → a.proof.queue.spare ≤ b.proof.queue.spare + 1
+-- an event lets a job go: its entry goes, and the event takes one place
+pub record IsLetGoBy (a b : Inside) (job : ℕ) : Type 0 where
+  pub jobs : b.jobs.entries ≡ remove_entry (is_at (nat_cmp job)) a.jobs.entries
+  pub last_job : b.last_job ≡ a.last_job
+  pub history_len : vec_len b.history.events ≡ vec_len a.history.events + 1
+  pub history_room : vec_capacity b.history.events ≡ vec_capacity a.history.events
+  pub before_len : vec_len b.notes_before ≡ vec_len a.notes_before + 1
+  pub before_room : vec_capacity b.notes_before ≡ vec_capacity a.notes_before
+
+pub let-go-pool :
+    (a b : Inside) (e : Event) (job : ℕ) (solver : Option SolverJob)
+    → IsPool a → after a.options (record_of a) e ≡ let_go solver job (record_of a)
+    → ((is_predicate : ℕ → Bool) → IsAllowed is_predicate a.options (record_of a) e)
+    → jobs_out (let_go solver job (record_of a)) + 1 ≤ jobs_out (record_of a)
+    → IsQuietBy a b e → IsLetGoBy a b job → option_map solver_job b.solver ≡ solver
+    → length b.proof.queue.pairs + b.proof.queue.spare ≡ length a.proof.queue.pairs + a.proof.queue.spare
+    → IsProofStateOf b.table.bank b.table b.proof (let_go solver job (record_of a))
     → IsPool b
-given-up-pool a b job j is found by queue spare =
-    one-more-event a b (Abandon job) [] is by.origin by.history
-    (λ is_predicate. inl (record { given = j; out = found; says = tt }))
-    (given-up-state a b (record_of a) job (Abandon job) j is.state (pool-rises a is) found by queue spare)
-    (ap (map registered_at) by.register)
-    (by.notes ∙ sym (append-nil a.proof.notes.items))
-    (sym (ap₂ (λ (ns : List ℕ) (ds : List Death). map (λ k. TreeChange.activated k (clause_numbered (record_of a) k)) ns ++ map (λ (d : Death). TreeChange.died d.victim) ds)
-    (drop-length (record_of a).positions) (drop-length (record_of a).deaths)))
-    (subst (All (IsNoted (length a.proof.register.clauses))) (sym by.notes) is.news.noted)
-    by.before
+let-go-pool a b e job solver is comes allowed fewer quiet by solving nodes proof =
+    quiet-pool a b e (let_go solver job r) is comes allowed
+    (record { positions = refl; deaths = refl; claims = refl; counted = refl; set_aside = refl }) quiet
+    (record {
+      jobs =
+          by.jobs ∙ ap (remove_entry (is_at (nat_cmp job))) is.state.jobs
+          ∙ remove-filter (λ (i : GivenJob). i.job) out_of 0 r.jobs job r.given (rising-by 0 r.jobs r.given (pool-rises a is));
+      solver = solving;
+      last_job = by.last_job ∙ is.state.last_job;
+      queue_room = let room = is.state.queue_room in let same = ap length quiet.register in omega (arith, room, same, nodes);
+      history_room = let enough = is.state.history_room in omega (arith, fewer, enough, by.history_len, by.history_room);
+      notes_room = let enough = is.state.notes_room in omega (arith, fewer, enough, by.before_len, by.before_room);
+    })
+    proof
+  where
+    r : PoolRecord
+    r = record_of a
 
--- ---- the job that a pool gives up
+-- ---- a job that is given up
 
 pub pool-hands : (a : Inside) → IsPool a → AreInHand (record_of a)
 pool-hands a is =
     let wf = is.inputs.well_formed in
     hands-of wf.usage.is_predicate (origin_of a) (events_of a.history) (is.lawful wf.usage wf.used)
 
--- it is on a given clause, whose entry is there
-pub record IsOutBy (a : Inside) (job : ℕ) : Type 0 where
-  pub given : GivenJob
-  pub found : given_job (record_of a) job ≡ Some given
-  pub entry : lookup (is_at (nat_cmp job)) a.jobs.entries ≡ Some (record { number = given.number; left = given.left })
-  pub there : given.number < length a.proof.register.clauses
-  pub some : 1 ≤ length (record_of a).given
-  pub spare : 1 ≤ a.proof.queue.spare
+-- the given clause isn't in the queue
+pub absent-out :
+    (a : Inside) (job n : ℕ) → IsPool a → IsOutBy (record_of a) job n → Contains (numbers a.proof.queue.pairs) n → ⊥
+absent-out a job n is out there =
+    absent-from-ready a.options job 0 (record_of a).jobs (record_of a) out.given a.proof.queue.pairs (pool-rises a is) out.found is.state.proof.queue
+    (subst (Contains (numbers a.proof.queue.pairs)) (sym out.same) there)
 
-pub out-by : (a : Inside) (job : ℕ) → IsPool a → IsOut (record_of a) job → IsOutBy a job
-out-by a job is out =
-    let r : PoolRecord = record_of a in
-    let given = out-given r job is.state.no_solver out in
-    let rise = pool-rises a is in
-    record {
-      given = given.0;
-      found = given.1;
-      entry = entry-out a r job given.0 is.state rise given.1;
-      there =
-          let below = all-found (λ (i : GivenJob). i.number < length r.registered) job r.given given.0 (pool-hands a is).known given.1 in
-          let same = registered-count a r is.state in
-          omega (arith, below, same);
-      some = let one = length-without job 0 r.jobs r.given given.0 rise given.1 in omega (arith, one);
-      spare =
-          let one = length-without job 0 r.jobs r.given given.0 rise given.1 in
-          let room = is.state.queue_room in
-          omega (arith, one, room);
-    }
+module _ (a : Inside) (job n : ℕ) (is : IsPool a) (out : IsOutBy (record_of a) job n) where
+  abbrev r : PoolRecord
+  r = record_of a
 
--- the number of the entry that was there
-pub number-out : (a : Inside) (job : ℕ) (o : Option OutJob) (out : OutJob) (by : IsOutBy a job) → o ≡ lookup (is_at (nat_cmp job)) a.jobs.entries → o ≡ Some out → out.number ≡ by.given.number
-number-out a job o out by was is = ap (λ (e : OutJob). e.number) (same_Some out (record { number = by.given.number; left = by.given.left }) (sym is ∙ was ∙ by.entry))
+  abbrev s : PoolRecord
+  s = given_up a.options job r
 
--- it isn't in the queue
-pub absent-out : (a : Inside) (job n : ℕ) (by : IsOutBy a job) → IsPool a → n ≡ by.given.number → Contains (numbers a.proof.queue.pairs) n → ⊥
-absent-out a job n by is same there =
-    absent-from-ready a.options job 0 (record_of a).jobs (record_of a) by.given a.proof.queue.pairs (pool-rises a is) by.found is.state.proof.queue
-    (subst (Contains (numbers a.proof.queue.pairs)) same there)
+  -- where it lives it waits, and is all that the queue may lack
+  pub waits-then : lives r n ≡ true → waits s n ≡ true
+  waits-then alive =
+      subst (λ k. waits s k ≡ true) out.same
+      (waits-again a.options job r out.given (pool-hands a is) out.found (subst (λ k. lives r k ≡ true) (sym out.same) alive))
 
--- where its clause lives it comes back into the queue
-pub given-up-living :
-    (a b : Inside) (job n size : ℕ) (s : Registration) (by : IsOutBy a job)
-    → IsPool a → IsGivenUpBy a b job (Abandon job) → n ≡ by.given.number → slice_get a.proof.register.clauses n ≡ Some s → is_none s.death ≡ true → size ≡ clause_size (clause_at s.clause)
-    → b.proof.queue.pairs ≡ with_pair (n, size) a.proof.queue.pairs → b.proof.queue.spare ≡ a.proof.queue.spare - 1
-    → IsPool b
-given-up-living a b job n size s by is changed same there alive weight pairs spare =
-    given-up-pool a b job by.given is by.found changed
-    (pairs
-    ∙ ap₂ (λ (p : ℕ × ℕ) (ps : List (ℕ × ℕ)). with_pair p ps)
-    (ap₂ (λ (k w : ℕ). let p : ℕ × ℕ = (k, w) in p) same
-    (weight ∙ ap clause_size (sym (clause-numbered r n (clause_at s.clause) (clause-there a r n s is.state there))) ∙ ap (λ k. clause_size (clause_numbered r k)) same))
+  pub queue-lacks : (pairs : List (ℕ × ℕ)) → pairs ≡ a.proof.queue.pairs → pairs ≡ without n (map (pair_of s) (ready s))
+  queue-lacks pairs kept =
+      kept ∙ is.state.proof.queue ∙ ready-given_up a.options job 0 r.jobs r out.given (pool-rises a is) out.found
+      ∙ ap (λ k. without k (map (pair_of s) (ready s))) out.same
+
+  -- where it has died the queue stays
+  pub queue-dead : lives r n ≡ false → a.proof.queue.pairs ≡ map (pair_of s) (ready s)
+  queue-dead dead =
+      is.state.proof.queue
+      ∙ ap (map (pair_of r))
+      (sym (ready-dead a.options job 0 r.jobs r out.given (pool-rises a is) out.found (ap (lives r) out.same ∙ dead)))
+
+-- and where the job is on no given clause
+pub queue-nowhere :
+    (a : Inside) (job : ℕ) → IsPool a → given_job (record_of a) job ≡ None
+    → a.proof.queue.pairs ≡ map (pair_of (given_up a.options job (record_of a))) (ready (given_up a.options job (record_of a)))
+queue-nowhere a job is none =
     is.state.proof.queue
-    ∙ put-back a.options job 0 r.jobs r by.given (pool-rises a is) (pool-hands a is) by.found
-    (subst (λ k. lives r k ≡ true) same (and_parts (lives r n) (is_awake r n) both).0)
-    (subst (λ k. is_awake r k ≡ true) same (and_parts (lives r n) (is_awake r n) both).1))
-    (omega (arith, spare))
+    ∙ ap (λ (js : List GivenJob). map (pair_of (record_of a)) (ready (record (record_of a) { given = js }))) (sym (nothing-goes job (record_of a).given none))
   where
-    r : PoolRecord
-    r = record_of a
-
-    both : (lives r n && is_awake r n) ≡ true
-    both = sym (lives-there a r n s is.state there) ∙ alive
-
--- where it has died the queue stays
-pub given-up-dead :
-    (a b : Inside) (job n : ℕ) (s : Registration) (by : IsOutBy a job)
-    → IsPool a → IsGivenUpBy a b job (Abandon job) → n ≡ by.given.number → slice_get a.proof.register.clauses n ≡ Some s → is_none s.death ≡ false
-    → b.proof.queue ≡ a.proof.queue
-    → IsPool b
-given-up-dead a b job n s by is changed same there dead queue =
-    given-up-pool a b job by.given is by.found changed
-    (ap (λ (q : Waiting). q.pairs) queue ∙ is.state.proof.queue
-    ∙ ap (map (pair_of r)) (sym (ready-dead a.options job 0 r.jobs r by.given (pool-rises a is) by.found (subst (λ k. lives r k ≡ false) same not_living))))
-    (let equal = ap (λ (q : Waiting). q.spare) queue in omega (arith, equal))
-  where
-    r : PoolRecord
-    r = record_of a
-
-    not_living : lives r n ≡ false
-    not_living =
-        sym (and-true (lives r n)) ∙ ap (λ b. lives r n && b) (sym (awake-there a r n (registered_at s) is.state (registered-there a r n s is.state there)))
-        ∙ sym (lives-there a r n s is.state there) ∙ dead
+    nothing-goes : (job : ℕ) (js : List GivenJob) → find (λ (i : GivenJob). i.job == job) js ≡ None → without_job job js ≡ js
+    nothing-goes job [] none = refl
+    nothing-goes job (j ∷ js) none = by (j.job == job) none (nothing-goes job js)
       where
-        and-true : (b : Bool) → (b && true) ≡ b
-        and-true true = refl
-        and-true false = refl
+        by :
+            (b : Bool) → cond b (Some j) (find (λ (i : GivenJob). i.job == job) js) ≡ None
+            → (find (λ (i : GivenJob). i.job == job) js ≡ None → without_job job js ≡ js)
+            → cond (not b) (j ∷ without_job job js) (without_job job js) ≡ j ∷ js
+        by true found rest = absurd (none-some j (sym found))
+        by false none rest = ap (λ (ks : List GivenJob). j ∷ ks) (rest none)

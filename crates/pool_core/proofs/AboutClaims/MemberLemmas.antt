@@ -1,6 +1,6 @@
 -- The members of a pool, number by number.
 use Rattle.std.proofs.Common.{◌≡◌, ℕ, ◌+◌, Bool, true, false, ◌&&◌, List, [], ◌∷◌, ◌++◌, map, add-one, append-nil, refl, ap, ap₂, sym, ◌∙◌, subst, arith}
-use Rattle.std.specs.Prelude.{Some, cond, filter, is_none, slice_get}
+use Rattle.std.specs.Prelude.{Some, cond, filter, slice_get}
 use Rattle.std.specs.List.{range_with_len}
 use Rattle.std.proofs.lemmas.List.{map-append}
 use Rattle.std.proofs.lemmas.List.Elements.{All-nil, All-push}
@@ -9,10 +9,9 @@ use Rattle.bank_clause.specs.Clause.{clause_at, IsClauseOf, IsMemberOf, AreMembe
 use Rattle.bank_clause.specs.declared.member.Member.{Member}
 use Rattle.pool_history.specs.Record.{PoolRecord, clause_numbered, lives, is_awake}
 use Rattle.pool_core.specs.State.{IsStateOf}
-use Rattle.pool_core.specs.declared.register.Registration.{Registration}
+use Rattle.clause_register.specs.declared.register.Registration.{Registration}
 use Rattle.pool_core.specs.declared.pool.Pool.TheInside.{Inside}
 use Rattle.pool_history.proofs.AboutRecords.EditLemmas.{filter-more}
-use Rattle.pool_core.proofs.AboutBeginnings.LivingLemmas.{lives-there}
 use Rattle.pool_core.proofs.AboutClaims.StateLemmas.{one-of-bank, clause-there}
 use Rattle.pool_history.proofs.AboutRecords.ItemLemmas.{clause-numbered}
 
@@ -36,10 +35,10 @@ pub record AreMembersUpTo (bank : ℕ) (r : PoolRecord) (n : ℕ) (members : Lis
 pub no-members : (bank : ℕ) (r : PoolRecord) → AreMembersUpTo bank r 0 []
 no-members bank r = record { numbers = refl; clauses = refl; of_bank = All-nil (IsMemberOf bank) }
 
--- a living clause is one more
+-- a living clause that is awake is one more
 pub one-member :
     (a : Inside) (bank : ℕ) (r : PoolRecord) (n : ℕ) (s : Registration) (m : Member) (members more : List Member)
-    → bank ≡ a.table.bank → IsStateOf a r → slice_get a.proof.register.clauses n ≡ Some s → is_none s.death ≡ true → m.number ≡ n → m.clause ≡ s.clause
+    → bank ≡ a.table.bank → IsStateOf a r → slice_get a.proof.register.clauses n ≡ Some s → (lives r n && is_awake r n) ≡ true → m.number ≡ n → m.clause ≡ s.clause
     → more ≡ members ++ m ∷ [] → AreMembersUpTo bank r n members → AreMembersUpTo bank r (n + 1) more
 one-member a bank r n s m members more same_bank is there alive number clause one so_far = record {
   numbers =
@@ -58,17 +57,17 @@ one-member a bank r n s m members more same_bank is there alive number clause on
 }
   where
     longer : first_members r (n + 1) ≡ first_members r n ++ n ∷ []
-    longer = members-more r n true (sym (lives-there a r n s is there) ∙ alive)
+    longer = members-more r n true alive
 
--- a dead one is none
+-- a dead one and one that sleeps are none
 pub no-member :
-    (a : Inside) (bank : ℕ) (r : PoolRecord) (n : ℕ) (s : Registration) (members : List Member)
-    → IsStateOf a r → slice_get a.proof.register.clauses n ≡ Some s → is_none s.death ≡ false → AreMembersUpTo bank r n members → AreMembersUpTo bank r (n + 1) members
-no-member a bank r n s members is there dead so_far = record {
+    (bank : ℕ) (r : PoolRecord) (n : ℕ) (members : List Member)
+    → (lives r n && is_awake r n) ≡ false → AreMembersUpTo bank r n members → AreMembersUpTo bank r (n + 1) members
+no-member bank r n members other so_far = record {
   numbers = so_far.numbers ∙ sym same;
   clauses = so_far.clauses ∙ ap (map (clause_numbered r)) (sym same);
   of_bank = so_far.of_bank;
 }
   where
     same : first_members r (n + 1) ≡ first_members r n
-    same = members-more r n false (sym (lives-there a r n s is there) ∙ dead) ∙ append-nil (first_members r n)
+    same = members-more r n false other ∙ append-nil (first_members r n)

@@ -1,6 +1,6 @@
 -- What a pool's fields keep through an event that registers nothing.
 use Rattle.std.proofs.Common.{◌≡◌, ℕ, ◌+◌, ◌<◌, ◌≤◌, Bool, List, [], ◌∷◌, ◌++◌, map, length, take, drop, refl, ap, ap₂, sym, ◌∙◌, subst, ⊎_elim, arith}
-use Rattle.std.specs.Prelude.{Option, None, Some, Result, Ok, Err, OnOk, slice_get, option_map, unwrap_or, vec_len, vec_capacity, All}
+use Rattle.std.specs.Prelude.{Option, None, Some, Result, Ok, Err, OnOk, slice_get, option_map, unwrap_or, is_some, if◌then◌else◌, vec_len, vec_capacity, All}
 use Rattle.std.proofs.lemmas.Option.{slice_get-map, slice_get_within}
 use Rattle.std.proofs.lemmas.List.{length-append, length-map, length-take-le, map-append, take-append-le, take_all}
 use Rattle.std.proofs.lemmas.List.Elements.{All-weaker}
@@ -13,7 +13,7 @@ use Rattle.term_bank.specs.declared.bank.Bank.{Bank}
 use Rattle.term_bank.specs.declared.table.Table.{Table}
 use Rattle.pool_core.specs.Splits.{SplitView, AreSplitsOf, split_view}
 use Rattle.pool_core.specs.CountedList.{keys_in}
-use Rattle.pool_history.specs.Record.{PoolRecord, Registered, GivenJob, clauses_of}
+use Rattle.pool_history.specs.Record.{PoolRecord, Registered, GivenJob, SolverJob, clauses_of}
 use Rattle.pool_history.specs.Replay.{Origin, after, start, replay}
 use Rattle.pool_history.specs.News.{TreeChange, change_of, changes_between, changes_from, news_since}
 use Rattle.pool_core.specs.Noted.{AreOfBank, IsNoted, clause_in, change_at}
@@ -23,9 +23,8 @@ use Rattle.pool_history.specs.Lawful.{IsAllowed}
 use Rattle.pool_core.specs.Placing.{KnowsMore}
 use Rattle.pool_core.specs.Started.{registered_at, IsOfTable}
 use Rattle.pool_core.specs.State.{origin_of, IsProofStateOf, IsStateOf, IsPool, job_entry, solver_job}
-use Rattle.pool_history.specs.declared.options.Options.{Options}
 use Rattle.pool_history.specs.declared.event.Event.{Event}
-use Rattle.pool_core.specs.declared.register.Registration.{Registration}
+use Rattle.clause_register.specs.declared.register.Registration.{Registration}
 use Rattle.pool_core.specs.declared.pool.OutJob.{OutJob}
 use Rattle.pool_core.specs.declared.pool.ProofState.{ProofState}
 use Rattle.pool_core.specs.declared.pool.Note.{Note}
@@ -83,6 +82,11 @@ registered-count a r is = ap length (sym is.proof.registered) ∙ length-map a.p
 pub given-count : (a : Inside) (r : PoolRecord) → IsStateOf a r → length a.jobs.entries ≡ length r.given
 given-count a r is = ap length is.jobs ∙ length-map r.given job_entry
 
+-- the solver has one job at most
+pub solver-few : (o : Option SolverJob) → (if is_some o then 1 else 0) ≤ 1
+solver-few None = omega arith
+solver-few (Some s) = omega arith
+
 -- ---- a pool with one more event
 
 abbrev pub record_of : Inside → PoolRecord
@@ -109,7 +113,6 @@ pub event-added :
 event-added a b e notes is same events allowed state kept noted told within before = record {
   inputs = subst (λ (o : Origin). AreInputs o.inputs) (sym same) is.inputs;
   limit = subst IsLimit (sym same_options) is.limit;
-  unsplit = ap (λ (o : Options). o.split) same_options ∙ is.unsplit;
   lawful =
       subst (λ (o : Origin). IsHistoryOf o (events_of b.history)) (sym same)
       (subst (λ es. IsHistoryOf (origin_of a) es) (sym events) (λ usage used.
@@ -202,6 +205,7 @@ pub record KeepsAll (a b : Inside) : Type 0 where
   pub set_aside : b.set_aside.items ≡ a.set_aside.items
   pub ended : b.proof.ended ≡ a.proof.ended
   pub splits : split_view b.proof.splits ≡ split_view a.proof.splits
+  pub asserting : b.proof.asserting.entries ≡ a.proof.asserting.entries
   pub solver : b.solver ≡ a.solver
   pub last_job : b.last_job ≡ a.last_job
   pub place : b.place_in_round ≡ a.place_in_round
@@ -216,8 +220,9 @@ pub kept-proof :
     (bank : Bank) (known learned : Table) (s t : ProofState) (r : PoolRecord)
     → KnowsMore known learned
     → t.register.clauses ≡ s.register.clauses → t.queue.pairs ≡ s.queue.pairs → t.steps.items ≡ s.steps.items → t.ended ≡ s.ended → split_view t.splits ≡ split_view s.splits
+    → t.asserting.entries ≡ s.asserting.entries
     → IsProofStateOf bank known s r → IsProofStateOf bank learned t r
-kept-proof bank known learned s t r more register queue steps ended splits is = record {
+kept-proof bank known learned s t r more register queue steps ended splits asserting is = record {
   registered = ap (map registered_at) register ∙ is.registered;
   of_table = subst (All (IsOfTable bank learned)) (sym register) (learned-all bank known learned s.register.clauses more is.of_table);
   registrations = λ n z there. is.registrations n z (ap (λ ss. slice_get ss n) (sym register) ∙ there);
@@ -226,9 +231,8 @@ kept-proof bank known learned s t r more register queue steps ended splits is = 
   ended = ended ∙ is.ended;
   splits = subst (λ (v : SplitView). AreSplitsOf v r.parts r.lines r.propositional r.model r.modelled) (sym splits) is.splits;
   tags = is.tags;
+  asserting = asserting ∙ is.asserting;
   of_registered = is.of_registered;
-  no_propositional = is.no_propositional;
-  no_names = is.no_names;
   no_empty = is.no_empty;
 }
 
@@ -236,7 +240,7 @@ kept-state : (a b : Inside) (r : PoolRecord) → KeepsAll a b → IsStateOf a r 
 kept-state a b r kept is = record {
   proof =
       subst (λ (bank : Bank). IsProofStateOf bank b.table b.proof r) (sym kept.bank)
-      (kept-proof a.table.bank a.table b.table a.proof b.proof r kept.knows kept.register kept.pairs kept.steps kept.ended kept.splits is.proof);
+      (kept-proof a.table.bank a.table b.table a.proof b.proof r kept.knows kept.register kept.pairs kept.steps kept.ended kept.splits kept.asserting is.proof);
   positions = kept.positions ∙ is.positions;
   jobs = kept.jobs ∙ is.jobs;
   counted = kept.counted ∙ is.counted;
@@ -244,8 +248,9 @@ kept-state a b r kept is = record {
   last_job = kept.last_job ∙ is.last_job;
   place = kept.place ∙ is.place;
   solver = ap (option_map solver_job) kept.solver ∙ is.solver;
-  no_solver = is.no_solver;
-  queue_room = let room = is.queue_room in omega (arith, kept.spare, room);
+  queue_room =
+      let room = is.queue_room in let same = ap length kept.register in let pairs = ap length kept.pairs in
+      omega (arith, kept.spare, room, same, pairs);
   history_room = let room = is.history_room in omega (arith, kept.history_len, kept.history_room, room);
   notes_room = let room = is.notes_room in omega (arith, kept.before_len, kept.before_room, room);
 }
@@ -254,7 +259,6 @@ pub kept-pool : (a b : Inside) → IsPool a → KeepsAll a b → IsPool b
 kept-pool a b is kept = record {
   inputs = subst (λ (o : Origin). AreInputs o.inputs) (sym kept.origin) is.inputs;
   limit = subst IsLimit (sym same_options) is.limit;
-  unsplit = ap (λ (o : Options). o.split) same_options ∙ is.unsplit;
   lawful =
       subst (λ (o : Origin). IsHistoryOf o (events_of b.history)) (sym kept.origin)
       (subst (λ es. IsHistoryOf (origin_of a) es) (sym kept.history) is.lawful);

@@ -19,16 +19,16 @@ use Rattle.pool_history.specs.Claiming.{ready, pair_of}
 use Rattle.pool_history.specs.Returning.{dies, becomes_active}
 use Rattle.pool_history.specs.Answers.{death_of}
 use Rattle.pool_core.specs.Splits.{SplitView, AreSplitsOf, split_view}
-use Rattle.pool_core.specs.Register.{death_at, is_living_at, dead_in, made_active}
+use Rattle.clause_register.specs.Register.{death_at, is_living_at, dead_in, made_active}
 use Rattle.pool_core.specs.Started.{registered_at, IsOfTable}
 use Rattle.pool_core.specs.State.{IsRegistration, IsProofStateOf, AreOfRegistered}
 use Rattle.pool_core.specs.Placing.{with_queue}
 use Rattle.pool_history.specs.declared.outcome.Outcome.{Outcome}
 use Rattle.pool_core.specs.declared.pool.ProofState.{ProofState}
-use Rattle.pool_core.specs.declared.register.Registration.{Registration}
+use Rattle.clause_register.specs.declared.register.Registration.{Registration}
 use Rattle.pool_history.proofs.AboutRecords.EditLemmas.{at-set, filter-less, filter-pairs}
 use Rattle.pool_core.proofs.AboutBeginnings.LivingLemmas.{no-death}
-use Rattle.pool_core.proofs.AboutRegister.RegisterLemmas.{no-place}
+use Rattle.clause_register.proofs.PlaceLemmas.{no-place}
 use Rattle.pool_history.proofs.AboutRecords.ItemLemmas.{all-at}
 
 -- ---- the first of a list with one more
@@ -156,8 +156,8 @@ module _ (bank : Bank) (table : Table) where
       → slice_get s.register.clauses n ≡ Some z → is_none z.death ≡ true → event ≡ r.events
       → t.register.clauses ≡ set s.register.clauses n (dead_in event z) → t.queue.pairs ≡ without n pairs
       → t.steps.items ≡ s.steps.items → t.ended ≡ s.ended → split_view t.splits ≡ split_view s.splits
-      → IsProofStateOf bank table (with_queue pairs s) r → IsProofStateOf bank table t (dies n justifiers r)
-  died-state s t r n event justifiers pairs z there alive same register queue steps ended splits is = record {
+      → t.asserting.entries ≡ s.asserting.entries → IsProofStateOf bank table (with_queue pairs s) r → IsProofStateOf bank table t (dies n justifiers r)
+  died-state s t r n event justifiers pairs z there alive same register queue steps ended splits asserting is = record {
     registered =
         ap (map registered_at) register
         ∙ map-set_same registered_at ss n (dead_in event z) z (ap registered_at (sym (get_or_from_slice_get ss n z z there))) ∙ is.registered;
@@ -194,6 +194,7 @@ module _ (bank : Bank) (table : Table) where
     ended = ended ∙ is.ended;
     splits = subst (λ (v : SplitView). AreSplitsOf v r.parts r.lines r.propositional r.model r.modelled) (sym splits) is.splits;
     tags = is.tags;
+    asserting = asserting ∙ is.asserting;
     of_registered = record {
       positions = is.of_registered.positions;
       active = is.of_registered.active;
@@ -203,8 +204,6 @@ module _ (bank : Bank) (table : Table) where
           All-push (λ (d : Death). d.victim < length r.registered) r.deaths (death_in n justifiers r) is.of_registered.victims
           (slice_get_within r.registered n (registered_at z) (registered-at (with_queue pairs s) r n z is there));
     };
-    no_propositional = is.no_propositional;
-    no_names = is.no_names;
     no_empty = is.no_empty;
   }
     where
@@ -244,8 +243,8 @@ module _ (bank : Bank) (table : Table) where
       → slice_get s.register.clauses n ≡ Some z
       → t.register.clauses ≡ set s.register.clauses n (made_active z) → t.queue.pairs ≡ without n pairs
       → t.steps.items ≡ s.steps.items → t.ended ≡ s.ended → split_view t.splits ≡ split_view s.splits
-      → IsProofStateOf bank table (with_queue pairs s) r → IsProofStateOf bank table t (becomes_active n r)
-  finished-state s t r n pairs z there register queue steps ended splits is = record {
+      → t.asserting.entries ≡ s.asserting.entries → IsProofStateOf bank table (with_queue pairs s) r → IsProofStateOf bank table t (becomes_active n r)
+  finished-state s t r n pairs z there register queue steps ended splits asserting is = record {
     registered =
         ap (map registered_at) register
         ∙ map-set_same registered_at ss n (made_active z) z (ap registered_at (sym (get_or_from_slice_get ss n z z there))) ∙ is.registered;
@@ -281,6 +280,7 @@ module _ (bank : Bank) (table : Table) where
     ended = ended ∙ is.ended;
     splits = subst (λ (v : SplitView). AreSplitsOf v r.parts r.lines r.propositional r.model r.modelled) (sym splits) is.splits;
     tags = is.tags;
+    asserting = asserting ∙ is.asserting;
     of_registered = record {
       positions = is.of_registered.positions;
       active =
@@ -290,8 +290,6 @@ module _ (bank : Bank) (table : Table) where
       placed = is.of_registered.placed;
       victims = is.of_registered.victims;
     };
-    no_propositional = is.no_propositional;
-    no_names = is.no_names;
     no_empty = is.no_empty;
   }
     where
@@ -307,8 +305,8 @@ module _ (bank : Bank) (table : Table) where
   pub ended-state :
       (s t : ProofState) (r : PoolRecord) (o : Outcome)
       → t.register.clauses ≡ s.register.clauses → t.queue.pairs ≡ s.queue.pairs → t.steps.items ≡ s.steps.items → t.ended ≡ Some o → split_view t.splits ≡ split_view s.splits
-      → IsProofStateOf bank table s r → IsProofStateOf bank table t (record r { ended = Some o })
-  ended-state s t r o register queue steps ended splits is = record {
+      → t.asserting.entries ≡ s.asserting.entries → IsProofStateOf bank table s r → IsProofStateOf bank table t (record r { ended = Some o })
+  ended-state s t r o register queue steps ended splits asserting is = record {
     registered = ap (map registered_at) register ∙ is.registered;
     of_table = subst (All (IsOfTable bank table)) (sym register) is.of_table;
     registrations = λ k y at.
@@ -319,10 +317,9 @@ module _ (bank : Bank) (table : Table) where
     ended = ended;
     splits = subst (λ (v : SplitView). AreSplitsOf v r.parts r.lines r.propositional r.model r.modelled) (sym splits) is.splits;
     tags = is.tags;
+    asserting = asserting ∙ is.asserting;
     of_registered = let told = is.of_registered in
         record { positions = told.positions; active = told.active; given = told.given; placed = told.placed; victims = told.victims };
-    no_propositional = is.no_propositional;
-    no_names = is.no_names;
     no_empty = λ none. absurd (none-some o (sym none));
   }
 

@@ -1,6 +1,6 @@
 -- The removals of a batch, one after another, and the work of a whole batch.
-use Rattle.std.proofs.Common.{◌≡◌, ℕ, suc, Bool, true, false, not, ◌&&◌, ◌==◌, List, [], ◌∷◌, ◌++◌, map, length, append-nil, append_assoc, refl, ap, ap₂, sym, ◌∙◌, subst, arith}
-use Rattle.std.specs.Prelude.{Option, None, Some, cond, fold, is_none, option_to_list}
+use Rattle.std.proofs.Common.{◌≡◌, ℕ, suc, ◌≤◌, Bool, true, false, not, ◌&&◌, ◌==◌, List, [], ◌∷◌, ◌++◌, map, length, append-nil, append_assoc, refl, ap, ap₂, sym, ◌∙◌, subst, arith}
+use Rattle.std.specs.Prelude.{Option, None, Some, cond, find, fold, is_none, nat_le, option_to_list}
 use Rattle.std.specs.List.{list_all, cons_option}
 use Rattle.std.proofs.lemmas.Bool.{cond-true, cond-false}
 use Rattle.std.proofs.lemmas.List.{map-append}
@@ -10,8 +10,8 @@ use Rattle.clause_queue.specs.Pairs.{without}
 use Rattle.term_bank.specs.declared.bank.Bank.{Bank}
 use Rattle.term_bank.specs.declared.table.Table.{Table}
 use Rattle.pool_history.specs.Record.{PoolRecord, Death, lives}
-use Rattle.pool_history.specs.Counting.{lines_of_fate, counts}
-use Rattle.pool_core.specs.Register.{is_living_at}
+use Rattle.pool_history.specs.Counting.{lines_of_fate, counts, refutes, result_comes, spends}
+use Rattle.clause_register.specs.Register.{is_living_at}
 use Rattle.pool_history.specs.Returning.{dies, replaced, removed, proposed, takes_effect}
 use Rattle.pool_core.specs.Placing.{AreInterned, AreArrivals, IsResultOf, IsCountedStateOf, NotesDeaths, HasRoom, lines_of_removals, with_queue}
 use Rattle.pool_core.specs.State.{IsProofStateOf}
@@ -22,9 +22,14 @@ use Rattle.pool_core.specs.declared.interning.Interned.{Interned}
 use Rattle.pool_core.specs.declared.pool.Note.{Note}
 use Rattle.pool_core.specs.declared.pool.Note.TheVariants.{Died}
 use Rattle.pool_core.specs.declared.pool.ProofState.{ProofState}
-use Rattle.std.proofs.lemmas.List.{length-append}
-use Rattle.std.proofs.lemmas.List.Sums.{sum_by-cons, sum_by-append}
-use Rattle.pool_core.proofs.AboutReturns.ArrivalLemmas.{recounted, room-first}
+use Rattle.kernel_steps.specs.declared.key.Key.TheVariants.{Replaced}
+use Rattle.pool_history.specs.declared.batch.Fate.TheVariants.{Kept, Dropped, Heavy}
+use Rattle.pool_history.proofs.AboutRecords.FrameLemmas.{by-if}
+use Rattle.pool_core.specs.Demanded.{no_demand, plus, total}
+use Rattle.pool_core.specs.declared.demand.Demand.{Demand}
+use Rattle.pool_core.proofs.AboutReturns.ArrivalLemmas.{recounted, IsLess, less-first, less-nothing, less-second, room-for-less}
+use Rattle.pool_core.proofs.AboutReturns.GrownLemmas.{result-longer}
+use Rattle.pool_core.proofs.AboutReturns.InternedLemmas.{all-more-met}
 use Rattle.pool_history.proofs.AboutCounting.DeathLemmas.{replaced-keeps, counts-keeps}
 use Rattle.pool_core.proofs.AboutReturns.ProofStateLemmas.{living-at}
 
@@ -46,27 +51,64 @@ without-twice n (p ∷ ps) = by (not (p.0 == n)) refl (without-twice n ps)
 
 -- ---- room
 
-pub room-with-more :
-    (s : ProofState) (o : Option (List Line)) (lss : List (List Line)) (deaths out : ℕ)
-    → HasRoom s (cons_option o lss) deaths out → HasRoom s (option_to_list o ++ lss) deaths out
-room-with-more s o lss deaths out = subst (λ kss. HasRoom s kss deaths out) (cons-as-list o lss)
+pub room-to-die : (s : ProofState) (d : Demand) (deaths : ℕ) → HasRoom s d (suc deaths) → HasRoom s no_demand 1
+room-to-die s d deaths room = room-for-less s no_demand d 1 (suc deaths) (less-nothing d) (omega arith) room
 
-pub room-less : (s : ProofState) (deaths out : ℕ) (lss : List (List Line)) → HasRoom s lss (suc deaths) out → HasRoom s [] 1 0
-room-less s deaths out lss room = record {
-  register = omega arith;
-  queue = omega arith;
-  steps = let enough = room.steps in omega (arith, enough);
-  notes = let enough = room.notes in omega (arith, enough);
-}
+-- what the next result brings, and then the others
+pub less-next : (o : Option Interned) (xs : List Interned) → IsLess (plus (total (option_to_list o)) (total xs)) (total (option_to_list o ++ xs))
+less-next None xs = record { clauses = omega arith; tags = omega arith; lines = omega arith; parts = omega arith; splits = omega arith; names = omega arith }
+less-next (Some x) xs = record { clauses = omega arith; tags = omega arith; lines = omega arith; parts = omega arith; splits = omega arith; names = omega arith }
 
-pub room-of-one : (s : ProofState) (o : Option (List Line)) (lss : List (List Line)) (deaths out : ℕ) → HasRoom s (option_to_list o ++ lss) deaths out → HasRoom s (option_to_list o) 0 0
-room-of-one s None lss deaths out room = record {
-  register = omega arith;
-  queue = omega arith;
-  steps = let enough = room.steps in omega (arith, enough);
-  notes = let enough = room.notes in omega (arith, enough);
-}
-room-of-one s (Some lines) lss deaths out room = room-first s lines lss deaths out room
+-- the result of a clause that goes, where it has one
+pub room-gone :
+    (s : ProofState) (e : Demand) (o : Option Interned) (xs rest : List Interned) (deaths : ℕ)
+    → xs ≡ option_to_list o ++ rest → HasRoom s (plus e (total xs)) deaths → HasRoom s (plus (total (option_to_list o)) (total rest)) deaths
+room-gone s e o xs rest deaths taken room =
+    room-for-less s (plus (total (option_to_list o)) (total rest)) (total (option_to_list o ++ rest)) deaths deaths (less-next o rest) (omega arith)
+    (room-for-less s (total (option_to_list o ++ rest)) (plus e (total (option_to_list o ++ rest))) deaths deaths
+    (less-second e (total (option_to_list o ++ rest))) (omega arith)
+    (subst (λ ys. HasRoom s (plus e (total ys)) deaths) taken room))
+
+pub room-of-one : (s : ProofState) (o : Option Interned) (d : Demand) (deaths : ℕ) → HasRoom s (plus (total (option_to_list o)) d) deaths → HasRoom s (total (option_to_list o)) 0
+room-of-one s o d deaths room = room-for-less s (total (option_to_list o)) (plus (total (option_to_list o)) d) 0 deaths (less-first (total (option_to_list o)) d) (omega arith) room
+
+pub room-of-some : (s : ProofState) (x : Interned) (d : Demand) (deaths : ℕ) → HasRoom s (plus (total (x ∷ [])) d) deaths → HasRoom s (plus x.demand d) deaths
+room-of-some s x d deaths room =
+    room-for-less s (plus x.demand d) (plus (total (x ∷ [])) d) deaths deaths
+    (record { clauses = omega arith; tags = omega arith; lines = omega arith; parts = omega arith; splits = omega arith; names = omega arith }) (omega arith) room
+
+pub room-of-lone : (s : ProofState) (x : Interned) → HasRoom s (total (x ∷ [])) 0 → HasRoom s x.demand 0
+room-of-lone s x room = room-for-less s x.demand (total (x ∷ [])) 0 0 (less-first x.demand no_demand) (omega arith) room
+
+-- ---- there are no fewer parts
+
+results-longer : (split : Bool) (results : List (List Line)) (r : PoolRecord) → length r.parts ≤ length (fold (result_comes split) r results).parts
+results-longer split [] r = omega arith
+results-longer split (lines ∷ lss) r =
+    let first = result-longer split r lines in
+    let rest = results-longer split lss (result_comes split r lines) in
+    omega (arith, first, rest)
+
+pub counts-longer : (options : Options) (keys : List Key) (results : List (List Line)) (r : PoolRecord) → length r.parts ≤ length (counts options keys results r).parts
+counts-longer options keys results r =
+    by-if (λ (s : PoolRecord). length r.parts ≤ length s.parts) (nat_le options.inferences (length (r.counted ++ keys)))
+    (spends options.split (find refutes results) counted) (fold (result_comes options.split) counted results)
+    (by (find refutes results)) (results-longer options.split results counted)
+  where
+    counted : PoolRecord
+    counted = record r { counted = r.counted ++ keys }
+
+    by : (o : Option (List Line)) → length r.parts ≤ length (spends options.split o counted).parts
+    by None = omega arith
+    by (Some lines) = result-longer options.split counted lines
+
+removed-longer : (options : Options) (m : Removal) (r : PoolRecord) → length r.parts ≤ length (removed options m r).parts
+removed-longer options m r = by m.fate
+  where
+    by : (fate : Fate) → length r.parts ≤ length (replaced options m.victim fate (dies m.victim m.justifiers r)).parts
+    by (Kept lines results) = counts-longer options (Replaced m.victim ∷ []) (lines ∷ []) (dies m.victim m.justifiers r)
+    by (Dropped redundancy) = omega arith
+    by Heavy = omega arith
 
 -- ---- what died is noted
 
@@ -100,10 +142,12 @@ pub record AreProposedSoFar
     (now : ProofState) (keys : List Key) (rest : List Removal) (left : List Interned) : Type 0 where
   pub came :
       (table : Table) (r : PoolRecord)
-      → event ≡ r.events → AreInterned bank table (lines_of_removals removals) results → IsCountedStateOf bank table before keys_before r
-      → (s : PoolRecord) × IsCountedStateOf bank table now keys s × AreInterned bank table (lines_of_removals rest) left × (s.events ≡ r.events)
+      → event ≡ r.events → AreInterned bank table options.split (length r.parts) (lines_of_removals removals) results
+      → IsCountedStateOf bank table before keys_before r
+      → (s : PoolRecord) × IsCountedStateOf bank table now keys s
+      × AreInterned bank table options.split (length s.parts) (lines_of_removals rest) left × (s.events ≡ r.events)
       × (fold (proposed options) s rest ≡ fold (proposed options) r removals) × NotesDeaths r s before.notes.items now.notes.items
-  pub room : (out : ℕ) → HasRoom before (lines_of_removals removals) (length removals) out → HasRoom now (lines_of_removals rest) (length rest) out
+  pub room : HasRoom before (total results) (length removals) → HasRoom now (total left) (length rest)
 
 module _ (bank : Bank) (options : Options) (event : ℕ) (before : ProofState) (keys_before : List Key) (removals : List Removal) (results : List Interned) where
   pub proposals-begin :
@@ -112,7 +156,7 @@ module _ (bank : Bank) (options : Options) (event : ℕ) (before : ProofState) (
   proposals-begin its left same alike =
       subst (λ ms. AreProposedSoFar bank options event before keys_before removals results before keys_before ms left) (sym same)
       (subst (λ xs. AreProposedSoFar bank options event before keys_before removals results before keys_before removals xs) (sym alike)
-      (record { came = λ table r moment interned is. (r, is, interned, refl, refl, notes-none r before.notes.items); room = λ out enough. enough }))
+      (record { came = λ table r moment interned is. (r, is, interned, refl, refl, notes-none r before.notes.items); room = λ enough. enough }))
 
   -- whether a removal takes effect
   pub effect-is :
@@ -128,9 +172,21 @@ module _ (bank : Bank) (options : Options) (event : ℕ) (before : ProofState) (
 
   -- the results come from those that are left
   module _ (m : Removal) (rest : List Removal) (left after : List Interned) (x : Option Interned)
-      (next : (bank : Bank) (table : Table) (lss : List (List Line)) → AreInterned bank table (option_to_list (lines_of_fate m.fate) ++ lss) left → IsResultOf bank table m.fate x × AreInterned bank table lss after) where
-    pub taken-result : (table : Table) → AreInterned bank table (lines_of_removals (m ∷ rest)) left → IsResultOf bank table m.fate x × AreInterned bank table (lines_of_removals rest) after
-    taken-result table are = next bank table (lines_of_removals rest) (subst (λ lss. AreInterned bank table lss left) (cons-as-list (lines_of_fate m.fate) (lines_of_removals rest)) are)
+      (next : (bank : Bank) (table : Table) (split : Bool) (count : ℕ) (lss : List (List Line))
+      → AreInterned bank table split count (option_to_list (lines_of_fate m.fate) ++ lss) left
+      → IsResultOf bank table split count m.fate x × AreInterned bank table split count lss after)
+      (taken : left ≡ option_to_list x ++ after) where
+    pub taken-result :
+        (table : Table) (count : ℕ) → AreInterned bank table options.split count (lines_of_removals (m ∷ rest)) left
+        → IsResultOf bank table options.split count m.fate x × AreInterned bank table options.split count (lines_of_removals rest) after
+    taken-result table count are =
+        next bank table options.split count (lines_of_removals rest)
+        (subst (λ lss. AreInterned bank table options.split count lss left) (cons-as-list (lines_of_fate m.fate) (lines_of_removals rest)) are)
+
+    pub room-taken : (now : ProofState) (deaths : ℕ) → HasRoom now (total left) deaths → HasRoom now (plus (total (option_to_list x)) (total after)) deaths
+    room-taken now deaths enough =
+        room-for-less now (plus (total (option_to_list x)) (total after)) (total (option_to_list x ++ after)) deaths deaths (less-next x after) (omega arith)
+        (subst (λ xs. HasRoom now (total xs) deaths) taken enough)
 
     -- a removal that takes effect
     module _ (now mid later : ProofState) (keys more : List Key)
@@ -143,30 +199,32 @@ module _ (bank : Bank) (options : Options) (event : ℕ) (before : ProofState) (
       state-died table s moment is = record { proof = died bank table s m.justifiers now.queue.pairs moment refl is.proof; keys = is.keys }
 
       pub one-removed :
-          ((table : Table) (r : PoolRecord) → IsResultOf bank table m.fate x → IsCountedStateOf bank table mid keys r → IsCountedStateOf bank table later more (replaced options m.victim m.fate r))
+          ((table : Table) (r : PoolRecord)
+          → IsResultOf bank table options.split (length r.parts) m.fate x → IsCountedStateOf bank table mid keys r
+          → IsCountedStateOf bank table later more (replaced options m.victim m.fate r))
           → mid.notes.items ≡ now.notes.items ++ Died m.victim ∷ [] → later.notes.items ≡ mid.notes.items
-          → ((lss : List (List Line)) (deaths out : ℕ) → HasRoom now lss (suc deaths) out → HasRoom mid lss deaths out)
-          → ((lss : List (List Line)) (deaths out : ℕ) → HasRoom mid (option_to_list (lines_of_fate m.fate) ++ lss) deaths out → HasRoom later lss deaths out)
+          → ((d : Demand) (deaths : ℕ) → HasRoom now d (suc deaths) → HasRoom mid d deaths)
+          → ((d : Demand) (deaths : ℕ) → HasRoom mid (plus (total (option_to_list x)) d) deaths → HasRoom later d deaths)
           → AreProposedSoFar bank options event before keys_before removals results now keys (m ∷ rest) left
           → AreProposedSoFar bank options event before keys_before removals results later more rest after
       one-removed replaces noted kept room_died room_replaced so_far = record {
         came = λ table r moment interned is.
             let was = so_far.came table r moment interned is in
             let s : PoolRecord = was.0 in
-            let results_left = taken-result table was.2 in
+            let results_left = taken-result table (length (was.0).parts) was.2 in
             let is_effect : takes_effect s m ≡ true = sym (effect-is table now s m was.1.proof) ∙ effect in (
               removed options m s,
               replaces table (dies m.victim m.justifiers s) results_left.0 (state-died table s (moment ∙ sym was.3) was.1),
-              results_left.1,
+              all-more-met bank table options.split (length s.parts) (length (removed options m s).parts) (lines_of_removals rest) after
+                  (removed-longer options m s) results_left.1,
               (replaced-keeps options m.victim m.fate (dies m.victim m.justifiers s)).events ∙ was.3,
               ap (λ (t : PoolRecord). fold (proposed options) t rest) (sym (cond-true (takes_effect s m) (removed options m s) s is_effect)) ∙ was.4,
               notes-then r s (removed options m s) before.notes.items now.notes.items later.notes.items was.5
                   (notes-one options m.victim m.justifiers m.fate s now.notes.items mid.notes.items later.notes.items noted kept),
             );
-        room = λ out enough.
-            room_replaced (lines_of_removals rest) (length rest) out
-            (room-with-more mid (lines_of_fate m.fate) (lines_of_removals rest) (length rest) out
-            (room_died (lines_of_removals (m ∷ rest)) (length rest) out (so_far.room out enough)));
+        room = λ enough.
+            room_replaced (total after) (length rest)
+            (room_died (plus (total (option_to_list x)) (total after)) (length rest) (room-taken now (suc (length rest)) (so_far.room enough)));
       }
 
     -- one that doesn't
@@ -181,36 +239,25 @@ module _ (bank : Bank) (options : Options) (event : ℕ) (before : ProofState) (
           let s : PoolRecord = was.0 in (
             s,
             was.1,
-            (taken-result table was.2).1,
+            (taken-result table (length (was.0).parts) was.2).1,
             was.3,
             ap (λ (t : PoolRecord). fold (proposed options) t rest)
                 (sym (cond-false (takes_effect s m) (removed options m s) s (sym (effect-is table now s m was.1.proof) ∙ no_effect)))
                 ∙ was.4,
             was.5,
           );
-      room = λ out enough. fewer now (lines_of_fate m.fate) out (so_far.room out enough);
+      room = λ enough.
+          room-for-less now (total after) (plus (total (option_to_list x)) (total after)) (length rest) (suc (length rest))
+          (less-second (total (option_to_list x)) (total after)) (omega arith) (room-taken now (suc (length rest)) (so_far.room enough));
     }
-      where
-        fewer : (s : ProofState) (o : Option (List Line)) (out : ℕ) → HasRoom s (cons_option o (lines_of_removals rest)) (suc (length rest)) out → HasRoom s (lines_of_removals rest) (length rest) out
-        fewer s None out room = record {
-          register = room.register;
-          queue = room.queue;
-          steps = room.steps;
-          notes = let enough = room.notes in omega (arith, enough);
-        }
-        fewer s (Some lines) out room = record {
-          register = let enough = room.register in omega (arith, enough);
-          queue = let enough = room.queue in omega (arith, enough);
-          steps = let enough = room.steps in let more = sum_by-cons length lines (lines_of_removals rest) in omega (arith, enough, more);
-          notes = let enough = room.notes in omega (arith, enough);
-        }
 
   -- some record of which the fields are, where the results are those of a table
   pub some-proposal :
       (now : ProofState) (keys : List Key) (rest : List Removal) (left : List Interned)
-      → AreArrivals bank before (lines_of_removals removals) results
+      → AreArrivals bank before options.split (lines_of_removals removals) results
       → AreProposedSoFar bank options event before keys_before removals results now keys rest left
-      → (table : Table) × (s : PoolRecord) × IsCountedStateOf bank table now keys s × AreInterned bank table (lines_of_removals rest) left × (event ≡ s.events)
+      → (table : Table) × (s : PoolRecord) × IsCountedStateOf bank table now keys s
+      × AreInterned bank table options.split (length s.parts) (lines_of_removals rest) left × (event ≡ s.events)
   some-proposal now keys rest left arrivals so_far =
       let r : PoolRecord = record arrivals.1 { counted = keys_before; events = event } in
       let is : IsProofStateOf bank arrivals.0 before r = recounted bank arrivals.0 before arrivals.1 keys_before arrivals.1.set_aside event arrivals.3 in
@@ -223,16 +270,6 @@ pub gone-queue : (victim number : ℕ) (pairs queue : List (ℕ × ℕ)) → vic
 gone-queue victim number pairs queue same is =
     ap (without victim) (is ∙ ap (λ n. without n pairs) (sym same)) ∙ without-twice victim pairs
 
-pub room-front : (s : ProofState) (lss mss : List (List Line)) (deaths out : ℕ) → HasRoom s (lss ++ mss) deaths out → HasRoom s lss 0 0
-room-front s lss mss deaths out room =
-    let long = length-append lss mss in
-    record {
-      register = let enough = room.register in omega (arith, enough, long);
-      queue = let enough = room.queue in omega (arith, enough, long);
-      steps = let enough = room.steps in let more = sum_by-append length lss mss in omega (arith, enough, more);
-      notes = let enough = room.notes in omega (arith, enough);
-    }
-
 pub notes-counted :
     (options : Options) (keys : List Key) (results : List (List Line)) (r : PoolRecord) (before now : List Note)
     → now ≡ before → NotesDeaths r (counts options keys results r) before now
@@ -244,7 +281,10 @@ notes-counted options keys results r before now same = record {
 
 -- the results of a removal that is alone
 pub lone-result :
-    (bank : Bank) (table : Table) (m : Removal) (left after : List Interned) (x : Option Interned)
-    → ((bank : Bank) (table : Table) (lss : List (List Line)) → AreInterned bank table (option_to_list (lines_of_fate m.fate) ++ lss) left → IsResultOf bank table m.fate x × AreInterned bank table lss after)
-    → AreInterned bank table (lines_of_removals (m ∷ [])) left → IsResultOf bank table m.fate x
-lone-result bank table m left after x next are = (next bank table [] (subst (λ lss. AreInterned bank table lss left) (cons-as-list (lines_of_fate m.fate) []) are)).0
+    (bank : Bank) (table : Table) (split : Bool) (count : ℕ) (m : Removal) (left after : List Interned) (x : Option Interned)
+    → ((bank : Bank) (table : Table) (split : Bool) (count : ℕ) (lss : List (List Line))
+    → AreInterned bank table split count (option_to_list (lines_of_fate m.fate) ++ lss) left
+    → IsResultOf bank table split count m.fate x × AreInterned bank table split count lss after)
+    → AreInterned bank table split count (lines_of_removals (m ∷ [])) left → IsResultOf bank table split count m.fate x
+lone-result bank table split count m left after x next are =
+    (next bank table split count [] (subst (λ lss. AreInterned bank table split count lss left) (cons-as-list (lines_of_fate m.fate) []) are)).0

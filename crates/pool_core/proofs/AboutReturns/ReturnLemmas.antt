@@ -1,38 +1,35 @@
 -- A pool after a return.
-use Rattle.std.proofs.Common.{◌≡◌, ℕ, suc, ◌+◌, ◌<◌, ◌≤◌, Bool, true, false, not, ◌&&◌, ◌==◌, List, [], ◌∷◌, ◌++◌, ◌^◌, map, length, append-nil, refl, ap, ap₂, sym, ◌∙◌, subst, ⊎_elim, arith}
-use Rattle.std.specs.Prelude.{Option, None, Some, cond, find, nat_lt, is_none, is_some, slice_get, All, IfErr, if◌then◌else◌}
+use Rattle.std.proofs.Common.{◌≡◌, ℕ, suc, ◌+◌, ◌<◌, ◌≤◌, Bool, true, false, not, ◌&&◌, ◌==◌, List, [], ◌∷◌, ◌^◌, map, length, refl, ap, sym, ◌∙◌, subst, ⊎_elim, arith}
+use Rattle.std.specs.Prelude.{Option, None, Some, cond, find, nat_lt, is_none, is_some, option_map, slice_get, All, IfErr, if◌then◌else◌}
 use Rattle.std.specs.declared.result.Result.{Result}
 use Rattle.std.specs.declared.result.Result.TheVariants.{Ok, Err}
-use Rattle.std.proofs.Math.Seq.{drop-length}
 use Rattle.std.proofs.lemmas.Bool.{and_from, lt-ltb, true≢false, eqb-true, or_cases}
 use Rattle.std.proofs.lemmas.Option.{none-some, same_Some}
 use Rattle.kernel_steps.specs.Split.{has_number}
 use Rattle.bank_clause.specs.Clause.{clause_at}
-use Rattle.clause_queue.specs.Pairs.{Waiting}
+use Rattle.term_bank.specs.declared.table.Table.{Table}
 use Rattle.kernel_steps.proofs.AboutSplits.SplitTables.{has-right}
-use Rattle.pool_history.specs.Record.{PoolRecord, GivenJob, SolverJob, Death, clause_numbered, has_died, is_dead, lives, given_job, without_job}
-use Rattle.pool_core.specs.Register.{death_at}
-use Rattle.pool_history.specs.Replay.{after, without_solver}
+use Rattle.pool_history.specs.Record.{PoolRecord, GivenJob, Death, clause_numbered, has_died, is_dead, lives, given_job}
+use Rattle.clause_register.specs.Register.{death_at}
 use Rattle.pool_history.specs.News.{TreeChange, activated}
-use Rattle.pool_core.specs.Noted.{IsNoted}
 use Rattle.pool_history.specs.Answers.{death_of, dead_justifier}
-use Rattle.pool_core.specs.Started.{registered_at}
-use Rattle.pool_core.specs.State.{IsStateOf, IsPool}
+use Rattle.pool_core.specs.State.{IsProofStateOf, IsStateOf, IsPool, solver_job}
 use Rattle.pool_history.specs.Claiming.{pair_of}
 use Rattle.pool_history.specs.declared.batch.Work.{Work}
 use Rattle.pool_history.specs.declared.batch.Work.TheVariants.{Gone, Met}
 use Rattle.pool_history.specs.declared.event.Event.TheVariants.{Void}
-use Rattle.pool_history.specs.declared.options.Options.{Options}
+use Rattle.pool_core.specs.declared.pool.ProofState.{ProofState}
 use Rattle.pool_core.specs.declared.pool.Pool.TheInside.{Inside}
-use Rattle.pool_core.specs.declared.register.Registration.{Registration}
+use Rattle.clause_register.specs.declared.register.Registration.{Registration}
 use Rattle.pool_core.proofs.AboutClaims.ClaimLemmas.{told-now}
 use Rattle.pool_core.proofs.AboutClaims.FitLemmas.{registered-fit}
-use Rattle.pool_core.proofs.AboutClaims.GiveUpLemmas.{IsGivenUpBy, given_up, given-up-state, length-without, ready-dead}
+use Rattle.pool_core.proofs.AboutClaims.GiveUpLemmas.{IsLetGoBy, let_go, let-go-pool, let-go-proof, length-without, ready-dead}
+use Rattle.pool_core.proofs.AboutClaims.QuietLemmas.{IsQuietBy}
 use Rattle.pool_core.proofs.AboutBeginnings.LivingLemmas.{no-death}
 use Rattle.pool_history.proofs.AboutRecords.PlaceLemmas.{has-first}
 use Rattle.pool_core.proofs.AboutReturns.ProofStateLemmas.{death-at}
 use Rattle.pool_history.proofs.AboutRecords.ItemLemmas.{all-at}
-use Rattle.pool_core.proofs.AboutClaims.StateLemmas.{record_of, pool-rises, one-more-event}
+use Rattle.pool_core.proofs.AboutClaims.StateLemmas.{record_of, pool-rises}
 
 -- ---- the dead
 
@@ -93,34 +90,28 @@ pub given-some : (a : Inside) (job : ℕ) (j : GivenJob) → IsPool a → given_
 given-some a job j is found =
     let one = length-without job 0 (record_of a).jobs (record_of a).given j (pool-rises a is) found in omega (arith, one)
 
--- dismissed as if it were given up
-as-given-up : (options : Options) (job : ℕ) (r : PoolRecord) → r.solver ≡ None → given_up options job r ≡ after options r (Void job)
-as-given-up options job r none =
-    ap (λ (o : Option SolverJob). record r { given = without_job job r.given; solver = o; events = r.events + 1 })
-    (ap (without_solver job) none ∙ sym none)
-
 pub dismissed-pool :
     (a b : Inside) (job : ℕ) (j : GivenJob)
-    → IsPool a → given_job (record_of a) job ≡ Some j → has_died (record_of a).deaths j.number ≡ true → IsGivenUpBy a b job (Void job)
-    → b.proof.queue ≡ a.proof.queue
+    → IsPool a → given_job (record_of a) job ≡ Some j → has_died (record_of a).deaths j.number ≡ true
+    → IsQuietBy a b (Void job) → IsLetGoBy a b job → b.solver ≡ a.solver → b.table ≡ a.table → b.proof ≡ a.proof
     → IsPool b
-dismissed-pool a b job j is found dead by queue =
-    one-more-event a b (Void job) [] is by.origin by.history
+dismissed-pool a b job j is found dead quiet by solver table proof =
+    let-go-pool a b (Void job) job r.solver is refl
     (λ is_predicate. record { given = j; out = found; says = dead })
-    (subst (IsStateOf b) (as-given-up a.options job (record_of a) is.state.no_solver)
-    (given-up-state a b (record_of a) job (Void job) j is.state (pool-rises a is) found by
-    (ap (λ (q : Waiting). q.pairs) queue ∙ is.state.proof.queue
-    ∙ ap (map (pair_of (record_of a))) (sym (ready-dead a.options job 0 (record_of a).jobs (record_of a) j (pool-rises a is) found not_living)))
-    (let equal = ap (λ (q : Waiting). q.spare) queue in omega (arith, equal))))
-    (ap (map registered_at) by.register)
-    (by.notes ∙ sym (append-nil a.proof.notes.items))
-    (sym (ap₂ (λ (ns : List ℕ) (ds : List Death). map (λ k. TreeChange.activated k (clause_numbered (record_of a) k)) ns ++ map (λ (d : Death). TreeChange.died d.victim) ds)
-    (drop-length (record_of a).positions) (drop-length (record_of a).deaths)))
-    (subst (All (IsNoted (length a.proof.register.clauses))) (sym by.notes) is.news.noted)
-    by.before
+    (let one = length-without job 0 r.jobs r.given j (pool-rises a is) found in omega (arith, one))
+    quiet by (ap (option_map solver_job) solver ∙ is.state.solver)
+    (ap (λ (s : ProofState). length s.queue.pairs + s.queue.spare) proof)
+    (subst (λ (t : Table). IsProofStateOf t.bank t b.proof (let_go r.solver job r)) (sym table)
+    (subst (λ (s : ProofState). IsProofStateOf a.table.bank a.table s (let_go r.solver job r)) (sym proof)
+    (let-go-proof a.table.bank a.table a.proof a.proof r job r.solver refl
+    (is.state.proof.queue ∙ ap (map (pair_of r)) (sym (ready-dead a.options job 0 r.jobs r j (pool-rises a is) found not_living)))
+    is.state.proof)))
   where
-    not_living : lives (record_of a) j.number ≡ false
-    not_living = ap (λ b. nat_lt j.number (length (record_of a).registered) && not b) dead ∙ none (nat_lt j.number (length (record_of a).registered))
+    r : PoolRecord
+    r = record_of a
+
+    not_living : lives r j.number ≡ false
+    not_living = ap (λ b. nat_lt j.number (length r.registered) && not b) dead ∙ none (nat_lt j.number (length r.registered))
       where
         none : (b : Bool) → (b && false) ≡ false
         none true = refl

@@ -1,44 +1,40 @@
--- What is right of a batch serves its return: one nameless, canonical and small result for each list of lines, whose parents are there, and justifiers
--- that are registered.
-use Rattle.std.proofs.Common.{◌≡◌, ℕ, zero, suc, ◌+◌, ◌-◌, ◌<◌, ◌≤◌, Bool, true, false, List, [], ◌∷◌, ◌++◌, map, length, take, get_or, refl, ap, ap₂, sym, ◌∙◌, subst, ⊎_elim, arith}
+-- What is right of a batch serves its return: one canonical and small clause for each list of lines, whose names are assertions of parts that
+-- were met, with its parts where it is split; and parents that are there.
+use Rattle.std.proofs.Common.{◌≡◌, ℕ, zero, suc, ◌+◌, ◌-◌, ◌<◌, Bool, true, false, List, [], ◌∷◌, map, length, take, get_or, refl, sym, subst, arith}
 use Rattle.std.specs.List.{list_all}
-use Rattle.std.specs.Prelude.{Option, None, Some, nat_lt, option_and_then, slice_get, if◌then◌else◌, All}
+use Rattle.std.specs.Prelude.{Some, nat_lt, option_and_then, slice_get, if◌then◌else◌, All}
 use Rattle.std.proofs.lemmas.Bool.{and_parts, and_from, ltb-true}
 use Rattle.std.proofs.lemmas.List.{length-take}
-use Rattle.std.proofs.lemmas.Option.{none-some, same_Some, slice_get_within, get_or_from_slice_get}
-use Rattle.fol_base.specs.Clause.{TreeClause, clause_size}
-use Rattle.fol_base.specs.declared.limits.TheConstants.{MOST_SYMBOLS}
+use Rattle.std.proofs.lemmas.Option.{none-some, get_or_from_slice_get}
+use Rattle.fol_base.specs.Clause.{TreeClause}
 use Rattle.fol_base.specs.Literal.{clause_of}
-use Rattle.fol_base.specs.Canonical.{IsCanonical}
+use Rattle.fol_base.specs.WellFormed.{SymbolUse}
 use Rattle.fol_base.specs.declared.clause.Clause.{Clause}
 use Rattle.kernel_steps.specs.Derivation.{line_parents, line_parent}
-use Rattle.kernel_steps.specs.Lines.{AreLines, IsNumbered, clause_parents, is_on_literals, is_plain_step}
-use Rattle.kernel_steps.specs.Moves.{Move, AreMoves, IsMove, end_of_moves}
-use Rattle.kernel_steps.specs.Names.{sorted_names}
+use Rattle.kernel_steps.specs.Lines.{AreLines, clause_parents, is_on_literals, is_plain_step}
 use Rattle.kernel_steps.specs.Parents.{Parent}
-use Rattle.kernel_steps.specs.Sized.{IsSizedInference}
 use Rattle.kernel_steps.specs.declared.key.Key.{Key}
-use Rattle.kernel_steps.specs.declared.key.Key.TheVariants as key
 use Rattle.kernel_steps.specs.declared.step.TheConstants.{CLAUSE_NUMBERS}
 use Rattle.kernel_steps.specs.declared.step.Step.{Step}
 use Rattle.kernel_steps.specs.declared.step.Step.TheVariants.{Input, Negate, Clausify, Para, Refl, Factor, Merge, Component, Opposite, Split, Chain}
 use Rattle.kernel_steps.specs.declared.step.Line.{Line}
-use Rattle.literal_selection.specs.Mode.{mode_of}
-use Rattle.laws_calculus.specs.Lifting.{among}
-use Rattle.pool_history.specs.Record.{GivenJob}
+use Rattle.pool_history.specs.Record.{PoolRecord, GivenJob, clauses_of}
 use Rattle.pool_history.specs.Lines.{result_of}
-use Rattle.pool_history.specs.Reduction.{Lookup, AreLinesFrom, handed_back}
-use Rattle.pool_history.specs.Batches.{is_told, is_told_beside, IsRightFate, IsRightRemovalBy, IsRightWork}
+use Rattle.pool_history.specs.Reduction.{Lookup, handed_back}
+use Rattle.pool_history.specs.Batches.{IsRightFate, IsRightRemovalBy, IsRightWork}
 use Rattle.pool_core.specs.Placing.{HasParentsBelow, IsFitResult, IsFit, IsFitWork}
 use Rattle.pool_history.specs.declared.options.Options.{Options}
+use Rattle.pool_history.specs.declared.batch.Entry.{Entry}
 use Rattle.pool_history.specs.declared.batch.Fate.{Fate}
 use Rattle.pool_history.specs.declared.batch.Fate.TheVariants.{Kept, Dropped, Heavy}
 use Rattle.pool_history.specs.declared.batch.Removal.{Removal}
 use Rattle.pool_history.specs.declared.batch.Work.{Work}
 use Rattle.pool_history.specs.declared.batch.Work.TheVariants.{Gone, Met}
 use Rattle.pool_history.proofs.AboutRecords.ItemLemmas.{item-at}
-use Rattle.pool_history.proofs.AboutCounting.KnownLemmas.{parents-all, among-there}
-use Rattle.pool_history.proofs.AboutLines.SizeLemmas.{moves-size, conclusion-small}
+use Rattle.pool_history.proofs.AboutCounting.KnownLemmas.{parents-all}
+use Rattle.pool_history.proofs.AboutLines.PoolLineLemmas.{Arrives, Sound, batch-continues}
+use Rattle.pool_history.proofs.AboutLines.SoundLemmas.{all-entries-come, all-removals-come}
+use Rattle.pool_core.proofs.AboutSplits.HandedLemmas.{handed-in, parts-fit}
 
 -- ---- lists
 
@@ -46,12 +42,6 @@ all-from : {X : Type 0} (P : X → Type 0) (xs : List X) → ((n : ℕ) (x : X) 
 all-from P xs each k d below =
     let item = item-at xs k below in
     subst P (sym (get_or_from_slice_get xs k item.0 d item.1)) (each k item.0 item.1)
-
--- the line to which lines lead
-pub result-at : (lines : List Line) (c : TreeClause) → result_of lines ≡ Some c → (n : ℕ) × (l : Line) × (slice_get lines n ≡ Some l) × (clause_of l.clause ≡ c)
-result-at [] c led = absurd (none-some c led)
-result-at (l ∷ []) c led = (0, l, refl, same_Some (clause_of l.clause) c led)
-result-at (l ∷ m ∷ ls) c led = let rest = result-at (m ∷ ls) c led in (suc rest.0, rest.1, rest.2, rest.3)
 
 -- ---- parents of lines
 
@@ -97,93 +87,53 @@ all-plain (l ∷ ls) kinds =
     let both = and_parts (is_on_literals l.step) (list_all (λ (m : Line). is_on_literals m.step) ls) kinds in
     and_from (is_plain_step l.step) (list_all (λ (m : Line). is_plain_step m.step) ls) (plain-step l.step both.0) (all-plain ls both.1)
 
--- ---- names
+-- ---- results
 
-move-names : (is_predicate : ℕ → Bool) (clauses : Lookup) (c : TreeClause) (o : Option ℕ) (d : TreeClause) → IsMove is_predicate clauses c o d → d.names ≡ c.names
-move-names is_predicate clauses c None d move = ⊎_elim (λ drops. drops.names) (λ merges. merges.names) move
-move-names is_predicate clauses c (Some n) d move = ⊎_elim (λ rewrites. rewrites.names) (λ cuts. cuts.names) move.infers
-
-moves-names : (is_predicate : ℕ → Bool) (clauses : Lookup) (c : TreeClause) (ms : List Move) → AreMoves is_predicate clauses c ms → (end_of_moves c ms).names ≡ c.names
-moves-names is_predicate clauses c [] moved = refl
-moves-names is_predicate clauses c (m ∷ ms) moved =
-    moves-names is_predicate clauses m.gives ms moved.1 ∙ ap (λ (d : TreeClause). d.names) moved.0.canonical
-    ∙ move-names is_predicate clauses c m.by moved.0.result moved.0.step
-
-module _ (is_predicate : ℕ → Bool) (options : Options) (clauses : Lookup) (j : GivenJob) (unsplit : options.split ≡ false) (nameless : (n : ℕ) (c : TreeClause) → clauses n ≡ Some c → c.names ≡ []) (sized : (n : ℕ) (c : TreeClause) → clauses n ≡ Some c → clause_size c ≤ MOST_SYMBOLS) where
-  inference-names : (key : Key) (c : TreeClause) → IsSizedInference is_predicate (mode_of options.select) (among (is_told j) clauses) key c false → c.names ≡ []
-  inference-names (key.Para first from from_side second into into_side place) c of =
-      of.infers.named.names
-      ∙ ap₂ (λ ns ms. sorted_names (ns ++ ms)) (nameless first of.first_clause (among-there clauses (is_told j) first of.first_clause of.first_there))
-      (nameless second of.second_clause (among-there clauses (is_told j) second of.second_clause of.second_there))
-  inference-names (key.Refl clause literal) c of =
-      of.infers.named.names ∙ ap sorted_names (nameless clause of.clause (among-there clauses (is_told j) clause of.clause of.there))
-  inference-names (key.Factor clause becomes becomes_side other other_side) c of =
-      of.infers.named.names ∙ ap sorted_names (nameless clause of.clause (among-there clauses (is_told j) clause of.clause of.there))
-  inference-names (key.Replaced clause) c of = absurd of
-
-  -- ---- results
-
-  one-result : (rs : List Clause) (c : TreeClause) → map clause_of rs ≡ c ∷ [] → (x : Clause) × (rs ≡ x ∷ []) × (clause_of x ≡ c)
-  one-result [] c is = absurd cc
-  one-result (x ∷ []) c is = (x, refl, cc)
-  one-result (x ∷ y ∷ rs) c is = absurd cc
-
+module _ (usage : SymbolUse) (inputs : List TreeClause) (options : Options) (j : GivenJob) (r : PoolRecord) (sound : Sound usage inputs r) where
   fit :
-      (lookup : Lookup) (lines : List Line) (results : List Clause) (c : TreeClause)
-      → AreLinesFrom is_predicate lookup lines → result_of lines ≡ Some c → c.names ≡ [] → clause_size c ≤ MOST_SYMBOLS → map clause_of results ≡ handed_back options.split c
-      → IsFitResult lines results
-  fit lookup lines results c from led no_names small given =
-      let one = one-result results c (given ∙ ap (λ b. handed_back b c) unsplit) in
-      let last = result-at lines c led in
+      (lines : List Line) (results : List Clause) (c : TreeClause)
+      → Arrives usage inputs r.registered lines → result_of lines ≡ Some c → map clause_of results ≡ handed_back options.split c
+      → IsFitResult options.split (length r.parts) lines results
+  fit lines results c arrives led given =
+      let whole = (batch-continues usage inputs r sound lines arrives c led).whole in
       record {
-        result = one.0;
-        given = one.1;
-        led = led ∙ ap (λ (d : TreeClause). let o : Option TreeClause = Some d in o) (sym one.2);
-        canonical = subst IsCanonical (last.3 ∙ sym one.2) (numbered-at last.0 last.1 last.2).canonical;
-        no_names = ap (λ (d : TreeClause). d.names) one.2 ∙ no_names;
-        small = subst (λ (d : TreeClause). clause_size d ≤ MOST_SYMBOLS) (sym one.2) small;
-        plain = all-plain lines from.lines_right.kinds;
-        parents = parents-below is_predicate lookup lines from.lines_right;
+        clause = c;
+        lead = record {
+          led = led;
+          asserts = whole.asserts;
+          met = whole.met;
+          plain = all-plain lines arrives.from.lines_right.kinds;
+          parents = parents-below usage.is_predicate arrives.clauses lines arrives.from.lines_right;
+        };
+        given = handed-in c options.split results given;
+        fit = λ many. parts-fit c usage whole.formed whole.small options.split results (handed-in c options.split results given) many;
+        canonical = whole.canonical;
+        small = whole.small;
       }
-    where
-      numbered-at : (n : ℕ) (l : Line) → slice_get lines n ≡ Some l → IsNumbered l
-      numbered-at n l there = subst IsNumbered (get_or_from_slice_get lines n l l there) (from.lines_right.numbered n l (slice_get_within lines n l there))
 
-  fit-entry : (key : Key) (fate : Fate) → IsRightFate is_predicate options clauses j key fate → IsFit fate
+  fit-entry : (key : Key) (fate : Fate) → IsRightFate usage.is_predicate options (clauses_of r) j key fate → IsFit options.split (length r.parts) fate
   fit-entry key (Kept lines results) right =
-      fit (among (is_told j) clauses) lines results right.result right.are_lines right.reduced.led
-      (ap (λ (d : TreeClause). d.names) (sym right.reduced.ends)
-      ∙ moves-names is_predicate (among (is_told j) clauses) (clause_of right.first.clause) right.moves right.reduced.moved
-      ∙ inference-names key (clause_of right.first.clause) right.inferred)
-      (let first = conclusion-small is_predicate options (among (is_told j) clauses) key (clause_of right.first.clause) right.inferred in
-      let less = moves-size is_predicate (among (is_told j) clauses) (clause_of right.first.clause) right.moves right.reduced.moved in
-      let same : clause_size (end_of_moves (clause_of right.first.clause) right.moves) ≡ clause_size right.result = ap clause_size right.reduced.ends in
-      omega (arith, first, less, same))
-      right.given
+      let e : Entry = record { key = key; fate = Kept lines results } in
+      fit lines results right.result ((all-entries-come usage inputs options j r sound (e ∷ []) (right, tt)).0) right.reduced.led right.given
   fit-entry key (Dropped redundancy) right = tt
   fit-entry key Heavy right = tt
 
-  fit-removal : (victim : ℕ) (justifiers : List ℕ) (fate : Fate) → IsRightRemovalBy is_predicate options clauses j victim justifiers fate → IsFit fate
+  fit-removal :
+      (victim : ℕ) (justifiers : List ℕ) (fate : Fate)
+      → IsRightRemovalBy usage.is_predicate options (clauses_of r) j victim justifiers fate → IsFit options.split (length r.parts) fate
   fit-removal victim justifiers (Kept lines results) right =
-      fit (among (is_told j) clauses) lines results right.result right.are_lines right.reduced.led
-      (ap (λ (d : TreeClause). d.names) (sym right.reduced.ends)
-      ∙ moves-names is_predicate (among (is_told_beside j victim) clauses) right.clause (right.move ∷ right.moves) right.reduced.moved
-      ∙ nameless victim right.clause (among-there clauses (is_told j) victim right.clause right.there))
-      (let first = sized victim right.clause (among-there clauses (is_told j) victim right.clause right.there) in
-      let less = moves-size is_predicate (among (is_told_beside j victim) clauses) right.clause (right.move ∷ right.moves) right.reduced.moved in
-      let same : clause_size (end_of_moves right.clause (right.move ∷ right.moves)) ≡ clause_size right.result = ap clause_size right.reduced.ends in
-      omega (arith, first, less, same))
-      right.given
+      let m : Removal = record { victim = victim; justifiers = justifiers; fate = Kept lines results } in
+      fit lines results right.result ((all-removals-come usage inputs options j r sound (m ∷ []) (right, tt)).0 lines refl) right.reduced.led right.given
   fit-removal victim justifiers (Dropped redundancy) right = tt
   fit-removal victim justifiers Heavy right = tt
 
-  pub fit-work : (work : Work) → IsRightWork is_predicate options clauses j work → IsFitWork work
+  pub fit-work : (work : Work) → IsRightWork usage.is_predicate options (clauses_of r) j work → IsFitWork options.split (length r.parts) work
   fit-work (Gone m) right = record {
     entries = λ k d below. absurd (omega (arith, below));
     removals = λ k d below. by k d below;
   }
     where
-      by : (k : ℕ) (d : Removal) → k < 1 → IsFit (get_or (m ∷ []) k d).fate
+      by : (k : ℕ) (d : Removal) → k < 1 → IsFit options.split (length r.parts) (get_or (m ∷ []) k d).fate
       by zero d below = fit-removal m.victim m.justifiers m.fate right.right
       by (suc k) d below = absurd (omega (arith, below))
   fit-work (Met entries removals) right = record {

@@ -20,7 +20,7 @@ use Rattle.pool_history.specs.News.{TreeChange, changes_between, news_since}
 use Rattle.pool_core.specs.Noted.{IsNoted, IsTicketAgain, change_at}
 use Rattle.pool_history.specs.Record.{PoolRecord, GivenJob, Death, clauses_of, clause_numbered, numbers_of, lives, is_dead, is_awake, position_of, given_job}
 use Rattle.pool_history.specs.Replay.{Origin, after, retold, replay}
-use Rattle.pool_core.specs.State.{origin_of, IsProofStateOf, IsStateOf, IsPool, job_entry, solver_job}
+use Rattle.pool_core.specs.State.{origin_of, HasNodes, IsProofStateOf, IsStateOf, IsPool, job_entry, solver_job}
 use Rattle.pool_history.specs.declared.batch.Batch.{Batch}
 use Rattle.pool_history.specs.declared.batch.Work.{Work}
 use Rattle.pool_history.specs.declared.batch.Work.TheVariants.{Gone, Met}
@@ -32,7 +32,7 @@ use Rattle.pool_history.specs.declared.ticket.Ticket.{Ticket}
 use Rattle.pool_history.proofs.AboutRecords.FrameLemmas.{by-if}
 use Rattle.pool_history.proofs.AboutClaims.HistoryLemmas.{event-count, replay-end, news-end}
 use Rattle.pool_core.proofs.AboutReturns.ReturnLemmas.{found-one}
-use Rattle.pool_core.proofs.AboutClaims.StateLemmas.{record_of, event-added, given-count}
+use Rattle.pool_core.proofs.AboutClaims.StateLemmas.{record_of, event-added, given-count, solver-few}
 
 -- ---- the jobs that are out
 
@@ -88,9 +88,9 @@ pub record IsTurnedDownBy (a b : Inside) (e : Event) : Type 0 where
   pub positions : b.positions.items ≡ a.positions.items
   pub jobs : b.jobs.entries ≡ a.jobs.entries
   pub history : events_of b.history ≡ events_of a.history ++ e ∷ []
-  pub history_room : vec_len b.history.events + length a.jobs.entries ≤ vec_capacity b.history.events
+  pub history_room : vec_len b.history.events + (length a.jobs.entries + 1) ≤ vec_capacity b.history.events
   pub before : b.notes_before.items ≡ a.notes_before.items ++ length a.proof.notes.items ∷ []
-  pub before_room : vec_len b.notes_before + length a.jobs.entries ≤ vec_capacity b.notes_before
+  pub before_room : vec_len b.notes_before + (length a.jobs.entries + 1) ≤ vec_capacity b.notes_before
   pub counted : keys_in b.counted ≡ keys_in a.counted
   pub set_aside : b.set_aside.items ≡ a.set_aside.items
   pub solver : b.solver ≡ a.solver
@@ -123,6 +123,7 @@ module _ (a b : Inside) (job justifier : ℕ) (is : IsPool a) (by : IsTurnedDown
           ended = is.state.proof.ended;
           splits = is.state.proof.splits;
           tags = is.state.proof.tags;
+          asserting = is.state.proof.asserting;
           of_registered = let told = is.state.proof.of_registered in record {
             positions = told.positions;
             active = told.active;
@@ -130,8 +131,6 @@ module _ (a b : Inside) (job justifier : ℕ) (is : IsPool a) (by : IsTurnedDown
             placed = all-anew job was (λ n. has_number n was.positions ≡ true) was.given told.placed;
             victims = told.victims;
           };
-          no_propositional = is.state.proof.no_propositional;
-          no_names = is.state.proof.no_names;
           no_empty = is.state.proof.no_empty;
         }));
     positions = by.positions ∙ is.state.positions;
@@ -141,12 +140,13 @@ module _ (a b : Inside) (job justifier : ℕ) (is : IsPool a) (by : IsTurnedDown
     last_job = by.last_job ∙ is.state.last_job;
     place = by.place ∙ is.state.place;
     solver = ap (option_map solver_job) by.solver ∙ is.state.solver;
-    no_solver = is.state.no_solver;
-    queue_room =
-        let room = is.state.queue_room in let same = many in let kept = ap (λ (s : ProofState). s.queue.spare) by.proof in
-        omega (arith, room, same, kept);
-    history_room = let room = by.history_room in let same = many in let count = given-count a was is.state in omega (arith, room, same, count);
-    notes_room = let room = by.before_room in let same = many in let count = given-count a was is.state in omega (arith, room, same, count);
+    queue_room = subst (λ (s : ProofState). HasNodes s 0) (sym by.proof) is.state.queue_room;
+    history_room =
+        let room = by.history_room in let same = many in let count = given-count a was is.state in let few = solver-few was.solver in
+        omega (arith, room, same, count, few);
+    notes_room =
+        let room = by.before_room in let same = many in let count = given-count a was is.state in let few = solver-few was.solver in
+        omega (arith, room, same, count, few);
   }
     where
       many : length (map (anew job was) was.given) ≡ length was.given

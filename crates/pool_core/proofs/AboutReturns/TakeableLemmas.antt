@@ -1,10 +1,9 @@
 -- A batch that is to be taken, and what becomes of the record by it.
 use Rattle.std.proofs.Common.{◌≡◌, ℕ, ◌+◌, ◌<◌, ◌≤◌, Bool, true, false, not, List, [], ◌∷◌, ◌++◌, map, length, append-nil, refl, ap, sym, ◌∙◌, subst, arith}
-use Rattle.std.specs.Prelude.{Option, None, Some, cond, is_none, is_some, nat_lt, slice_get, option_map, find, All, IsTrue, if◌then◌else◌}
+use Rattle.std.specs.Prelude.{Option, None, Some, cond, is_none, is_some, nat_lt, find, IsTrue, if◌then◌else◌}
 use Rattle.std.specs.List.{list_all}
 use Rattle.std.proofs.lemmas.Bool.{and_parts, and_from, true≢false, ltb-true}
 use Rattle.std.proofs.lemmas.Option.{none-some, same_Some}
-use Rattle.fol_base.specs.Clause.{TreeClause}
 use Rattle.fol_base.specs.WellFormed.{SymbolUse, WellFormed}
 use Rattle.term_bank.specs.declared.bank.Bank.{Bank}
 use Rattle.term_bank.specs.declared.table.Table.{Table}
@@ -17,10 +16,11 @@ use Rattle.pool_core.specs.KeptEvents.{events_of}
 use Rattle.pool_history.specs.Inputs.{IsUseOf}
 use Rattle.pool_history.specs.Lawful.{IsAllowed, IsGivenOut, justifiers_live}
 use Rattle.pool_core.specs.Placing.{KnowsMore, NotesDeaths, IsFitWork, IsInBank, IsTakeable, IsWorkOf, IsLiving, IsOfGiven, HasRoom, with_queue}
-use Rattle.pool_history.specs.Record.{PoolRecord, Registered, GivenJob, Death, clauses_of, is_dead, lives, given_job}
+use Rattle.pool_history.specs.Record.{PoolRecord, GivenJob, Death, clauses_of, is_dead, lives, given_job}
 use Rattle.pool_history.specs.Replay.{after, with_events}
 use Rattle.pool_history.specs.Returning.{becomes_active, worked, returns_to}
-use Rattle.pool_core.specs.State.{origin_of, IsProofStateOf, IsStateOf, IsPool}
+use Rattle.pool_core.specs.Demanded.{no_demand}
+use Rattle.pool_core.specs.State.{origin_of, HasNodes, IsProofStateOf, IsStateOf, IsPool}
 use Rattle.pool_history.specs.declared.batch.Batch.{Batch}
 use Rattle.pool_history.specs.declared.batch.Work.{Work}
 use Rattle.pool_history.specs.declared.batch.Work.TheVariants.{Gone, Met}
@@ -36,23 +36,13 @@ use Rattle.pool_core.proofs.AboutClaims.GiveUpLemmas.{length-without, ready-give
 use Rattle.pool_core.proofs.AboutReturns.ProofStateLemmas.{lives-here}
 use Rattle.pool_core.proofs.AboutReturns.RightBatchLemmas.{fit-work}
 use Rattle.pool_history.proofs.AboutCounting.KnownLemmas.{justifiers-known}
-use Rattle.pool_history.proofs.AboutLines.BeginningLemmas.{registered_are_whole}
-use Rattle.pool_history.proofs.AboutLines.UnsplitLemmas.{unsplit-parts, whole-nameless}
+use Rattle.pool_history.proofs.AboutLines.BeginningLemmas.{replay-sound}
 use Rattle.pool_history.proofs.AboutCounting.DeathLemmas.{below-count}
-use Rattle.pool_history.specs.Wholeness.{IsWhole}
-use Rattle.pool_history.proofs.AboutRecords.ItemLemmas.{all-at, item-at}
+use Rattle.pool_history.proofs.AboutRecords.ItemLemmas.{item-at}
 use Rattle.pool_core.proofs.AboutClaims.StateLemmas.{record_of, pool-rises, registered-count}
 use Rattle.pool_core.proofs.AboutReturns.TakenLemmas.{without, without-state}
 
 -- ---- a batch that is to be taken
-
--- what holds of all registered clauses holds of one that is looked up
-registered-holds : (P : TreeClause → Type 0) (r : PoolRecord) → All (λ (x : Registered). P x.clause) r.registered → (n : ℕ) (c : TreeClause) → clauses_of r n ≡ Some c → P c
-registered-holds P r all n c there = by (slice_get r.registered n) refl there
-  where
-    by : (o : Option Registered) → slice_get r.registered n ≡ o → option_map (λ (x : Registered). x.clause) o ≡ Some c → P c
-    by None none h = absurd (none-some c h)
-    by (Some x) here h = subst P (same_Some x.clause c h) (all-at (λ (y : Registered). P y.clause) r.registered n x all here)
 
 -- those of which none died live
 all-live :
@@ -76,7 +66,7 @@ pub record IsToBeTaken (a : Inside) (batch : Batch) (n : ℕ) : Type 0 where
   pub given : GivenJob
   pub found : given_job (record_of a) batch.job ≡ Some given
   pub same : given.number ≡ n
-  pub fit : IsFitWork batch.work
+  pub fit : IsFitWork a.options.split (length (record_of a).parts) batch.work
   pub allowed : (usage : SymbolUse) → IsUseOf (origin_of a).inputs usage → IsAllowed usage.is_predicate a.options (record_of a) (Return batch)
   pub living : IsLiving a.proof.register.clauses n
   pub of_given : IsOfGiven n batch.work
@@ -90,7 +80,8 @@ to-be-taken a batch n is takeable = record {
   found = right.out;
   same = same;
   fit =
-      fit-work wf.usage.is_predicate a.options (clauses_of r) right.given is.unsplit nameless (λ n c there. (whole n c there).small)
+      fit-work wf.usage (origin_of a).inputs a.options right.given r
+      (replay-sound wf.usage (origin_of a) (events_of a.history) is.inputs wf.used (is.lawful wf.usage wf.used))
       batch.work (right.says wf.usage wf.used);
   allowed = λ usage used. record {
     given = right.given;
@@ -122,15 +113,6 @@ to-be-taken a batch n is takeable = record {
 
     wf : WellFormed (origin_of a).inputs
     wf = is.inputs.well_formed
-
-    whole : (n : ℕ) (c : TreeClause) → clauses_of r n ≡ Some c → IsWhole wf.usage (length r.parts) c
-    whole =
-        registered-holds (IsWhole wf.usage (length r.parts)) r
-        (registered_are_whole wf.usage (origin_of a) (events_of a.history) is.inputs wf.used (is.lawful wf.usage wf.used))
-
-    nameless : (n : ℕ) (c : TreeClause) → clauses_of r n ≡ Some c → c.names ≡ []
-    nameless n c there =
-        whole-nameless wf.usage (length r.parts) c (ap length (unsplit-parts (origin_of a) (events_of a.history) is.unsplit)) (whole n c there)
 
     same : right.given.number ≡ n
     same = ap (λ (j : GivenJob). j.number) (same_Some right.given out.given (sym right.out ∙ out.out)) ∙ out.says.0
@@ -187,11 +169,12 @@ after-closed options batch r j found ended =
 
 -- ---- room that is there
 
-pub no-more-room : (s : ProofState) (out : ℕ) → out ≤ s.queue.spare → HasRoom s [] 0 out
-no-more-room s out enough = record {
-  register = omega arith;
-  queue = omega (arith, enough);
+pub no-more-room : (s : ProofState) → HasNodes s 0 → HasRoom s no_demand 0
+no-more-room s enough = record {
+  places = record { register = omega arith; queue = enough; index = omega arith };
   steps = omega (arith, s.steps.ok.1);
+  parts = record { parts = omega arith; components = omega (arith, s.splits.component_lines.ok.1); definitions = omega (arith, s.splits.definition_lines.ok.1) };
+  names = record { clauses = omega arith; literals = omega arith; lines = omega (arith, s.splits.propositional_lines.ok.1) };
   notes = omega (arith, s.notes.ok.1);
 }
 
@@ -223,15 +206,16 @@ pub work-of :
     (a : Inside) (batch : Batch) (n : ℕ) (bank : Bank) (learned : Table) (t : ProofState) (prepared : Prepared) (to : IsToBeTaken a batch n)
     → IsPool a → a.table.bank ≡ bank → KnowsMore a.table learned
     → t.register.clauses ≡ a.proof.register.clauses → t.queue.pairs ≡ a.proof.queue.pairs → t.steps.items ≡ a.proof.steps.items → t.ended ≡ a.proof.ended → split_view t.splits ≡ split_view a.proof.splits
-    → IsInBank bank learned batch.work prepared
-    → IsWorkOf bank learned t n batch.work prepared
+    → t.asserting.entries ≡ a.proof.asserting.entries
+    → IsInBank bank learned a.options.split (length (record_of a).parts) batch.work prepared
+    → IsWorkOf bank learned a.options.split t n batch.work prepared
     (map (pair_of (without a.options batch.job (record_of a))) (ready (without a.options batch.job (record_of a)))) (without a.options batch.job (record_of a))
-work-of a batch n bank learned t prepared to is same more register pairs steps ended splits in_bank = record {
+work-of a batch n bank learned t prepared to is same more register pairs steps ended splits asserting in_bank = record {
   in_bank = in_bank;
   queue = queue-without a batch.job n to.given t.queue.pairs is to.found to.same pairs;
   proof =
       subst (λ (k : Bank). IsProofStateOf k learned (with_queue (map (pair_of s) (ready s)) t) s) same
-      (without-state a.table.bank a.table learned a.options a.proof t (record_of a) batch.job more register steps ended splits is.state.proof);
+      (without-state a.table.bank a.table learned a.options a.proof t (record_of a) batch.job more register steps ended splits asserting is.state.proof);
 }
   where
     s : PoolRecord

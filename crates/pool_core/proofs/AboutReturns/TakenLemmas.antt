@@ -1,6 +1,6 @@
 -- A pool after a batch was taken.
 use Rattle.std.proofs.Common.{◌≡◌, ℕ, suc, ◌+◌, ◌<◌, ◌≤◌, ◌%◌, List, [], ◌∷◌, ◌++◌, map, length, drop, append-nil, refl, ap, ap₂, sym, ◌∙◌, subst, arith}
-use Rattle.std.specs.Prelude.{Option, None, Some, nat_le, slice_get, option_map, unwrap_or, find, fold, vec_len, vec_capacity, All}
+use Rattle.std.specs.Prelude.{Option, None, Some, is_some, nat_le, slice_get, option_map, unwrap_or, find, fold, vec_len, vec_capacity, All, if◌then◌else◌}
 use Rattle.std.specs.Ordering.{nat_cmp}
 use Rattle.std.specs.BTreeMap.{is_at}
 use Rattle.std.specs.Map.{remove_entry}
@@ -25,11 +25,11 @@ use Rattle.pool_history.specs.Lawful.{IsAllowed}
 use Rattle.pool_history.specs.News.{TreeChange, changes_between}
 use Rattle.pool_core.specs.Noted.{IsNoted, change_at}
 use Rattle.pool_core.specs.Placing.{KnowsMore, NotesDeaths, entries_of, with_queue}
-use Rattle.pool_history.specs.Record.{PoolRecord, Registered, GivenJob, Death, clause_numbered, given_job, without_job}
+use Rattle.pool_history.specs.Record.{PoolRecord, Registered, GivenJob, SolverJob, Death, clause_numbered, given_job, without_job}
 use Rattle.pool_history.specs.Replay.{after, with_events}
 use Rattle.pool_history.specs.Returning.{dies, replaced, removed, takes_effect, proposed, becomes_active, heavy_entries, sets_aside, worked}
 use Rattle.pool_core.specs.Started.{registered_at, IsOfTable}
-use Rattle.pool_core.specs.State.{origin_of, IsProofStateOf, IsStateOf, IsPool, job_entry, solver_job}
+use Rattle.pool_core.specs.State.{origin_of, HasNodes, IsProofStateOf, IsStateOf, IsPool, job_entry, solver_job}
 use Rattle.pool_history.specs.declared.batch.Batch.{Batch}
 use Rattle.pool_history.specs.declared.batch.Fate.{Fate}
 use Rattle.pool_history.specs.declared.batch.Fate.TheVariants.{Kept, Dropped, Heavy}
@@ -43,7 +43,7 @@ use Rattle.pool_core.specs.declared.pool.Note.TheVariants.{Activated, Died}
 use Rattle.pool_core.specs.declared.pool.OutJob.{OutJob}
 use Rattle.pool_core.specs.declared.pool.Pool.TheInside.{Inside}
 use Rattle.pool_core.specs.declared.pool.ProofState.{ProofState}
-use Rattle.pool_core.specs.declared.register.Registration.{Registration}
+use Rattle.clause_register.specs.declared.register.Registration.{Registration}
 use Rattle.pool_core.proofs.AboutReturns.ArrivalLemmas.{recounted}
 use Rattle.pool_history.proofs.AboutCounting.CountedRecords.{lookup-more}
 use Rattle.pool_history.proofs.AboutRecords.EditLemmas.{remove-filter}
@@ -161,9 +161,9 @@ pub without-state :
     (bank : Bank) (known learned : Table) (options : Options) (s t : ProofState) (r : PoolRecord) (job : ℕ)
     → KnowsMore known learned
     → t.register.clauses ≡ s.register.clauses → t.steps.items ≡ s.steps.items → t.ended ≡ s.ended → split_view t.splits ≡ split_view s.splits
-    → IsProofStateOf bank known s r
+    → t.asserting.entries ≡ s.asserting.entries → IsProofStateOf bank known s r
     → IsProofStateOf bank learned (with_queue (map (pair_of (without options job r)) (ready (without options job r))) t) (without options job r)
-without-state bank known learned options s t r job more register steps ended splits is = record {
+without-state bank known learned options s t r job more register steps ended splits asserting is = record {
   registered = ap (map registered_at) register ∙ is.registered;
   of_table =
       subst (All (IsOfTable bank learned)) (sym register) (learned-all bank known learned s.register.clauses more is.of_table);
@@ -175,10 +175,9 @@ without-state bank known learned options s t r job more register steps ended spl
   ended = ended ∙ is.ended;
   splits = subst (λ (v : SplitView). AreSplitsOf v r.parts r.lines r.propositional r.model r.modelled) (sym splits) is.splits;
   tags = is.tags;
+  asserting = asserting ∙ is.asserting;
   of_registered = let told = told-without job r is.of_registered in
       record { positions = told.positions; active = told.active; given = told.given; placed = told.placed; victims = told.victims };
-  no_propositional = is.no_propositional;
-  no_names = is.no_names;
   no_empty = is.no_empty;
 }
 
@@ -263,8 +262,8 @@ module _ (a b : Inside) (batch : Batch) (j : GivenJob) (aside : List Key) (s : P
   taken-state :
       IsTakenBy a b batch → Follows a.options batch.job aside r s
       → IsProofStateOf b.table.bank b.table b.proof s → keys_in b.counted ≡ s.counted → b.set_aside.items ≡ a.set_aside.items ++ aside
-      → length r.given ≤ b.proof.queue.spare → IsStateOf b now
-  taken-state by follows proof counted set_aside spare = record {
+      → HasNodes b.proof 0 → IsStateOf b now
+  taken-state by follows proof counted set_aside nodes = record {
     proof = recounted b.table.bank b.table b.proof s s.counted s.set_aside (r.events + 1) proof;
     positions = by.positions ∙ is.state.positions ∙ sym follows.positions;
     jobs =
@@ -277,19 +276,19 @@ module _ (a b : Inside) (batch : Batch) (j : GivenJob) (aside : List Key) (s : P
     last_job = by.last_job ∙ is.state.last_job ∙ sym follows.jobs;
     place = by.place ∙ is.state.place ∙ ap (λ k. k % 6) (sym follows.claims);
     solver = ap (option_map solver_job) by.solver ∙ is.state.solver ∙ sym follows.solver;
-    no_solver = follows.solver ∙ is.state.no_solver;
-    queue_room =
-        let less = one in let same : length s.given ≡ length (without_job batch.job r.given) = ap length follows.given in
-        omega (arith, less, same, spare);
+    queue_room = nodes;
     history_room =
         let less = one in let same : length s.given ≡ length (without_job batch.job r.given) = ap length follows.given in
-        let room = is.state.history_room in
-        omega (arith, less, same, by.history_len, by.history_room, room);
+        let room = is.state.history_room in let solving = same-solver in
+        omega (arith, less, same, solving, by.history_len, by.history_room, room);
     notes_room =
         let less = one in let same : length s.given ≡ length (without_job batch.job r.given) = ap length follows.given in
-        let room = is.state.notes_room in
-        omega (arith, less, same, by.before_len, by.before_room, room);
+        let room = is.state.notes_room in let solving = same-solver in
+        omega (arith, less, same, solving, by.before_len, by.before_room, room);
   }
+    where
+      same-solver : ◌≡◌ {A = ℕ} (if is_some s.solver then 1 else 0) (if is_some r.solver then 1 else 0)
+      same-solver = ap (λ (o : Option SolverJob). if is_some o then 1 else 0) follows.solver
 
   pub taken-pool :
       after a.options r (Return batch) ≡ now
@@ -297,10 +296,10 @@ module _ (a b : Inside) (batch : Batch) (j : GivenJob) (aside : List Key) (s : P
       → IsTakenBy a b batch → Follows a.options batch.job aside r s
       → IsProofStateOf b.table.bank b.table b.proof s → keys_in b.counted ≡ s.counted → b.set_aside.items ≡ a.set_aside.items ++ aside
       → NotesDeaths r s a.proof.notes.items b.proof.notes.items
-      → length r.given ≤ b.proof.queue.spare → IsPool b
-  taken-pool comes allowed by follows proof counted set_aside noted spare =
+      → HasNodes b.proof 0 → IsPool b
+  taken-pool comes allowed by follows proof counted set_aside noted nodes =
       event-added a b (Return batch) (map (λ (d : Death). Died d.victim) noted.deaths) is by.origin by.history allowed
-      (subst (IsStateOf b) (sym comes) (taken-state by follows proof counted set_aside spare))
+      (subst (IsStateOf b) (sym comes) (taken-state by follows proof counted set_aside nodes))
       (grown-notes a.proof.register.clauses b.proof.register.clauses follows.clauses.0 grown a.proof.notes.items within)
       noted.noted
       (died-told b.proof.register.clauses noted.deaths ∙ sym told ∙ ap (changes_between r) (sym comes))

@@ -1,9 +1,10 @@
-use Rattle.std.proofs.Common.{◌≡◌, ℕ, ◌+◌, ◌<◌, ◌≤◌, ◌^◌, List, [], ◌∷◌, ◌++◌, map, length, vec_len, append-nil, append_assoc, refl, ap, ap₂, sym, ◌∙◌, arith}
+use Rattle.std.proofs.Common.{◌≡◌, ℕ, ◌+◌, ◌<◌, ◌≤◌, ◌^◌, Bool, true, List, [], ◌∷◌, ◌++◌, map, length, vec_len, append-nil, append_assoc, refl, ap, ap₂, sym, ◌∙◌, arith}
 use Rattle.std.specs.Prelude.{slice_get}
-use Rattle.std.specs.List.{AllByRecursion}
+use Rattle.std.specs.List.{AllByRecursion, list_all}
 use Rattle.std.specs.Vec.Iter.{into_iter_items}
+use Rattle.std.proofs.lemmas.Bool.{and_parts}
 use Rattle.std.proofs.lemmas.List.{map-append, length-append}
-use Rattle.kernel_steps.specs.Lines.{step_parents}
+use Rattle.kernel_steps.specs.Lines.{is_plain_step, step_parents}
 use Rattle.kernel_steps.specs.declared.step.Step.{Step}
 use Rattle.kernel_steps.specs.declared.step.Line.{Line}
 use Rattle.kernel_steps.specs.declared.step.TheConstants.{CLAUSE_NUMBERS}
@@ -30,8 +31,20 @@ loop-line-init c = record {
   rest = c.into_iter-line-iterator.ensures.into_iter_gives.0 ∙ c.into_vec-line-items.ensures;
 }
 
-pub placed-requires : goal.placed-requires
-placed-requires c =
+-- what holds of all elements holds of one in the middle
+of-middle : {X : Type 0} (p : X → Bool) (xs : List X) (x : X) (ys : List X) → list_all p (xs ++ x ∷ ys) ≡ true → p x ≡ true
+of-middle p [] x ys all = (and_parts (p x) (list_all p ys) all).0
+of-middle p (z ∷ zs) x ys all = of-middle p zs x ys (and_parts (p z) (list_all p (zs ++ x ∷ ys)) all).1
+
+pub placed-requires-clause-plain : goal.placed-requires-clause-plain
+placed-requires-clause-plain c =
+    let whole : c.loop-line.yielded ++ c.in-Some.line ∷ into_iter_items c.next.new.self ≡ c.args.lines =
+    ap (λ ls. c.loop-line.yielded ++ ls) (sym c.in-Some.ensures.steps.0) ∙ c.loop-line.invariant.rest in
+    of-middle (λ (l : Line). is_plain_step l.step) c.loop-line.yielded c.in-Some.line (into_iter_items c.next.new.self)
+    (ap (λ ls. list_all (λ (l : Line). is_plain_step l.step) ls) whole ∙ c.requires.plain)
+
+pub placed-requires-clause-numbers : goal.placed-requires-clause-numbers
+placed-requires-clause-numbers c =
     let whole : c.loop-line.yielded ++ c.in-Some.line ∷ into_iter_items c.next.new.self ≡ c.args.lines =
     ap (λ ls. c.loop-line.yielded ++ ls) (sym c.in-Some.ensures.steps.0) ∙ c.loop-line.invariant.rest in
     let here : HasParentsBelow (CLAUSE_NUMBERS + length c.args.lines) c.in-Some.line =

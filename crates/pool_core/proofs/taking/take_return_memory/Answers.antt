@@ -1,16 +1,23 @@
-use Rattle.std.proofs.Common.{◌++◌, subst, arith}
-use Rattle.pool_history.specs.Counting.{lines_of_entries}
-use Rattle.pool_core.specs.Placing.{HasRoom, entries_of, lines_of_removals}
-use Rattle.pool_history.specs.Returning.{removals_of}
-use Rattle.pool_core.proofs.AboutReturns.InternedLemmas.{results-count}
+use Rattle.std.proofs.Common.{◌≡◌, List, ◌++◌, ap, ap₂, ◌∙◌, subst}
+use Rattle.kernel_steps.specs.declared.key.Key.{Key}
+use Rattle.pool_core.specs.Demanded.{plus}
+use Rattle.pool_core.specs.Placing.{HasRoom, brought}
+use Rattle.pool_core.specs.declared.demand.Demand.{Demand}
 use Rattle.pool_core.proofs.taking.take_return_memory.Goals as goal
+
+pub returns-clause-prepared : goal.returns-clause-prepared
+returns-clause-prepared g c = λ split count fit.
+    let is = (c.in_ok-prepared.ensures.prepared split count fit).in_bank in
+    record { entries = is.entries; removals = is.removals }
 
 pub returns-clause-room : goal.returns-clause-room
 returns-clause-room g c =
-    let is = c.in_ok-prepared.ensures.prepared.in_bank in
-    let many = results-count c.args.bank.now c.prepare.new.table (lines_of_entries (entries_of c.args.work.now)) (lines_of_removals (removals_of c.args.work.now))
-    c.in_ok-prepared.prepared.entries c.in_ok-prepared.prepared.removals is.entries is.removals in
-    subst (λ k. HasRoom c.reserve.new.self (lines_of_entries (entries_of c.args.work.now) ++ lines_of_removals (removals_of c.args.work.now)) k c.args.out) c.removal_count.ensures
-    (c.in_ok-reserve.ensures.room (lines_of_entries (entries_of c.args.work.now) ++ lines_of_removals (removals_of c.args.work.now))
-    (omega (arith, many.0, c.in_ok-clauses.ensures, c.in_ok-prepared.prepared.entries.clauses.ok.0, c.in_ok-prepared.prepared.removals.clauses.ok.0))
-    (omega (arith, many.1, c.in_ok-lines.ensures)))
+    let is = (c.in_ok-prepared.ensures.prepared (c.requires.fit).0 (c.requires.fit).1 (c.requires.fit).2).in_bank in
+    let same : c.in_ok-demand.demand ≡ brought c.in_ok-prepared.prepared = c.in_ok-demand.ensures ∙ ap₂ plus is.entries.counted is.removals.counted in
+    subst (λ k. HasRoom c.reserve.new.self (brought c.in_ok-prepared.prepared) k) c.removal_count.ensures
+    (subst (λ (d : Demand). HasRoom c.reserve.new.self d c.removal_count.result) same c.in_ok-reserve.ensures.room)
+
+pub returns-clause-set_aside : goal.returns-clause-set_aside
+returns-clause-set_aside g c =
+    c.in_ok-append.ensures.items
+    ∙ ap (λ (ks : List Key). c.args.set_aside.now.items ++ ks) (c.in_ok-prepared.ensures.prepared (c.requires.fit).0 (c.requires.fit).1 (c.requires.fit).2).heavy

@@ -35,10 +35,13 @@ returns-clause-added g c = λ lss are.
     c.in_ok-push.ensures.items c.in_ok-push-2.ensures.items are
     (record {
       keyed = c.in_ok-key.ensures ∙ ap (map literal_of) c.as_slice.ensures;
-      same = ap (λ (p : ClauseParts). literals_at p.literals) c.in_ok-clause-2.ensures ∙ ap (λ (d : TreeClause). d.literals) c.in_ok-clause.ensures.same;
-      hashed =
-          c.literals_hash-hash.ensures ∙ ap literals_hash c.literals.ensures.literals
-          ∙ sym (ap (λ (p : ClauseParts). literals_hash p.literals) c.in_ok-clause-2.ensures);
-      of_bank = subst (λ (p : ClauseParts). AreLiteralsOf c.args.bank.now p.literals) (sym c.in_ok-clause-2.ensures) c.in_ok-clause.ensures.of_bank;
-      known = subst (λ (p : ClauseParts). All (IsKnown c.of_clause.new.table) p.literals) (sym c.in_ok-clause-2.ensures) c.in_ok-clause.ensures.known;
+      clause = record {
+        some = c.requires.fit.some;
+        same = ap (λ (p : ClauseParts). literals_at p.literals) c.in_ok-clause-2.ensures ∙ ap (λ (d : TreeClause). d.literals) c.in_ok-clause.ensures.same;
+        hashed =
+            c.literals_hash-hash.ensures ∙ ap literals_hash c.literals.ensures.literals
+            ∙ sym (ap (λ (p : ClauseParts). literals_hash p.literals) c.in_ok-clause-2.ensures);
+        of_bank = subst (λ (p : ClauseParts). AreLiteralsOf c.args.bank.now p.literals) (sym c.in_ok-clause-2.ensures) c.in_ok-clause.ensures.of_bank;
+        known = subst (λ (p : ClauseParts). All (IsKnown c.of_clause.new.table) p.literals) (sym c.in_ok-clause-2.ensures) c.in_ok-clause.ensures.known;
+      };
     })

@@ -2,6 +2,7 @@ use Rattle.std.proofs.Common.{◌≡◌, ◌++◌, [], ◌∷◌, ℕ, map, leng
 use Rattle.std.specs.Prelude.{is_some}
 use Rattle.std.proofs.lemmas.Option.{slice_get_within}
 use Rattle.pool_history.specs.Claiming.{ready, pair_of}
+use Rattle.pool_core.specs.Demanded.{no_demand}
 use Rattle.pool_core.specs.Placing.{IsTakeable}
 use Rattle.pool_history.specs.Record.{PoolRecord}
 use Rattle.pool_history.specs.Replay.{replay}
@@ -67,10 +68,8 @@ invariant_of-self c =
     (c.finish.ensures.finished c.self.inside.table.bank c.self.inside.table s (map (pair_of s) (ready s))
     (queue-without c.self.inside c.args.batch.job c.args.number to.given c.self.inside.proof.queue.pairs c.self.invariant to.found to.same refl)
     (without-state c.self.inside.table.bank c.self.inside.table c.self.inside.table c.self.inside.options c.self.inside.proof c.self.inside.proof r c.args.batch.job
-    (λ ls known. known) refl refl refl refl c.self.invariant.state.proof)))
+    (λ ls known. known) refl refl refl refl refl c.self.invariant.state.proof)))
     c.self.invariant.state.counted
     (sym (append-nil c.self.inside.set_aside.items))
     (no-deaths r (becomes_active to.given.number s) c.self.inside.proof.notes.items c.finish.new.self.notes.items refl c.finish.ensures.notes)
-    (let room = c.finish.ensures.room [] 0 (length r.given) (no-more-room c.self.inside.proof (length r.given) c.self.invariant.state.queue_room) in
-    let spare = room.queue in
-    omega (arith, spare))
+    (c.finish.ensures.room no_demand 0 (no-more-room c.self.inside.proof c.self.invariant.state.queue_room)).places.queue

@@ -1,6 +1,6 @@
 use Rattle.std.proofs.Common.{ap, ◌∙◌}
 use Rattle.pool_history.specs.Answers.{death_of}
-use Rattle.pool_core.specs.Register.{death_at}
+use Rattle.clause_register.specs.Register.{death_at}
 use Rattle.pool_history.specs.Replay.{replay}
 use Rattle.pool_history.specs.View.{PoolView}
 use Rattle.pool_core.proofs.AboutReturns.ProofStateLemmas.{death-at}

@@ -32,24 +32,21 @@ invariant_of-self c =
     dismissed-pool c.self.inside _ c.args.job out.given c.self.invariant out.out out.says
     (record {
       origin = refl;
-      table = refl;
       register = refl;
       positions = refl;
-      jobs = c.remove.ensures.entries;
       history = c.push.ensures.events;
-      history_len = c.push.ensures.len;
-      history_room = c.push.ensures.room;
       notes = refl;
       before = c.push_reserved.ensures.items ∙ ap (λ (k : ℕ). c.self.inside.notes_before.items ++ k ∷ []) many;
-      before_len = c.push_reserved.ensures.len;
-      before_room = c.push_reserved.ensures.capacity;
-      steps = refl;
       counted = refl;
       set_aside = refl;
-      ended = refl;
-      splits = refl;
-      solver = refl;
-      last_job = refl;
       place = refl;
     })
-    refl
+    (record {
+      jobs = c.remove.ensures.entries;
+      last_job = refl;
+      history_len = c.push.ensures.len;
+      history_room = c.push.ensures.room;
+      before_len = c.push_reserved.ensures.len;
+      before_room = c.push_reserved.ensures.capacity;
+    })
+    refl refl refl

@@ -1,18 +1,18 @@
 use Rattle.std.proofs.Common.{◌≡◌, ◌++◌, [], ◌∷◌, ℕ, List, length, refl, ap, sym, ◌∙◌, subst, arith}
-use Rattle.std.specs.Prelude.{Some, None}
+use Rattle.std.specs.Prelude.{Some, None, false}
 use Rattle.pool_history.specs.Answers.{IsTicket}
 use Rattle.pool_history.specs.Claiming.{next_given}
 use Rattle.pool_core.specs.Noted.{IsNextTicket}
 use Rattle.pool_history.specs.Record.{PoolRecord}
 use Rattle.pool_history.specs.Replay.{replay}
+use Rattle.pool_history.specs.Solving.{must_solve}
 use Rattle.pool_core.specs.State.{origin_of}
 use Rattle.pool_core.specs.KeptEvents.{events_of}
 use Rattle.pool_history.specs.View.{PoolView}
 use Rattle.pool_history.specs.declared.event.Event.{Event}
 use Rattle.pool_history.specs.declared.event.Event.TheVariants.{Claim}
-use Rattle.pool_core.proofs.AboutClaims.ClaimLemmas.{claimed-pool, claimed-ticket, activated-by, given-registered, in-queue, one-spare}
+use Rattle.pool_core.proofs.AboutClaims.ClaimLemmas.{claimed-pool, claimed-ticket, activated-by, given-registered}
 use Rattle.pool_history.proofs.AboutBounds.JobLemmas.{Rising}
-use Rattle.pool_core.proofs.AboutBeginnings.LivingLemmas.{nothing-to-solve}
 use Rattle.pool_core.proofs.AboutClaims.StateLemmas.{record_of, kept-pool, pool-rises}
 use Rattle.pool_history.proofs.AboutRecords.ItemLemmas.{item-at}
 use Rattle.pool_core.proofs.pool.Pool.give.Goals as goal
@@ -40,6 +40,7 @@ invariant_of-self c =
       set_aside = refl;
       ended = refl;
       splits = refl;
+      asserting = refl;
       solver = refl;
       last_job = refl;
       place = refl;
@@ -55,12 +56,13 @@ invariant_of-self-2 c =
     let r : PoolRecord = record_of c.self.inside in
     let next : next_given r ≡ Some c.args.number = ap (λ (v : PoolView). next_given (replay v.origin v.history)) c.self.view_is ∙ c.requires.next in
     let open_yet : r.ended ≡ None = ap (λ (v : PoolView). (replay v.origin v.history).ended) c.self.view_is ∙ c.requires.open in
+    let solved : must_solve r ≡ false = ap (λ (v : PoolView). must_solve (replay v.origin v.history)) c.self.view_is ∙ c.requires.solved in
     let is : IsNextTicket (origin_of c.self.inside) (events_of c.self.inside.history) c.args.told c.args.number c.in_ok-ticket.ticket =
     subst (λ (v : PoolView). IsNextTicket v.origin v.history c.args.told c.args.number c.in_ok-ticket.ticket) (sym c.self.view_is) c.in_ok-ticket.ensures.next in
     let there = item-at c.self.inside.proof.register.clauses c.args.number (given-registered c.self.inside c.args.number c.self.invariant next) in
     let many : c.len.result ≡ length c.self.inside.proof.notes.items = omega (arith, c.take_claim_memory.new.notes.ok.0, ap length c.take_claim_memory.ensures.notes) in
     claimed-pool c.self.inside _ c.args.number c.in_ok-ticket.ticket.job c.in_ok-ticket.ticket.left c.in_ok-ticket.ticket.position there.0
-    c.self.invariant open_yet (nothing-to-solve c.self.inside r c.self.invariant.state) next there.1 is.job is.left is.position
+    c.self.invariant open_yet solved next there.1 is.job is.left is.position
     (activated-by c.self.inside _ c.args.number c.in_ok-ticket.ticket.position there.0 c.take_claim_memory.new.positions.items c.take_claim_memory.new.notes.items
     c.take_claim_memory.ensures.positions c.take_claim_memory.ensures.notes
     (c.activate.ensures.register there.0 there.1) c.activate.ensures.positions c.activate.ensures.notes)
@@ -68,9 +70,7 @@ invariant_of-self-2 c =
       origin = refl;
       table = refl;
       queue = c.remove.ensures.pairs;
-      spare =
-          one-spare c.remove.result c.self.inside.proof.queue.spare c.remove.new.self.spare
-          (c.remove.ensures.found.1 (in-queue c.self.inside r c.args.number c.self.invariant.state next)) c.remove.ensures.spare;
+      nodes = c.remove.ensures.nodes;
       jobs = c.in_ok-take_claim_memory.ensures.jobs;
       history = c.push.ensures.events ∙ ap (λ (es : List Event). es ++ Claim c.in_ok-ticket.ticket.job ∷ []) c.take_claim_memory.ensures.events;
       history_room =
@@ -87,6 +87,7 @@ invariant_of-self-2 c =
       set_aside = refl;
       ended = refl;
       splits = refl;
+      asserting = refl;
       solver = refl;
       last_job = refl;
       place = refl;

@@ -3,11 +3,10 @@ use Rattle.pool_history.specs.Record.{PoolRecord, clause_numbered}
 use Rattle.pool_history.specs.Replay.{replay}
 use Rattle.pool_core.specs.State.{IsStateOf}
 use Rattle.pool_history.specs.View.{PoolView}
-use Rattle.pool_core.proofs.AboutBeginnings.LivingLemmas.{not-some}
 use Rattle.pool_core.proofs.AboutClaims.MemberLemmas.{AreMembersUpTo, no-members, one-member, no-member, first_members}
 use Rattle.pool_core.proofs.AboutClaims.StateLemmas.{registered-count}
 use Rattle.pool_core.proofs.pool.Pool.members.Goals as goal
-use Rattle.pool_core.proofs.pool.Pool.members.Goals.{then-is_none+in_ok-copied+in_ok-push, else-is_none}
+use Rattle.pool_core.proofs.pool.Pool.members.Goals.{then-is_member+in_ok-clause+in_ok-push, else-is_member}
 
 pub loop-number-init : goal.loop-number-init
 loop-number-init c =
@@ -19,13 +18,12 @@ loop-number-preserved c =
     let r : PoolRecord = replay c.args.self.now.origin c.args.self.now.history in
     let n : ℕ = c.loop-number.number in
     let is : IsStateOf c.self.inside r = subst (λ (v : PoolView). IsStateOf c.self.inside (replay v.origin v.history)) c.self.view_is c.self.invariant.state in
-    let none = not-some c.get-registration.result.now.death c.is_none.result c.is_none.ensures in
-    elim c.if-is_none.branch [
-      | then-is_none+in_ok-copied+in_ok-push w ↦ subst (AreMembersUpTo c.args.self.now.bank r (n + 1)) (sym w.members-is)
-          (one-member c.self.inside c.args.self.now.bank r n c.get-registration.result.now (record { number = n; clause = w.in_ok-copied.field-0 }) c.loop-number.members w.push.new.self (ap (λ (v : PoolView). v.bank) (sym c.self.view_is))
-          is c.get-registration.ensures (sym none ∙ w.if-is_none.true) refl w.in_ok-copied.ensures w.in_ok-push.ensures.ok c.loop-number.invariant)
-      | else-is_none w ↦ subst (AreMembersUpTo c.args.self.now.bank r (n + 1)) (sym w.members-is)
-          (no-member c.self.inside c.args.self.now.bank r n c.get-registration.result.now c.loop-number.members is c.get-registration.ensures (sym none ∙ w.if-is_none.false) c.loop-number.invariant)
+    elim c.if-is_member.branch [
+      | then-is_member+in_ok-clause+in_ok-push w ↦ subst (AreMembersUpTo c.args.self.now.bank r (n + 1)) (sym w.members-is)
+          (one-member c.self.inside c.args.self.now.bank r n w.get.result.now (record { number = n; clause = w.in_ok-clause.clause }) c.loop-number.members w.push.new.self (ap (λ (v : PoolView). v.bank) (sym c.self.view_is))
+          is w.get.ensures (sym c.is_member.ensures ∙ w.if-is_member.true) refl w.in_ok-clause.ensures w.in_ok-push.ensures.ok c.loop-number.invariant)
+      | else-is_member w ↦ subst (AreMembersUpTo c.args.self.now.bank r (n + 1)) (sym w.members-is)
+          (no-member c.args.self.now.bank r n c.loop-number.members (sym c.is_member.ensures ∙ w.if-is_member.false) c.loop-number.invariant)
     ]
 
 pub returns-clause-numbers : goal.returns-clause-numbers

@@ -1,19 +1,16 @@
-use Rattle.std.proofs.Common.{◌≡◌, ap, sym, ◌∙◌}
+use Rattle.std.proofs.Common.{◌≡◌, ap, ◌∙◌}
 use Rattle.pool_history.specs.Claiming.{next_given, next_choice}
-use Rattle.pool_core.specs.KeptEvents.{events_of}
 use Rattle.pool_history.specs.Record.{PoolRecord}
 use Rattle.pool_history.specs.Replay.{replay}
-use Rattle.pool_history.specs.Solving.{must_solve}
 use Rattle.pool_history.specs.View.{PoolView}
-use Rattle.pool_core.specs.State.{origin_of}
-use Rattle.pool_core.proofs.AboutBeginnings.LivingLemmas.{nothing-to-solve}
+use Rattle.pool_core.proofs.AboutClaims.StateLemmas.{record_of}
 use Rattle.pool_history.proofs.AboutClaims.PickLemmas.{peek-is-given, old-choice, light-choice}
 use Rattle.pool_core.proofs.pool.Pool.next_given.Goals as goal
 use Rattle.pool_core.proofs.pool.Pool.next_given.Goals.{then-self, else-self}
 
-pub returns-clause-next : goal.returns-clause-next
-returns-clause-next c =
-    let r : PoolRecord = replay (origin_of c.self.inside) (events_of c.self.inside.history) in
+pub returns : goal.returns
+returns c =
+    let r : PoolRecord = record_of c.self.inside in
     let choice : c.if-self.choice ≡ next_choice r =
     elim c.if-self.branch [
       | then-self w ↦ w.choice-is ∙ old-choice r c.self.inside.place_in_round c.self.invariant.state.place w.if-self.true
@@ -22,8 +19,3 @@ returns-clause-next c =
     peek-is-given r c.self.inside.proof.queue.pairs c.if-self.choice c.peek.result c.self.invariant.state.proof.queue choice
     c.peek.ensures.picked c.peek.ensures.none
     ∙ ap (λ (v : PoolView). next_given (replay v.origin v.history)) c.self.view_is
-
-pub returns-clause-solved : goal.returns-clause-solved
-returns-clause-solved c =
-    sym (ap (λ (v : PoolView). must_solve (replay v.origin v.history)) c.self.view_is)
-    ∙ nothing-to-solve c.self.inside (replay (origin_of c.self.inside) (events_of c.self.inside.history)) c.self.invariant.state

@@ -4,19 +4,18 @@ use Rattle.term_bank.specs.declared.bank.Bank.{Bank}
 use Rattle.term_bank.specs.declared.table.Table.{Table}
 use Rattle.pool_core.specs.CountedList.{keys_in}
 use Rattle.pool_history.specs.Claiming.{ready, pair_of}
-use Rattle.pool_history.specs.Counting.{lines_of_entries}
 use Rattle.pool_core.specs.KeptEvents.{events_of}
-use Rattle.pool_core.specs.Placing.{IsTakeable, IsWorkOf, IsSomeWork, IsOfGiven, IsLiving, IsCountedStateOf, NotesDeaths, HasRoom, entries_of, lines_of_removals, heavy_keys_of}
+use Rattle.pool_core.specs.Placing.{IsTakeable, IsWorkOf, IsSomeWork, IsOfGiven, IsLiving, IsCountedStateOf, NotesDeaths, heavy_keys_of}
 use Rattle.pool_history.specs.Record.{PoolRecord}
 use Rattle.pool_history.specs.Replay.{replay}
-use Rattle.pool_history.specs.Returning.{removals_of, worked}
+use Rattle.pool_history.specs.Returning.{worked}
 use Rattle.pool_core.specs.State.{origin_of, IsProofStateOf}
 use Rattle.pool_history.specs.View.{PoolView}
 use Rattle.pool_history.specs.declared.batch.Batch.{Batch}
 use Rattle.pool_history.specs.declared.event.Event.TheVariants.{Return}
-use Rattle.pool_core.specs.declared.register.Registration.{Registration}
+use Rattle.clause_register.specs.declared.register.Registration.{Registration}
 use Rattle.pool_history.proofs.AboutClaims.HistoryLemmas.{event-count}
-use Rattle.pool_core.proofs.AboutClaims.StateLemmas.{record_of, kept-pool, given-count}
+use Rattle.pool_core.proofs.AboutClaims.StateLemmas.{record_of, kept-pool}
 use Rattle.pool_core.proofs.AboutReturns.TakenLemmas.{taken-pool, without, worked-follows}
 use Rattle.pool_core.proofs.AboutReturns.TakeableLemmas.{IsToBeTaken, to-be-taken, after-worked, open-record, work-of, noted-since}
 use Rattle.pool_core.proofs.pool.Pool.take.Goals as goal
@@ -26,7 +25,7 @@ take_return_memory-memory-requires-clause-fit g c =
     let to : IsToBeTaken c.self.inside c.args.batch c.args.number =
     to-be-taken c.self.inside c.args.batch c.args.number c.self.invariant
     (subst (λ (v : PoolView). IsTakeable v.origin v.history c.args.number c.args.batch) (sym c.self.view_is) c.requires.takeable) in
-    to.fit
+    (c.self.inside.options.split, length (record_of c.self.inside).parts, to.fit)
 
 pub invariant_of-self : goal.invariant_of-self
 invariant_of-self g c =
@@ -52,6 +51,7 @@ invariant_of-self g c =
       set_aside = c.in_default.ensures.not_set_aside;
       ended = c.take_return_memory-memory.ensures.ended;
       splits = c.take_return_memory-memory.ensures.splits;
+      asserting = c.take_return_memory-memory.ensures.asserting;
       solver = refl;
       last_job = refl;
       place = refl;
@@ -83,12 +83,13 @@ work-requires-clause-work g c =
     (subst (λ (v : PoolView). IsTakeable v.origin v.history c.args.number c.args.batch) (sym c.self.view_is) c.requires.takeable) in
     let bank_is : c.self.inside.table.bank ≡ c.args.bank.now = ap (λ (v : PoolView). v.bank) c.self.view_is ∙ c.requires.bank in
     let s : PoolRecord = without c.self.inside.options c.args.batch.job (record_of c.self.inside) in
-    subst (λ (b : Batch). IsSomeWork c.args.bank.now c.take_return_memory-memory.new.proof c.args.number b.work c.in-Ok.prepared) (sym c.push_return-work.ensures.batch) (
+    subst (λ (b : Batch). IsSomeWork c.args.bank.now c.self.inside.options.split c.take_return_memory-memory.new.proof c.args.number b.work c.in-Ok.prepared) (sym c.push_return-work.ensures.batch) (
       c.take_return_memory-memory.new.table,
       s,
       map (pair_of s) (ready s),
       work-of c.self.inside c.args.batch c.args.number c.args.bank.now c.take_return_memory-memory.new.table c.take_return_memory-memory.new.proof c.in-Ok.prepared to c.self.invariant bank_is
-          c.take_return_memory-memory.ensures.knows c.take_return_memory-memory.ensures.clauses c.take_return_memory-memory.ensures.pairs c.take_return_memory-memory.ensures.steps c.take_return_memory-memory.ensures.ended c.take_return_memory-memory.ensures.splits c.in-Ok.ensures.prepared,
+          c.take_return_memory-memory.ensures.knows c.take_return_memory-memory.ensures.clauses c.take_return_memory-memory.ensures.pairs c.take_return_memory-memory.ensures.steps c.take_return_memory-memory.ensures.ended c.take_return_memory-memory.ensures.splits c.take_return_memory-memory.ensures.asserting
+          (c.in-Ok.ensures.prepared c.self.inside.options.split (length (record_of c.self.inside).parts) to.fit),
     )
 
 pub invariant_of-self-2 : goal.invariant_of-self-2
@@ -102,15 +103,16 @@ invariant_of-self-2 g c =
     let t : PoolRecord = worked c.self.inside.options to.given.number c.args.batch.work s in
     let pairs : List (ℕ × ℕ) = map (pair_of s) (ready s) in
     let table : Table = c.take_return_memory-memory.new.table in
-    let many : c.len-2.result ≡ length c.self.inside.proof.notes.items =
+    let many : c.len.result ≡ length c.self.inside.proof.notes.items =
     omega (arith, c.take_return_memory-memory.new.proof.notes.ok.0, ap length c.take_return_memory-memory.ensures.notes) in
     let moment : c.len-event.result ≡ s.events =
     c.len-event.ensures ∙ sym (event-count (origin_of c.self.inside) (events_of c.self.inside.history)) in
     let keys : keys_in c.take_return_memory-memory.new.counted ≡ s.counted = c.take_return_memory-memory.ensures.counted ∙ c.self.invariant.state.counted in
-    let is : IsWorkOf c.args.bank.now table c.take_return_memory-memory.new.proof c.args.number c.push_return-work.result.work c.in-Ok.prepared pairs s =
-    subst (λ (b : Batch). IsWorkOf c.args.bank.now table c.take_return_memory-memory.new.proof c.args.number b.work c.in-Ok.prepared pairs s) (sym c.push_return-work.ensures.batch)
+    let is : IsWorkOf c.args.bank.now table c.self.inside.options.split c.take_return_memory-memory.new.proof c.args.number c.push_return-work.result.work c.in-Ok.prepared pairs s =
+    subst (λ (b : Batch). IsWorkOf c.args.bank.now table c.self.inside.options.split c.take_return_memory-memory.new.proof c.args.number b.work c.in-Ok.prepared pairs s) (sym c.push_return-work.ensures.batch)
     (work-of c.self.inside c.args.batch c.args.number c.args.bank.now c.take_return_memory-memory.new.table c.take_return_memory-memory.new.proof c.in-Ok.prepared to c.self.invariant bank_is
-    c.take_return_memory-memory.ensures.knows c.take_return_memory-memory.ensures.clauses c.take_return_memory-memory.ensures.pairs c.take_return_memory-memory.ensures.steps c.take_return_memory-memory.ensures.ended c.take_return_memory-memory.ensures.splits c.in-Ok.ensures.prepared) in
+    c.take_return_memory-memory.ensures.knows c.take_return_memory-memory.ensures.clauses c.take_return_memory-memory.ensures.pairs c.take_return_memory-memory.ensures.steps c.take_return_memory-memory.ensures.ended c.take_return_memory-memory.ensures.splits c.take_return_memory-memory.ensures.asserting
+    (c.in-Ok.ensures.prepared c.self.inside.options.split (length (record_of c.self.inside).parts) to.fit)) in
     let state : IsCountedStateOf c.args.bank.now table c.work.new.self (keys_in c.work.new.counted) t =
     subst (λ k. IsCountedStateOf c.args.bank.now table c.work.new.self (keys_in c.work.new.counted) (worked c.self.inside.options k c.args.batch.work s)) (sym to.same)
     (subst (λ (b : Batch). IsCountedStateOf c.args.bank.now table c.work.new.self (keys_in c.work.new.counted) (worked c.self.inside.options c.args.number b.work s)) c.push_return-work.ensures.batch
@@ -119,10 +121,6 @@ invariant_of-self-2 g c =
     subst (λ k. NotesDeaths s (worked c.self.inside.options k c.args.batch.work s) c.take_return_memory-memory.new.proof.notes.items c.work.new.self.notes.items) (sym to.same)
     (subst (λ (b : Batch). NotesDeaths s (worked c.self.inside.options c.args.number b.work s) c.take_return_memory-memory.new.proof.notes.items c.work.new.self.notes.items) c.push_return-work.ensures.batch
     (c.work.ensures.noted table s pairs moment is keys)) in
-    let room : HasRoom c.work.new.self [] 0 c.len.result =
-    c.work.ensures.room c.len.result
-    (subst (λ (b : Batch). HasRoom c.take_return_memory-memory.new.proof (lines_of_entries (entries_of b.work) ++ lines_of_removals (removals_of b.work)) (length (removals_of b.work)) c.len.result)
-    (sym c.push_return-work.ensures.batch) c.in-Ok.ensures.room) in
     taken-pool c.self.inside _ c.args.batch to.given (heavy_keys_of c.args.batch.work) t c.self.invariant to.found
     (after-worked c.self.inside.options c.args.batch r to.given to.found
     (open-record c.self.inside r c.self.invariant.state (sym c.is_some.ensures ∙ c.if-is_some.false)))
@@ -147,9 +145,7 @@ invariant_of-self-2 g c =
     c.in-Ok.ensures.set_aside
     (noted-since c.self.inside.options c.args.batch.job r t c.take_return_memory-memory.new.proof.notes.items c.work.new.self.notes.items c.self.inside.proof.notes.items noted
     c.take_return_memory-memory.ensures.notes)
-    (let count = given-count c.self.inside r c.self.invariant.state in
-    let enough = room.queue in
-    omega (arith, count, enough, c.len.ensures.len))
+    c.work.ensures.room.places.queue
 
 pub returns-clause-history : goal.returns-clause-history
 returns-clause-history g c = c.push_return-work.ensures.events ∙ ap (λ (v : PoolView). v.history ++ Return c.args.batch ∷ []) c.self.view_is

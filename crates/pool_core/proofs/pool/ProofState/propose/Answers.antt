@@ -1,14 +1,15 @@
-use Rattle.std.proofs.Common.{◌≡◌, List, [], ◌∷◌, length, refl, ap, sym, ◌∙◌, subst, arith}
-use Rattle.std.specs.Prelude.{fold}
+use Rattle.std.proofs.Common.{◌≡◌, ℕ, suc, List, [], ◌∷◌, length, refl, ap, sym, ◌∙◌, subst, arith}
+use Rattle.std.specs.Prelude.{fold, option_to_list}
 use Rattle.pool_core.specs.CountedList.{keys_in}
 use Rattle.pool_history.specs.Returning.{proposed}
 use Rattle.std.specs.Vec.Iter.{into_iter_items}
-use Rattle.pool_history.specs.Counting.{lines_of_fate}
-use Rattle.pool_core.specs.Placing.{HasRoom, NotesDeaths, IsCountedStateOf, lines_of_removals}
+use Rattle.pool_core.specs.Demanded.{no_demand, plus, total}
+use Rattle.pool_core.specs.Placing.{NotesDeaths, IsCountedStateOf}
 use Rattle.pool_history.specs.Record.{PoolRecord}
 use Rattle.pool_history.specs.declared.batch.Removal.{Removal}
-use Rattle.pool_core.proofs.AboutReturns.ArrivalLemmas.{nothing-left}
-use Rattle.pool_core.proofs.AboutReturns.ProposedLemmas.{AreProposedSoFar, proposals-begin, taken-result, one-removed, one-left-out, some-proposal, room-less, room-of-one, room-with-more}
+use Rattle.pool_core.specs.declared.interning.Interned.{Interned}
+use Rattle.pool_core.proofs.AboutReturns.ArrivalLemmas.{less-nothing, nothing-left, room-for-less}
+use Rattle.pool_core.proofs.AboutReturns.ProposedLemmas.{AreProposedSoFar, proposals-begin, taken-result, one-removed, one-left-out, some-proposal, room-of-one, room-taken, room-to-die}
 use Rattle.pool_core.proofs.pool.ProofState.propose.Goals as goal
 
 pub loop-removal-init : goal.loop-removal-init
@@ -25,7 +26,7 @@ pub die-requires-clause-room : goal.die-requires-clause-room
 die-requires-clause-room c =
     let so_far = (subst (λ (ms : List Removal). AreProposedSoFar c.args.bank.now c.args.options c.args.event c.args.self.now (keys_in c.args.counted.now) c.args.removals c.args.results.items
     c.loop-removal.self (keys_in c.loop-removal.counted) ms (into_iter_items c.loop-removal.results)) c.in-Some.ensures.steps.0 c.loop-removal.invariant.so_far) in
-    room-less c.loop-removal.self (length (into_iter_items c.next.new.self)) 0 (lines_of_removals (c.in-Some.removal ∷ into_iter_items c.next.new.self)) (so_far.room 0 c.requires.room)
+    room-to-die c.loop-removal.self (total (into_iter_items c.loop-removal.results)) (length (into_iter_items c.next.new.self)) (so_far.room c.requires.room)
 
 pub replace-requires-clause-interned : goal.replace-requires-clause-interned
 replace-requires-clause-interned c =
@@ -33,7 +34,7 @@ replace-requires-clause-interned c =
     c.loop-removal.self (keys_in c.loop-removal.counted) ms (into_iter_items c.loop-removal.results)) c.in-Some.ensures.steps.0 c.loop-removal.invariant.so_far) in
     let some = some-proposal c.args.bank.now c.args.options c.args.event c.args.self.now (keys_in c.args.counted.now) c.args.removals c.args.results.items c.loop-removal.self (keys_in c.loop-removal.counted) (c.in-Some.removal ∷ into_iter_items c.next.new.self) (into_iter_items c.loop-removal.results) c.requires.results so_far in
     let result = taken-result c.args.bank.now c.args.options c.args.event c.args.self.now (keys_in c.args.counted.now) c.args.removals c.args.results.items c.in-Some.removal (into_iter_items c.next.new.self) (into_iter_items c.loop-removal.results)
-    (into_iter_items c.next_result-interned.new.results) c.next_result-interned.result c.next_result-interned.ensures some.0 some.3 in (
+    (into_iter_items c.next_result-interned.new.results) c.next_result-interned.result c.next_result-interned.ensures.next c.next_result-interned.ensures.taken some.0 (length (some.1).parts) some.3 in (
       some.0,
       _,
       result.0,
@@ -44,9 +45,13 @@ pub replace-requires-clause-room : goal.replace-requires-clause-room
 replace-requires-clause-room c =
     let so_far = (subst (λ (ms : List Removal). AreProposedSoFar c.args.bank.now c.args.options c.args.event c.args.self.now (keys_in c.args.counted.now) c.args.removals c.args.results.items
     c.loop-removal.self (keys_in c.loop-removal.counted) ms (into_iter_items c.loop-removal.results)) c.in-Some.ensures.steps.0 c.loop-removal.invariant.so_far) in
-    room-of-one c.die.new.self (lines_of_fate c.in-Some.removal.fate) (lines_of_removals (into_iter_items c.next.new.self)) (length (into_iter_items c.next.new.self)) 0
-    (room-with-more c.die.new.self (lines_of_fate c.in-Some.removal.fate) (lines_of_removals (into_iter_items c.next.new.self)) (length (into_iter_items c.next.new.self)) 0
-    (c.die.ensures.room (lines_of_removals (c.in-Some.removal ∷ into_iter_items c.next.new.self)) (length (into_iter_items c.next.new.self)) 0 (so_far.room 0 c.requires.room)))
+    let after : List Interned = into_iter_items c.next_result-interned.new.results in
+    let rest : ℕ = length (into_iter_items c.next.new.self) in
+    room-of-one c.die.new.self c.next_result-interned.result (total after) rest
+    (c.die.ensures.room (plus (total (option_to_list c.next_result-interned.result)) (total after)) rest
+    (room-taken c.args.bank.now c.args.options c.args.event c.args.self.now (keys_in c.args.counted.now) c.args.removals c.args.results.items c.in-Some.removal (into_iter_items c.next.new.self) (into_iter_items c.loop-removal.results)
+    after c.next_result-interned.result c.next_result-interned.ensures.next c.next_result-interned.ensures.taken
+    c.loop-removal.self (suc rest) (so_far.room c.requires.room)))
 
 pub replace-requires-clause-counted_room : goal.replace-requires-clause-counted_room
 replace-requires-clause-counted_room c =
@@ -62,7 +67,7 @@ loop-removal-preserved-then-takes_effect c =
       so_far =
           one-removed c.args.bank.now c.args.options c.args.event c.args.self.now (keys_in c.args.counted.now) c.args.removals c.args.results.items
           c.in-Some.removal (into_iter_items c.next.new.self) (into_iter_items c.loop-removal.results) (into_iter_items c.next_result-interned.new.results) c.next_result-interned.result
-          c.next_result-interned.ensures
+          c.next_result-interned.ensures.next c.next_result-interned.ensures.taken
           c.loop-removal.self c.die.new.self c.replace.new.self (keys_in c.loop-removal.counted) (keys_in c.replace.new.counted) (sym c.takes_effect.ensures ∙ c.if-takes_effect.true)
           c.die.ensures.died c.replace.ensures.replaced c.die.ensures.notes c.replace.ensures.notes c.die.ensures.room c.replace.ensures.room
           (subst (λ (ms : List Removal). AreProposedSoFar c.args.bank.now c.args.options c.args.event c.args.self.now (keys_in c.args.counted.now) c.args.removals c.args.results.items
@@ -78,7 +83,7 @@ loop-removal-preserved-else-takes_effect c =
       so_far =
           one-left-out c.args.bank.now c.args.options c.args.event c.args.self.now (keys_in c.args.counted.now) c.args.removals c.args.results.items
           c.in-Some.removal (into_iter_items c.next.new.self) (into_iter_items c.loop-removal.results) (into_iter_items c.next_result-interned.new.results) c.next_result-interned.result
-          c.next_result-interned.ensures
+          c.next_result-interned.ensures.next c.next_result-interned.ensures.taken
           c.loop-removal.self (keys_in c.loop-removal.counted) (sym c.takes_effect.ensures ∙ c.if-takes_effect.false)
           (subst (λ (ms : List Removal). AreProposedSoFar c.args.bank.now c.args.options c.args.event c.args.self.now (keys_in c.args.counted.now) c.args.removals c.args.results.items
           c.loop-removal.self (keys_in c.loop-removal.counted) ms (into_iter_items c.loop-removal.results)) c.in-Some.ensures.steps.0 c.loop-removal.invariant.so_far);
@@ -93,7 +98,7 @@ loop-removal-preserved c =
       so_far =
           one-left-out c.args.bank.now c.args.options c.args.event c.args.self.now (keys_in c.args.counted.now) c.args.removals c.args.results.items
           c.in-Some.removal (into_iter_items c.next.new.self) (into_iter_items c.loop-removal.results) (into_iter_items c.next_result-interned.new.results) c.next_result-interned.result
-          c.next_result-interned.ensures
+          c.next_result-interned.ensures.next c.next_result-interned.ensures.taken
           c.loop-removal.self (keys_in c.loop-removal.counted) (sym c.takes_effect.ensures ∙ c.if-takes_effect.false)
           (subst (λ (ms : List Removal). AreProposedSoFar c.args.bank.now c.args.options c.args.event c.args.self.now (keys_in c.args.counted.now) c.args.removals c.args.results.items
           c.loop-removal.self (keys_in c.loop-removal.counted) ms (into_iter_items c.loop-removal.results)) c.in-Some.ensures.steps.0 c.loop-removal.invariant.so_far);
@@ -118,7 +123,7 @@ returns-clause-noted c = λ table r moment interned is.
     (ap (λ (ms : List Removal). fold (proposed c.args.options) was.0 ms) (sym none) ∙ was.4) was.5
 
 pub returns-clause-room : goal.returns-clause-room
-returns-clause-room c = λ out enough.
-    let none : into_iter_items c.loop-removal.removal-iterator ≡ [] =
-    nothing-left (into_iter_items c.loop-removal.removal-iterator) (omega (arith, c.in-None.ensures.steps.0, c.loop-removal.removal-iterator.rest.ok.0)) in
-    subst (λ (ms : List Removal). HasRoom c.loop-removal.self (lines_of_removals ms) (length ms) out) none (c.loop-removal.invariant.so_far.room out enough)
+returns-clause-room c =
+    let left : List Interned = into_iter_items c.loop-removal.results in
+    room-for-less c.loop-removal.self no_demand (total left) 0 (length (into_iter_items c.loop-removal.removal-iterator)) (less-nothing (total left)) (omega arith)
+    (c.loop-removal.invariant.so_far.room c.requires.room)

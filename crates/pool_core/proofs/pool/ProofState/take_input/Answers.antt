@@ -1,55 +1,74 @@
-use Rattle.std.proofs.Common.{◌≡◌, ◌≤◌, List, [], ◌∷◌, ◌++◌, ap, sym, ◌∙◌, subst, arith}
-use Rattle.std.specs.Prelude.{false}
+use Rattle.std.proofs.Common.{◌≡◌, ℕ, List, [], ◌∷◌, ◌++◌, length, ap, sym, ◌∙◌, subst, arith}
 use Rattle.fol_base.specs.Clause.{TreeClause}
 use Rattle.fol_base.specs.Literal.{clause_of}
 use Rattle.kernel_steps.specs.declared.step.Line.{Line}
-use Rattle.bank_clause.proofs.SidesLemmas.{known-literals-kept}
 use Rattle.pool_history.specs.Counting.{result_comes}
-use Rattle.pool_core.specs.Placing.{HasRoom, IsInterned}
+use Rattle.pool_core.specs.Demanded.{no_demand, plus}
+use Rattle.pool_core.specs.Placing.{IsFitResult, IsInterned}
 use Rattle.pool_core.specs.Started.{with_input}
 use Rattle.pool_core.specs.State.{IsProofStateOf}
-use Rattle.pool_core.proofs.AboutBeginnings.InputLemmas.{input_line, input-ended, input-interned, input-state}
+use Rattle.pool_core.proofs.AboutBeginnings.InputLemmas.{input_line, input-comes, input-ended, input-fit}
 use Rattle.pool_core.proofs.AboutClaims.StateLemmas.{kept-proof}
+use Rattle.pool_core.proofs.AboutReturns.ArrivalLemmas.{less-alone, room-for-less}
+use Rattle.pool_core.proofs.AboutReturns.InternedLemmas.{fit-same, more-met}
 use Rattle.pool_core.proofs.pool.ProofState.take_input.Goals as goal
 
 pub returns-then-is_some-clause-comes : goal.returns-then-is_some-clause-comes
 returns-then-is_some-clause-comes g c = λ r is.
-    input-ended c.args.bank.now c.args.table.now c.args.self.now r c.args.number (clause_of c.args.input.now) (sym c.is_some.ensures ∙ c.if-is_some.true) is
+    input-ended c.args.bank.now c.args.table.now c.args.self.now c.args.split r c.args.number (clause_of c.args.input.now) (sym c.is_some.ensures ∙ c.if-is_some.true) is
+
+pub of-requires-clause-fit : goal.of-requires-clause-fit
+of-requires-clause-fit g c =
+    let line : Line = input_line c.args.number c.in_ok-copy.field-0 in
+    let one : c.push.new.self ≡ line ∷ [] = c.in_ok-push.ensures.ok ∙ ap (λ (ls : List Line). ls ++ line ∷ []) c.new-lines.ensures in
+    let fit : IsFitResult c.args.split 0 c.as_slice.result.now c.as_slice-2.result.now =
+    fit-same c.args.split 0 c.as_slice.result.now (line ∷ []) c.as_slice-2.result.now c.in_ok-parts.parts.items (c.as_slice.ensures ∙ one) c.as_slice-2.ensures.value
+    (input-fit c.args.split c.args.number c.args.input.now c.in_ok-copy.field-0 c.in_ok-parts.parts.items (c.requires.formed).0 c.in_ok-copy.ensures c.requires.names
+    c.requires.canonical c.requires.small (c.requires.formed).1 c.in_ok-parts.ensures) in
+    (c.args.split, 0, fit)
 
 pub arrive-requires-clause-arrival : goal.arrive-requires-clause-arrival
 arrive-requires-clause-arrival g c =
-    let one : c.push.new.self ≡ input_line c.args.number c.in_ok-copy.field-0 ∷ [] =
-    c.in_ok-push.ensures.ok ∙ ap (λ (ls : List Line). ls ++ input_line c.args.number c.in_ok-copy.field-0 ∷ []) c.new-lines.ensures in (
-      c.of_clause.new.table,
+    let line : Line = input_line c.args.number c.in_ok-copy.field-0 in
+    let one : c.push.new.self ≡ line ∷ [] = c.in_ok-push.ensures.ok ∙ ap (λ (ls : List Line). ls ++ line ∷ []) c.new-lines.ensures in
+    let fit : IsFitResult c.args.split 0 c.as_slice.result.now c.as_slice-2.result.now =
+    fit-same c.args.split 0 c.as_slice.result.now (line ∷ []) c.as_slice-2.result.now c.in_ok-parts.parts.items (c.as_slice.ensures ∙ one) c.as_slice-2.ensures.value
+    (input-fit c.args.split c.args.number c.args.input.now c.in_ok-copy.field-0 c.in_ok-parts.parts.items (c.requires.formed).0 c.in_ok-copy.ensures c.requires.names
+    c.requires.canonical c.requires.small (c.requires.formed).1 c.in_ok-parts.ensures) in
+    let made : (count : ℕ) → IsInterned c.args.bank.now c.of.new.table c.args.split count c.push.new.self c.in_ok-interned.interned = λ count.
+    more-met c.args.bank.now c.of.new.table c.args.split 0 count c.push.new.self c.in_ok-interned.interned (omega arith)
+    (subst (λ (ls : List Line). IsInterned c.args.bank.now c.of.new.table c.args.split 0 ls c.in_ok-interned.interned) c.as_slice.ensures
+    (c.in_ok-interned.ensures.made c.args.split 0 fit)) in (
+      c.of.new.table,
+      c.args.split,
       (c.requires.state).0,
-      subst (λ (ls : List Line). IsInterned c.args.bank.now c.of_clause.new.table ls (record { clause = c.in_ok-clause.clause; hash = c.clause_hash-hash.result })) (sym one)
-          (input-interned c.args.bank.now c.of_clause.new.table c.args.number c.args.input.now c.in_ok-copy.field-0 c.in_ok-clause.clause c.clause_hash-hash.result
-          c.in_ok-copy.ensures c.in_ok-clause.ensures.same c.clause_hash-hash.ensures c.requires.names c.in_ok-clause.ensures.of_bank c.in_ok-clause.ensures.known),
-      kept-proof c.args.bank.now c.args.table.now c.of_clause.new.table c.args.self.now c.reserve.new.self (c.requires.state).0
-          (λ ls known. known-literals-kept _ c.args.table.now c.of_clause.new.table ls c.in_ok-clause.ensures.interned known)
-          c.reserve.ensures.clauses c.reserve.ensures.pairs c.reserve.ensures.steps c.reserve.ensures.ended c.reserve.ensures.splits (c.requires.state).1,
+      made (length ((c.requires.state).0).parts),
+      kept-proof c.args.bank.now c.args.table.now c.of.new.table c.args.self.now c.reserve.new.self (c.requires.state).0 c.in_ok-interned.ensures.knows
+          c.reserve.ensures.clauses c.reserve.ensures.pairs c.reserve.ensures.steps c.reserve.ensures.ended c.reserve.ensures.splits c.reserve.ensures.asserting (c.requires.state).1,
     )
-
-pub arrive-requires-clause-room : goal.arrive-requires-clause-room
-arrive-requires-clause-room g c =
-    let one : c.push.new.self ≡ input_line c.args.number c.in_ok-copy.field-0 ∷ [] =
-    c.in_ok-push.ensures.ok ∙ ap (λ (ls : List Line). ls ++ input_line c.args.number c.in_ok-copy.field-0 ∷ []) c.new-lines.ensures in
-    subst (λ (ls : List Line). HasRoom c.reserve.new.self (ls ∷ []) 0 0) (sym one)
-    (c.in_ok-reserve.ensures.room ((input_line c.args.number c.in_ok-copy.field-0 ∷ []) ∷ []) (let e : 1 ≤ 1 = omega arith in e) (let e : 1 ≤ 1 = omega arith in e))
 
 pub returns-clause-comes : goal.returns-clause-comes
 returns-clause-comes g c = λ r is.
-    let one : c.push.new.self ≡ input_line c.args.number c.in_ok-copy.field-0 ∷ [] =
-    c.in_ok-push.ensures.ok ∙ ap (λ (ls : List Line). ls ++ input_line c.args.number c.in_ok-copy.field-0 ∷ []) c.new-lines.ensures in
-    let arrived =
-    c.arrive.ensures.arrived c.of_clause.new.table r
-    (subst (λ (ls : List Line). IsInterned c.args.bank.now c.of_clause.new.table ls (record { clause = c.in_ok-clause.clause; hash = c.clause_hash-hash.result })) (sym one)
-    (input-interned c.args.bank.now c.of_clause.new.table c.args.number c.args.input.now c.in_ok-copy.field-0 c.in_ok-clause.clause c.clause_hash-hash.result
-    c.in_ok-copy.ensures c.in_ok-clause.ensures.same c.clause_hash-hash.ensures c.requires.names c.in_ok-clause.ensures.of_bank c.in_ok-clause.ensures.known))
-    (kept-proof c.args.bank.now c.args.table.now c.of_clause.new.table c.args.self.now c.reserve.new.self r
-    (λ ls known. known-literals-kept _ c.args.table.now c.of_clause.new.table ls c.in_ok-clause.ensures.interned known)
-    c.reserve.ensures.clauses c.reserve.ensures.pairs c.reserve.ensures.steps c.reserve.ensures.ended c.reserve.ensures.splits is) in
-    subst (λ (d : TreeClause). IsProofStateOf c.args.bank.now c.of_clause.new.table c.arrive.new.self (with_input c.args.number d r)) c.in_ok-copy.ensures
-    (input-state c.args.bank.now c.of_clause.new.table c.arrive.new.self r c.args.number c.in_ok-copy.field-0
-    (ap (λ (d : TreeClause). d.names) c.in_ok-copy.ensures ∙ c.requires.names)
-    (subst (λ (ls : List Line). IsProofStateOf c.args.bank.now c.of_clause.new.table c.arrive.new.self (result_comes false r ls)) one arrived))
+    let line : Line = input_line c.args.number c.in_ok-copy.field-0 in
+    let one : c.push.new.self ≡ line ∷ [] = c.in_ok-push.ensures.ok ∙ ap (λ (ls : List Line). ls ++ line ∷ []) c.new-lines.ensures in
+    let fit : IsFitResult c.args.split 0 c.as_slice.result.now c.as_slice-2.result.now =
+    fit-same c.args.split 0 c.as_slice.result.now (line ∷ []) c.as_slice-2.result.now c.in_ok-parts.parts.items (c.as_slice.ensures ∙ one) c.as_slice-2.ensures.value
+    (input-fit c.args.split c.args.number c.args.input.now c.in_ok-copy.field-0 c.in_ok-parts.parts.items (c.requires.formed).0 c.in_ok-copy.ensures c.requires.names
+    c.requires.canonical c.requires.small (c.requires.formed).1 c.in_ok-parts.ensures) in
+    let made : (count : ℕ) → IsInterned c.args.bank.now c.of.new.table c.args.split count c.push.new.self c.in_ok-interned.interned = λ count.
+    more-met c.args.bank.now c.of.new.table c.args.split 0 count c.push.new.self c.in_ok-interned.interned (omega arith)
+    (subst (λ (ls : List Line). IsInterned c.args.bank.now c.of.new.table c.args.split 0 ls c.in_ok-interned.interned) c.as_slice.ensures
+    (c.in_ok-interned.ensures.made c.args.split 0 fit)) in
+    subst (λ (d : TreeClause). IsProofStateOf c.args.bank.now c.of.new.table c.arrive.new.self (with_input c.args.split c.args.number d r)) c.in_ok-copy.ensures
+    (subst (IsProofStateOf c.args.bank.now c.of.new.table c.arrive.new.self)
+    (ap (result_comes c.args.split r) one
+    ∙ input-comes c.args.split c.args.number c.in_ok-copy.field-0 r (ap (λ (d : TreeClause). d.names) c.in_ok-copy.ensures ∙ c.requires.names))
+    (c.arrive.ensures.arrived c.of.new.table c.args.split r (made (length r.parts))
+    (kept-proof c.args.bank.now c.args.table.now c.of.new.table c.args.self.now c.reserve.new.self r c.in_ok-interned.ensures.knows
+    c.reserve.ensures.clauses c.reserve.ensures.pairs c.reserve.ensures.steps c.reserve.ensures.ended c.reserve.ensures.splits c.reserve.ensures.asserting is)))
+
+pub returns-clause-nodes : goal.returns-clause-nodes
+returns-clause-nodes g c = λ nodes.
+    (c.arrive.ensures.room no_demand 0
+    (room-for-less c.reserve.new.self (plus c.in_ok-interned.interned.demand no_demand) c.in_ok-interned.interned.demand 0 0
+    (less-alone c.in_ok-interned.interned.demand) (omega arith) c.in_ok-reserve.ensures.room)).places.queue

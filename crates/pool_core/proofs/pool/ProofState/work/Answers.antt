@@ -1,17 +1,19 @@
-use Rattle.std.proofs.Common.{List, [], ◌∷◌, ◌++◌, length, refl, sym, ◌∙◌, subst}
-use Rattle.std.specs.Prelude.{fold}
+use Rattle.std.proofs.Common.{ℕ, List, [], ◌∷◌, length, refl, sym, ◌∙◌, subst, arith}
+use Rattle.std.specs.Prelude.{fold, option_to_list}
 use Rattle.std.specs.Vec.Iter.{into_iter_items}
 use Rattle.std.proofs.lemmas.Option.{slice_get_within}
 use Rattle.pool_core.specs.CountedList.{keys_in}
-use Rattle.pool_history.specs.Counting.{counts, keys_of, lines_of_entries, lines_of_fate}
-use Rattle.pool_core.specs.Placing.{AreInterned, IsCountedStateOf, NotesDeaths, HasRoom, IsOfGiven, entries_of, lines_of_removals, with_queue}
+use Rattle.pool_history.specs.Counting.{counts, keys_of, lines_of_entries}
+use Rattle.pool_core.specs.Demanded.{no_demand, plus, total}
+use Rattle.pool_core.specs.Placing.{AreInterned, IsCountedStateOf, NotesDeaths, HasRoom, IsOfGiven, brought, entries_of, lines_of_removals, with_queue}
 use Rattle.pool_history.specs.Record.{PoolRecord}
 use Rattle.pool_history.specs.Returning.{removals_of, dies, becomes_active, sets_aside, proposed, worked}
 use Rattle.pool_history.specs.declared.batch.Work.{Work}
 use Rattle.pool_core.specs.declared.interning.Interned.{Interned}
-use Rattle.pool_core.proofs.AboutReturns.ArrivalLemmas.{recounted}
+use Rattle.pool_core.proofs.AboutReturns.ArrivalLemmas.{recounted, less-first, less-nothing, room-for-less}
+use Rattle.pool_core.proofs.AboutReturns.InternedLemmas.{all-more-met}
 use Rattle.pool_history.proofs.AboutCounting.DeathLemmas.{counts-keeps}
-use Rattle.pool_core.proofs.AboutReturns.ProposedLemmas.{gone-queue, lone-result, room-of-one, room-with-more, room-front, notes-one, notes-then, notes-counted}
+use Rattle.pool_core.proofs.AboutReturns.ProposedLemmas.{counts-longer, gone-queue, lone-result, room-gone, room-of-one, notes-one, notes-then, notes-counted}
 use Rattle.pool_core.proofs.pool.ProofState.work.Goals as goal
 
 pub replace-requires-clause-interned : goal.replace-requires-clause-interned
@@ -20,10 +22,10 @@ replace-requires-clause-interned c =
     let r : PoolRecord = record some.1 { events = c.args.event } in (
       some.0,
       dies c.in-Gone.removal.victim c.in-Gone.removal.justifiers r,
-      lone-result c.args.bank.now some.0 c.in-Gone.removal (into_iter_items c.into_iter-replacements.result) (into_iter_items c.next_result-interned.new.results) c.next_result-interned.result
-          c.next_result-interned.ensures
-          (subst (λ (xs : List Interned). AreInterned c.args.bank.now some.0 (lines_of_removals (c.in-Gone.removal ∷ [])) xs) (sym c.into_iter-replacements.ensures.rest)
-          (subst (λ (w : Work). AreInterned c.args.bank.now some.0 (lines_of_removals (removals_of w)) c.args.prepared.removals.clauses.items) c.in-Gone.is some.3.in_bank.removals.interned)),
+      lone-result c.args.bank.now some.0 c.args.options.split (length (some.1).parts) c.in-Gone.removal (into_iter_items c.into_iter-replacements.result) (into_iter_items c.next_result-interned.new.results) c.next_result-interned.result
+          c.next_result-interned.ensures.next
+          (subst (λ (xs : List Interned). AreInterned c.args.bank.now some.0 c.args.options.split (length (some.1).parts) (lines_of_removals (c.in-Gone.removal ∷ [])) xs) (sym c.into_iter-replacements.ensures.rest)
+          (subst (λ (w : Work). AreInterned c.args.bank.now some.0 c.args.options.split (length (some.1).parts) (lines_of_removals (removals_of w)) c.args.prepared.removals.clauses.items) c.in-Gone.is some.3.in_bank.removals.interned)),
       c.die.ensures.died c.args.bank.now some.0 r c.in-Gone.removal.justifiers some.2 refl
           (gone-queue c.in-Gone.removal.victim c.args.number some.2 c.args.self.now.queue.pairs (subst (IsOfGiven c.args.number) c.in-Gone.is c.requires.given) some.3.queue)
           (recounted c.args.bank.now some.0 (with_queue some.2 c.args.self.now) some.1 some.1.counted some.1.set_aside c.args.event some.3.proof),
@@ -31,18 +33,20 @@ replace-requires-clause-interned c =
 
 pub replace-requires-clause-room : goal.replace-requires-clause-room
 replace-requires-clause-room c =
-    room-of-one c.die.new.self (lines_of_fate c.in-Gone.removal.fate) [] 0 0
-    (room-with-more c.die.new.self (lines_of_fate c.in-Gone.removal.fate) [] 0 0
-    (c.die.ensures.room (lines_of_removals (c.in-Gone.removal ∷ [])) 0 0 (subst (λ (w : Work). HasRoom c.args.self.now (lines_of_entries (entries_of w) ++ lines_of_removals (removals_of w)) (length (removals_of w)) 0) c.in-Gone.is c.requires.room)))
+    room-of-one c.die.new.self c.next_result-interned.result (total (into_iter_items c.next_result-interned.new.results)) 0
+    (c.die.ensures.room (plus (total (option_to_list c.next_result-interned.result)) (total (into_iter_items c.next_result-interned.new.results))) 0
+    (room-gone c.args.self.now (total c.args.prepared.entries.clauses.items) c.next_result-interned.result c.args.prepared.removals.clauses.items
+    (into_iter_items c.next_result-interned.new.results) 1 (sym c.into_iter-replacements.ensures.rest ∙ c.next_result-interned.ensures.taken)
+    (subst (λ (w : Work). HasRoom c.args.self.now (brought c.args.prepared) (length (removals_of w))) c.in-Gone.is c.requires.room)))
 
 pub returns-in-Gone-clause-worked : goal.returns-in-Gone-clause-worked
 returns-in-Gone-clause-worked c = λ table r pairs moment is counted.
     subst (λ (w : Work). IsCountedStateOf c.args.bank.now table c.replace.new.self (keys_in c.replace.new.counted) (worked c.args.options c.args.number w r)) (sym c.in-Gone.is)
     (c.replace.ensures.replaced table (dies c.in-Gone.removal.victim c.in-Gone.removal.justifiers r)
-    (lone-result c.args.bank.now table c.in-Gone.removal (into_iter_items c.into_iter-replacements.result) (into_iter_items c.next_result-interned.new.results) c.next_result-interned.result
-    c.next_result-interned.ensures
-    (subst (λ (xs : List Interned). AreInterned c.args.bank.now table (lines_of_removals (c.in-Gone.removal ∷ [])) xs) (sym c.into_iter-replacements.ensures.rest)
-    (subst (λ (w : Work). AreInterned c.args.bank.now table (lines_of_removals (removals_of w)) c.args.prepared.removals.clauses.items) c.in-Gone.is is.in_bank.removals.interned)))
+    (lone-result c.args.bank.now table c.args.options.split (length r.parts) c.in-Gone.removal (into_iter_items c.into_iter-replacements.result) (into_iter_items c.next_result-interned.new.results) c.next_result-interned.result
+    c.next_result-interned.ensures.next
+    (subst (λ (xs : List Interned). AreInterned c.args.bank.now table c.args.options.split (length r.parts) (lines_of_removals (c.in-Gone.removal ∷ [])) xs) (sym c.into_iter-replacements.ensures.rest)
+    (subst (λ (w : Work). AreInterned c.args.bank.now table c.args.options.split (length r.parts) (lines_of_removals (removals_of w)) c.args.prepared.removals.clauses.items) c.in-Gone.is is.in_bank.removals.interned)))
     (record {
       proof =
           c.die.ensures.died c.args.bank.now table r c.in-Gone.removal.justifiers pairs moment
@@ -57,10 +61,14 @@ returns-in-Gone-clause-noted c = λ table r pairs moment is counted.
     c.replace.new.self.notes.items c.die.ensures.notes c.replace.ensures.notes)
 
 pub returns-in-Gone-clause-room : goal.returns-in-Gone-clause-room
-returns-in-Gone-clause-room c = λ out enough.
-    c.replace.ensures.room [] 0 out
-    (room-with-more c.die.new.self (lines_of_fate c.in-Gone.removal.fate) [] 0 out
-    (c.die.ensures.room (lines_of_removals (c.in-Gone.removal ∷ [])) 0 out (subst (λ (w : Work). HasRoom c.args.self.now (lines_of_entries (entries_of w) ++ lines_of_removals (removals_of w)) (length (removals_of w)) out) c.in-Gone.is enough)))
+returns-in-Gone-clause-room c =
+    let rest : List Interned = into_iter_items c.next_result-interned.new.results in
+    room-for-less c.replace.new.self no_demand (total rest) 0 0 (less-nothing (total rest)) (omega arith)
+    (c.replace.ensures.room (total rest) 0
+    (c.die.ensures.room (plus (total (option_to_list c.next_result-interned.result)) (total rest)) 0
+    (room-gone c.args.self.now (total c.args.prepared.entries.clauses.items) c.next_result-interned.result c.args.prepared.removals.clauses.items
+    rest 1 (sym c.into_iter-replacements.ensures.rest ∙ c.next_result-interned.ensures.taken)
+    (subst (λ (w : Work). HasRoom c.args.self.now (brought c.args.prepared) (length (removals_of w))) c.in-Gone.is c.requires.room))))
 
 pub finish-requires : goal.finish-requires
 finish-requires c = record {
@@ -72,14 +80,17 @@ count_entries-requires-clause-results c =
     let some = c.requires.work in (
       some.0,
       becomes_active c.args.number some.1,
-      subst (λ (w : Work). AreInterned c.args.bank.now some.0 (lines_of_entries (entries_of w)) c.args.prepared.entries.clauses.items) c.in-Met.is some.3.in_bank.entries.interned,
+      subst (λ (w : Work). AreInterned c.args.bank.now some.0 c.args.options.split (length (some.1).parts) (lines_of_entries (entries_of w)) c.args.prepared.entries.clauses.items) c.in-Met.is some.3.in_bank.entries.interned,
       c.finish.ensures.finished c.args.bank.now some.0 some.1 some.2 some.3.queue some.3.proof,
     )
 
 pub count_entries-requires-clause-room : goal.count_entries-requires-clause-room
 count_entries-requires-clause-room c =
-    room-front c.finish.new.self (lines_of_entries c.in-Met.entries) (lines_of_removals c.in-Met.removals) (length c.in-Met.removals) 0
-    (c.finish.ensures.room (lines_of_entries c.in-Met.entries ++ lines_of_removals c.in-Met.removals) (length c.in-Met.removals) 0 (subst (λ (w : Work). HasRoom c.args.self.now (lines_of_entries (entries_of w) ++ lines_of_removals (removals_of w)) (length (removals_of w)) 0) c.in-Met.is c.requires.room))
+    let n : ℕ = length c.in-Met.removals in
+    room-for-less c.finish.new.self (total c.args.prepared.entries.clauses.items) (brought c.args.prepared) 0 n
+    (less-first (total c.args.prepared.entries.clauses.items) (total c.args.prepared.removals.clauses.items)) (omega arith)
+    (c.finish.ensures.room (brought c.args.prepared) n
+    (subst (λ (w : Work). HasRoom c.args.self.now (brought c.args.prepared) (length (removals_of w))) c.in-Met.is c.requires.room))
 
 pub propose-requires-clause-results : goal.propose-requires-clause-results
 propose-requires-clause-results c =
@@ -88,9 +99,12 @@ propose-requires-clause-results c =
     let s : PoolRecord = sets_aside c.in-Met.entries (becomes_active c.args.number r) in (
       some.0,
       counts c.args.options (keys_of c.in-Met.entries) (lines_of_entries c.in-Met.entries) s,
-      subst (λ (w : Work). AreInterned c.args.bank.now some.0 (lines_of_removals (removals_of w)) c.args.prepared.removals.clauses.items) c.in-Met.is some.3.in_bank.removals.interned,
+      all-more-met c.args.bank.now some.0 c.args.options.split (length (some.1).parts)
+          (length (counts c.args.options (keys_of c.in-Met.entries) (lines_of_entries c.in-Met.entries) s).parts) (lines_of_removals c.in-Met.removals)
+          c.args.prepared.removals.clauses.items (counts-longer c.args.options (keys_of c.in-Met.entries) (lines_of_entries c.in-Met.entries) s)
+          (subst (λ (w : Work). AreInterned c.args.bank.now some.0 c.args.options.split (length (some.1).parts) (lines_of_removals (removals_of w)) c.args.prepared.removals.clauses.items) c.in-Met.is some.3.in_bank.removals.interned),
       (c.count_entries.ensures.counted some.0 s
-          (subst (λ (w : Work). AreInterned c.args.bank.now some.0 (lines_of_entries (entries_of w)) c.args.prepared.entries.clauses.items) c.in-Met.is some.3.in_bank.entries.interned)
+          (subst (λ (w : Work). AreInterned c.args.bank.now some.0 c.args.options.split (length (some.1).parts) (lines_of_entries (entries_of w)) c.args.prepared.entries.clauses.items) c.in-Met.is some.3.in_bank.entries.interned)
           (record {
             proof =
                 recounted c.args.bank.now some.0 c.finish.new.self (becomes_active c.args.number some.1) s.counted s.set_aside s.events
@@ -101,8 +115,10 @@ propose-requires-clause-results c =
 
 pub propose-requires-clause-room : goal.propose-requires-clause-room
 propose-requires-clause-room c =
-    c.count_entries.ensures.room (lines_of_removals c.in-Met.removals) (length c.in-Met.removals) 0
-    (c.finish.ensures.room (lines_of_entries c.in-Met.entries ++ lines_of_removals c.in-Met.removals) (length c.in-Met.removals) 0 (subst (λ (w : Work). HasRoom c.args.self.now (lines_of_entries (entries_of w) ++ lines_of_removals (removals_of w)) (length (removals_of w)) 0) c.in-Met.is c.requires.room))
+    let n : ℕ = length c.in-Met.removals in
+    c.count_entries.ensures.room (total c.args.prepared.removals.clauses.items) n
+    (c.finish.ensures.room (brought c.args.prepared) n
+    (subst (λ (w : Work). HasRoom c.args.self.now (brought c.args.prepared) (length (removals_of w))) c.in-Met.is c.requires.room))
 
 pub returns-clause-worked : goal.returns-clause-worked
 returns-clause-worked c = λ table r pairs moment is counted.
@@ -111,8 +127,10 @@ returns-clause-worked c = λ table r pairs moment is counted.
     subst (λ (w : Work). IsCountedStateOf c.args.bank.now table c.propose.new.self (keys_in c.propose.new.counted) (worked c.args.options c.args.number w r)) (sym c.in-Met.is)
     (c.propose.ensures.proposed table t
     (moment ∙ sym (counts-keeps c.args.options (keys_of c.in-Met.entries) (lines_of_entries c.in-Met.entries) s).events)
-    (subst (λ (w : Work). AreInterned c.args.bank.now table (lines_of_removals (removals_of w)) c.args.prepared.removals.clauses.items) c.in-Met.is is.in_bank.removals.interned) (c.count_entries.ensures.counted table s
-    (subst (λ (w : Work). AreInterned c.args.bank.now table (lines_of_entries (entries_of w)) c.args.prepared.entries.clauses.items) c.in-Met.is is.in_bank.entries.interned)
+    (all-more-met c.args.bank.now table c.args.options.split (length r.parts) (length t.parts) (lines_of_removals c.in-Met.removals)
+    c.args.prepared.removals.clauses.items (counts-longer c.args.options (keys_of c.in-Met.entries) (lines_of_entries c.in-Met.entries) s)
+    (subst (λ (w : Work). AreInterned c.args.bank.now table c.args.options.split (length r.parts) (lines_of_removals (removals_of w)) c.args.prepared.removals.clauses.items) c.in-Met.is is.in_bank.removals.interned)) (c.count_entries.ensures.counted table s
+    (subst (λ (w : Work). AreInterned c.args.bank.now table c.args.options.split (length r.parts) (lines_of_entries (entries_of w)) c.args.prepared.entries.clauses.items) c.in-Met.is is.in_bank.entries.interned)
     (record {
       proof =
           recounted c.args.bank.now table c.finish.new.self (becomes_active c.args.number r) s.counted s.set_aside s.events
@@ -132,17 +150,13 @@ returns-clause-noted c = λ table r pairs moment is counted.
     (record { deaths = first.deaths; died = first.died; noted = first.noted })
     (c.propose.ensures.noted table t
     (moment ∙ sym (counts-keeps c.args.options (keys_of c.in-Met.entries) (lines_of_entries c.in-Met.entries) s).events)
-    (subst (λ (w : Work). AreInterned c.args.bank.now table (lines_of_removals (removals_of w)) c.args.prepared.removals.clauses.items) c.in-Met.is is.in_bank.removals.interned) (c.count_entries.ensures.counted table s
-    (subst (λ (w : Work). AreInterned c.args.bank.now table (lines_of_entries (entries_of w)) c.args.prepared.entries.clauses.items) c.in-Met.is is.in_bank.entries.interned)
+    (all-more-met c.args.bank.now table c.args.options.split (length r.parts) (length t.parts) (lines_of_removals c.in-Met.removals)
+    c.args.prepared.removals.clauses.items (counts-longer c.args.options (keys_of c.in-Met.entries) (lines_of_entries c.in-Met.entries) s)
+    (subst (λ (w : Work). AreInterned c.args.bank.now table c.args.options.split (length r.parts) (lines_of_removals (removals_of w)) c.args.prepared.removals.clauses.items) c.in-Met.is is.in_bank.removals.interned)) (c.count_entries.ensures.counted table s
+    (subst (λ (w : Work). AreInterned c.args.bank.now table c.args.options.split (length r.parts) (lines_of_entries (entries_of w)) c.args.prepared.entries.clauses.items) c.in-Met.is is.in_bank.entries.interned)
     (record {
       proof =
           recounted c.args.bank.now table c.finish.new.self (becomes_active c.args.number r) s.counted s.set_aside s.events
           (c.finish.ensures.finished c.args.bank.now table r pairs is.queue is.proof);
       keys = counted;
     }))))
-
-pub returns-clause-room : goal.returns-clause-room
-returns-clause-room c = λ out enough.
-    c.propose.ensures.room out
-    (c.count_entries.ensures.room (lines_of_removals c.in-Met.removals) (length c.in-Met.removals) out
-    (c.finish.ensures.room (lines_of_entries c.in-Met.entries ++ lines_of_removals c.in-Met.removals) (length c.in-Met.removals) out (subst (λ (w : Work). HasRoom c.args.self.now (lines_of_entries (entries_of w) ++ lines_of_removals (removals_of w)) (length (removals_of w)) out) c.in-Met.is enough)))

@@ -1,0 +1,4 @@
+pub mod Chained
+pub mod RegisterCode
+pub mod Register
+pub mod RegisterLiving
