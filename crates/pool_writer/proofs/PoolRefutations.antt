@@ -23,7 +23,6 @@ use Rattle.pool_history.specs.declared.event.Event.{Event}
 use Rattle.pool_history.specs.declared.outcome.Outcome.{Outcome}
 use Rattle.pool_history.specs.declared.outcome.Outcome.TheVariants.{Refuted}
 use Rattle.pool_history.proofs.AboutLines.BeginningLemmas.{replay-sound}
-use Rattle.pool_history.proofs.AboutLines.UnsplitLemmas.{unsplit-parts}
 use Rattle.pool_writer.specs.Retraced.{AreRefutingSteps, IsRetracing, AreRetraced}
 use Rattle.pool_writer.specs.Refuted.{IsWritableRefutation, AreWritableSteps}
 use Rattle.pool_writer.proofs.AboutRetracing.NeededLemmas.{AreNeeded, needed-of}
@@ -117,12 +116,3 @@ module _ (fs : List Annotated) (origin : Origin) (history : List Event)
           bodies_are = pool-bodies r.parts r.lines (replay-sound usage origin history inputs used (lawful usage used)).named.table;
           rise = names-rise r.lines 0 (name_count r.parts) (rise usage origin history inputs used (lawful usage used));
         }
-
-    -- where nothing is split no part was met
-    pub unsplit-refutation :
-        origin.options.split ≡ false → (parts : List (List TreeLiteral)) → parts ≡ []
-        → LinesAreDerived → NamesRise → RefutedIsRefutation → outcome_of r ≡ Some Refuted
-        → IsWritableRefutation fs (named parts) r.lines
-    unsplit-refutation unsplit parts none derived rise refutes refuted =
-        subst (λ (ps : List (List TreeLiteral)). IsWritableRefutation fs (named ps) r.lines) (unsplit-parts origin history unsplit ∙ sym none)
-        (pool-refutation derived rise refutes refuted)

@@ -20,8 +20,7 @@
 //! **What is proved.** The lines that are made are a refutation, and of *each* derivation that has these steps, and these parts for its
 //! names, they are the lines that the last one needs, with the same clauses (`IsRetracing`): so nothing is lost by keeping the steps and the
 //! parts alone. What is said of lines, and not of their parents' numbers, carries over (`tests_carry_over`), and the names keep their order; by this the text is an accepted
-//! derivation of the problem. `write_steps` says so of any steps of a refutation, with names or without; `write_refutation` of those of a
-//! pool that doesn't split, whose table of parts is empty. The text of a saturated set has exactly the members that the replay of the pool's
+//! derivation of the problem. `write_steps` says so of any steps of a refutation and any parts; `write_refutation` of those of a pool. The text of a saturated set has exactly the members that the replay of the pool's
 //! history has.
 //!
 //! **Cost.** A byte for each step of the pool; else linear in the refutation, with a logarithm for each parent, and the text.

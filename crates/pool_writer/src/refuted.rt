@@ -1,6 +1,6 @@
 // Refutations as texts, from their steps: of any steps, and of a refuted pool.
 
-ghost use Rattle.std.specs.Prelude.{◌≡◌, ℕ, [], map, IfOk};
+ghost use Rattle.std.specs.Prelude.{◌≡◌, ℕ, map, IfOk};
 ghost use Rattle.fol_base.specs.Literal.{clause_of};
 ghost use Rattle.tptp_tree.specs.ProblemSize.{HasProblemSize};
 ghost use Rattle.signature.specs.Form.{clausal_form};
@@ -43,10 +43,8 @@ pub fn write_refutation(
     ensures written { IfOk result (IsRefutationText file.now problem.now.formulas (replay pool.now.origin pool.now.history).lines) }
     ensures accepted { IfOk result (λ text. (count : ℕ) × IsAcceptedDerivation problem.now.formulas text count) }
 {
-    // A pool that doesn't split has met no part.
-    let parts = NameTable::new(alloc);
-    prove_refuted(problem, form, pool, &parts);
-    write_steps(alloc, problem, form, &parts, pool.derivation(), file)
+    prove_refuted(problem, form, pool);
+    write_steps(alloc, problem, form, pool.parts(), pool.derivation(), file)
 }
 
 /// The text of the refutation that has these steps, whose names stand for the parts of the table: of the lines that the last one needs, with
@@ -72,13 +70,12 @@ pub fn write_steps(
     write_all_lines(alloc, problem, form, &lines, file)
 }
 
-/// The lines of a refuted pool are a refutation of the problem's form that can be written.
-fn prove_refuted(problem: &Problem, form: &Clausal, pool: &Pool, parts: &NameTable)
+/// The lines of a refuted pool are a refutation of the problem's form that can be written, and its names stand for the pool's parts.
+fn prove_refuted(problem: &Problem, form: &Clausal, pool: &Pool)
     requires refuted { outcome_of (replay pool.now.origin pool.now.history) ≡ Some Refuted }
     requires form { form_of form.now ≡ clausal_form problem.now.formulas }
     requires inputs { map clause_of form.now.clauses ≡ pool.now.origin.inputs }
-    requires parts { parts.now.parts ≡ [] }
-    ensures { IsWritableRefutation problem.now.formulas (named parts.now.parts) (replay pool.now.origin pool.now.history).lines }
+    ensures { let r = replay pool.now.origin pool.now.history in IsWritableRefutation problem.now.formulas (named r.parts) r.lines }
 {
     let _ = pool.history();
     lines_are_derived();

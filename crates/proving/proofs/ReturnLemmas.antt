@@ -1,7 +1,7 @@
--- What a return leaves, and what stays known in a later pool.
-use Rattle.std.proofs.Common.{◌≡◌, ℕ, ◌+◌, Bool, true, false, not, ◌==◌, List, [], ◌∷◌, ◌++◌, length, take, append-nil, append_assoc, refl, ap, sym, ◌∙◌, subst, arith}
+-- What a return leaves, and the beginning of a worker.
+use Rattle.std.proofs.Common.{◌≡◌, ℕ, ◌+◌, Bool, true, false, not, ◌==◌, List, [], ◌∷◌, ◌++◌, length, take, refl, ap, sym, ◌∙◌, subst, arith}
 use Rattle.std.specs.Prelude.{Result, Ok, Err, IsErrAnd, OnOk, None, Some, cond, find, is_none, if◌then◌else◌}
-use Rattle.std.proofs.lemmas.List.{length-append, length-map, take-append-le}
+use Rattle.std.proofs.lemmas.List.{length-map}
 use Rattle.std.proofs.lemmas.Option.{none-some}
 use Rattle.term_bank.specs.Bank.{identity}
 use Rattle.bank_clause.specs.Clause.{AreMembersOf, IsMemberOf}
@@ -9,10 +9,9 @@ use Rattle.pool_history.specs.declared.options.Options.{Options}
 use Rattle.std.proofs.lemmas.List.Elements.{All-nil}
 use Rattle.term_bank.specs.declared.bank.Bank.{Bank}
 use Rattle.pool_history.specs.View.{PoolView}
-use Rattle.pool_history.specs.Record.{PoolRecord, GivenJob, given_job, without_job}
-use Rattle.pool_history.specs.Replay.{Origin, retold, replay}
+use Rattle.pool_history.specs.Record.{PoolRecord, GivenJob, given_job, without_job, propositional_clauses}
+use Rattle.pool_history.specs.Replay.{Origin, after, retold, replay}
 use Rattle.pool_history.specs.Returning.{becomes_active, worked, returns_to}
-use Rattle.pool_history.specs.News.{news_since}
 use Rattle.pool_history.specs.Answers.{IsTicket, IsTicketOf, IsAnswerToReturn}
 use Rattle.pool_history.specs.declared.ticket.Ticket.{Ticket}
 use Rattle.pool_history.specs.declared.ticket.Back.{Back}
@@ -21,37 +20,15 @@ use Rattle.pool_history.specs.declared.batch.Batch.{Batch}
 use Rattle.pool_history.specs.declared.event.Event.{Event}
 use Rattle.pool_history.specs.declared.event.Event.TheVariants.{Return, Stale, Void}
 use Rattle.pool_history.proofs.AboutRecords.FrameLemmas.{by-if}
-use Rattle.pool_history.proofs.AboutClaims.HistoryLemmas.{replay-end}
+use Rattle.pool_history.proofs.AboutRecords.JobNumberLemmas.{returned-solver}
 use Rattle.pool_history.proofs.AboutRecords.NewsLemmas.{worked-given}
 use Rattle.given_work.specs.View.{IndexView}
 use Rattle.given_work.specs.Learned.{HasLearned}
-use Rattle.given_work.proofs.AboutLearning.TicketLemmas.{learned_stays}
-use Rattle.proving.specs.Progress.{HasNoJob, HasOut, IsGiven, IsIndexOf, IsLater}
-
--- ---- later pools
-
-pub later-same : (p : PoolView) → IsLater p p
-later-same p = record { bank = refl; origin = refl; history = ([], append-nil p.history) }
-
-pub later-then : (p q r : PoolView) → IsLater p q → IsLater q r → IsLater p r
-later-then p q r first second = record {
-  bank = second.bank ∙ first.bank;
-  origin = second.origin ∙ first.origin;
-  history = (
-    (first.history).0 ++ (second.history).0,
-    sym (append_assoc p.history (first.history).0 (second.history).0) ∙ ap (λ es. es ++ (second.history).0) (first.history).1 ∙ (second.history).1,
-  );
-}
-
--- what an index knows stays known
-pub later-index : (bank : Bank) (p q : PoolView) (i : IndexView) → IsLater p q → IsIndexOf bank p i → IsIndexOf bank q i
-later-index bank p q i later is = record {
-  same_bank = later.bank ∙ is.same_bank;
-  of_bank = is.of_bank;
-  options = is.options ∙ ap (λ (o : Origin). o.options) (sym later.origin);
-  unsplit = ap (λ (o : Origin). o.options.split) later.origin ∙ is.unsplit;
-  learned = learned_stays p q i later.origin later.history is.learned;
-}
+use Rattle.proving.specs.Progress.{AreOut, HasOut, IsGiven, IsIndexOf, IsLater, IsReady}
+use Rattle.proving.specs.Solving.{IsModelOfFirst}
+use Rattle.proving.specs.declared.rounds.Worker.{Worker}
+use Rattle.proving.specs.declared.solving.LastModel.{LastModel}
+use Rattle.proving.proofs.LaterLemmas.{later-by, replayed}
 
 -- ---- returns
 
@@ -64,36 +41,30 @@ none-left job (k ∷ []) j one found = by (k.job == job) found
     by false none = absurd (none-some j none)
 none-left job (k ∷ l ∷ ls) j one found = absurd (omega (arith, one))
 
-module _ (origin : Origin) (history : List Event) (job : ℕ) (j : GivenJob) where
-  abbrev r : PoolRecord
-  r = replay origin history
+module _ (options : Options) (r : PoolRecord) where
+  pub none-after-void : (job : ℕ) (j : GivenJob) → AreOut 1 r → given_job r job ≡ Some j → AreOut 0 (after options r (Void job))
+  none-after-void job j one out = record { given = ap length (none-left job r.given j one.given out); solver = one.solver }
 
-  pub none-after-void : length r.given ≡ 1 → given_job r job ≡ Some j → length (replay origin (history ++ Void job ∷ [])).given ≡ 0
-  none-after-void one out = ap (λ (s : PoolRecord). length s.given) (replay-end origin history (Void job)) ∙ ap length (none-left job r.given j one out)
+  pub one-after-stale : (job justifier : ℕ) → AreOut 1 r → AreOut 1 (after options r (Stale job justifier))
+  one-after-stale job justifier one = record {
+    given = length-map r.given (λ (k : GivenJob). if k.job == job then retold r k else k) ∙ one.given;
+    solver = one.solver;
+  }
 
-  pub one-after-stale : (justifier : ℕ) → length r.given ≡ 1 → length (replay origin (history ++ Stale job justifier ∷ [])).given ≡ 1
-  one-after-stale justifier one =
-      ap (λ (s : PoolRecord). length s.given) (replay-end origin history (Stale job justifier))
-      ∙ length-map r.given (λ (k : GivenJob). if k.job == job then retold r k else k) ∙ one
-
-pub none-after-return :
-    (origin : Origin) (history : List Event) (batch : Batch) (j : GivenJob)
-    → length (replay origin history).given ≡ 1 → given_job (replay origin history) batch.job ≡ Some j
-    → length (replay origin (history ++ Return batch ∷ [])).given ≡ 0
-none-after-return origin history batch j one out =
-    let r : PoolRecord = replay origin history in
-    let s : PoolRecord = record r { given = without_job batch.job r.given } in
-    ap (λ (t : PoolRecord). length t.given) (replay-end origin history (Return batch))
-    ∙ ap (λ o. length (returns_to origin.options batch o r).given) out
-    ∙ ap length
-    (by-if (λ (t : PoolRecord). t.given ≡ without_job batch.job r.given) (is_none r.ended) (worked origin.options j.number batch.work s) (becomes_active j.number s)
-    (worked-given origin.options batch.job j.number batch.work r) refl)
-    ∙ ap length (none-left batch.job r.given j one out)
+  pub none-after-return : (batch : Batch) (j : GivenJob) → AreOut 1 r → given_job r batch.job ≡ Some j → AreOut 0 (after options r (Return batch))
+  none-after-return batch j one out =
+      let s : PoolRecord = record r { given = without_job batch.job r.given } in
+      record {
+        given =
+            ap (λ o. length (returns_to options batch o r).given) out
+            ∙ ap length
+            (by-if (λ (t : PoolRecord). t.given ≡ without_job batch.job r.given) (is_none r.ended) (worked options j.number batch.work s) (becomes_active j.number s)
+            (worked-given options batch.job j.number batch.work r) refl)
+            ∙ ap length (none-left batch.job r.given j one.given out);
+        solver = returned-solver (λ n. false) options batch (given_job r batch.job) r ∙ one.solver;
+      }
 
 -- ---- answers to returns
-
-pub later-by : (p q : PoolView) (e : Event) → q.bank ≡ p.bank → q.origin ≡ p.origin → q.history ≡ p.history ++ e ∷ [] → IsLater p q
-later-by p q e bank origin history = record { bank = bank; origin = origin; history = (e ∷ [], sym history) }
 
 pub later-returned :
     (p q : PoolView) (told : ℕ) (batch : Batch) (answer : Back)
@@ -106,15 +77,15 @@ pub free-taken :
     (p q : PoolView) (told : ℕ) (batch : Batch)
     → q.origin ≡ p.origin → HasOut 1 p → IsAnswerToReturn p.origin p.history told batch back.Taken q.history → HasOut 0 q
 free-taken p q told batch origin one is =
-    ap (λ (o : Origin). length (replay o q.history).given) origin ∙ ap (λ es. length (replay p.origin es).given) is.2
-    ∙ none-after-return p.origin p.history batch (is.0).given one (is.0).out
+    subst (AreOut 0) (sym (replayed p q (Return batch) origin is.2))
+    (none-after-return p.origin.options (replay p.origin p.history) batch (is.0).given one (is.0).out)
 
 pub free-void :
     (p q : PoolView) (told event : ℕ) (batch : Batch)
     → q.origin ≡ p.origin → HasOut 1 p → IsAnswerToReturn p.origin p.history told batch (back.Void event) q.history → HasOut 0 q
 free-void p q told event batch origin one is =
-    ap (λ (o : Origin). length (replay o q.history).given) origin ∙ ap (λ es. length (replay p.origin es).given) is.1
-    ∙ none-after-void p.origin p.history batch.job (is.0).given one (is.0).out
+    subst (AreOut 0) (sym (replayed p q (Void batch.job) origin is.1))
+    (none-after-void p.origin.options (replay p.origin p.history) batch.job (is.0).given one (is.0).out)
 
 pub given-again :
     (p q : PoolView) (told justifier event : ℕ) (batch : Batch) (ticket : Ticket)
@@ -124,26 +95,22 @@ given-again p q told justifier event batch ticket bank origin one is of_bank = r
   answers = subst (λ (o : Origin). IsTicket o q.history told ticket) (sym origin) is.5;
   of_bank = subst (λ b. IsTicketOf b ticket) (sym bank) of_bank;
   only =
-      ap (λ (o : Origin). length (replay o q.history).given) origin ∙ ap (λ es. length (replay p.origin es).given) is.3
-      ∙ one-after-stale p.origin p.history batch.job (is.0).given justifier one;
+      subst (AreOut 1) (sym (replayed p q (Stale batch.job justifier) origin is.3))
+      (one-after-stale p.origin.options (replay p.origin p.history) batch.job justifier one);
 }
 
 -- ---- the beginning
 
 pub new-index :
     (bank : Bank) (p : PoolView) (index : IndexView) (options : Options)
-    → p.bank ≡ identity bank → p.origin.options.split ≡ false → options ≡ p.origin.options
+    → p.bank ≡ identity bank → options ≡ p.origin.options
     → index ≡ record { options = options; told = 0; members = [] } → IsIndexOf bank p index
-new-index bank p index options same_bank unsplit of_pool new = record {
+new-index bank p index options same_bank of_pool new = record {
   same_bank = same_bank;
   of_bank = subst (λ (i : IndexView). AreMembersOf bank i.members) (sym new) (All-nil (IsMemberOf bank));
   options = ap (λ (i : IndexView). i.options) new ∙ of_pool;
-  unsplit = unsplit;
   learned = subst (HasLearned p) (sym new) (record { told = omega arith; changes = []; of_history = refl; members = refl });
 }
-
-pub free-given : (p : PoolView) → HasNoJob p → HasOut 0 p
-free-given p none = omega (arith, none)
 
 -- ---- want of memory
 

@@ -21,7 +21,6 @@ prepared bank pool index now ticket is given same of_bank = (
     same_bank = is.same_bank;
     of_bank = of_bank;
     options = ap (λ (i : IndexView). i.options) same ∙ is.options;
-    unsplit = is.unsplit;
     learned = subst (HasLearned pool) (sym same) (tickets_are_learned pool index ticket is.learned given.answers).1;
   },
   ap (λ (i : IndexView). i.told) same ∙ given.answers.as_of.1,

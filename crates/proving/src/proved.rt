@@ -1,6 +1,6 @@
 // A pool from its inputs to its outcome.
 
-ghost use Rattle.std.specs.Prelude.{◌≡◌, false, map, IfOk};
+ghost use Rattle.std.specs.Prelude.{map, IfOk};
 ghost use Rattle.fol_base.specs.Literal.{clause_of};
 ghost use Rattle.pool_history.specs.Inputs.{AreInputs, IsLimit};
 ghost use Rattle.proving.specs.Proved.{IsProvedFrom};
@@ -21,7 +21,7 @@ pub struct Proved {
     pub bank: Bank,
 }
 
-/// Works on a pool of the inputs until an outcome stands. Clauses aren't split.
+/// Works on a pool of the inputs until an outcome stands.
 pub fn prove_clauses<R: Wait>(
     rt: &R,
     alloc: Global,
@@ -30,7 +30,6 @@ pub fn prove_clauses<R: Wait>(
 ) -> Mem<Proved>
     requires inputs { AreInputs (map clause_of inputs.now) }
     requires limit { IsLimit options }
-    requires unsplit { options.split ≡ false }
     ensures { IfOk result (IsProvedFrom (map clause_of inputs.now) options) }
 {
     let (bank, table) = Bank::new(alloc)?;

@@ -2,7 +2,8 @@ use Rattle.std.proofs.Common.{ℕ, subst}
 use Rattle.std.specs.Prelude.{Option, MatchOption}
 use Rattle.pool_history.specs.declared.ticket.Ticket.{Ticket}
 use Rattle.proving.specs.Progress.{HasOut, IsGiven}
-use Rattle.proving.proofs.ReturnLemmas.{later-index, later-then, no-answer}
+use Rattle.proving.proofs.LaterLemmas.{later-index, later-then}
+use Rattle.proving.proofs.ReturnLemmas.{no-answer}
 use Rattle.proving.proofs.rounds.finish.Goals as goal
 
 pub returns-in_err-return_batch-clause-free : goal.returns-in_err-return_batch-clause-free

@@ -1,9 +1,8 @@
-use Rattle.proving.specs.Progress.{HasOut, IsIndexOf, IsLater}
+use Rattle.proving.specs.Progress.{IsLater, IsReady}
 use Rattle.proving.proofs.rounds.saturate.Given as goal
 
 abbrev pub invariant-rounds : goal.invariant-rounds
 invariant-rounds g l = record {
-  index : IsIndexOf l.bank l.pool l.index;
-  free : HasOut 0 l.pool;
+  ready : IsReady l.bank l.pool l.worker;
   later : IsLater l.fn.pool l.pool;
 }
