@@ -3,7 +3,7 @@
 # Commands first, then the options of the command and files. Exit statuses are told by `./telmukhai help` and by the manual page docs/telmukhai.1.
 
 _telmukhai() {
-  local word=${COMP_WORDS[COMP_CWORD]} before=${COMP_WORDS[COMP_CWORD - 1]} options of_prove="--inferences= --tptp= --select="
+  local word=${COMP_WORDS[COMP_CWORD]} before=${COMP_WORDS[COMP_CWORD - 1]} options of_prove="--inferences= --tptp= --select= --split="
   COMPREPLY=()
   # Bash splits `--select=none` at its sign, so the value is a word of its own, or the sign itself.
   if [ "$word" = "=" ]; then
@@ -29,6 +29,7 @@ _telmukhai() {
   esac
   case "$before" in
     --select) mapfile -t COMPREPLY < <(compgen -W "none negative" -- "$word") ;;
+    --split) mapfile -t COMPREPLY < <(compgen -W "on off" -- "$word") ;;
     --format) mapfile -t COMPREPLY < <(compgen -W "svg dot" -- "$word") ;;
     --tptp | --proofs) compopt -o filenames && mapfile -t COMPREPLY < <(compgen -d -- "$word") ;;
     --results | --hosts) compopt -o filenames && mapfile -t COMPREPLY < <(compgen -f -- "$word") ;;

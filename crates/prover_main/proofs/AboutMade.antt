@@ -1,5 +1,5 @@
 -- Problems that no file spells: where names are words that can be shown, and variables words of variables, formulas can be printed.
-use Rattle.std.proofs.Common.{List, [], refl, subst, arith, append-nil, ◌++◌}
+use Rattle.std.proofs.Common.{[], refl, subst, arith, append-nil, ◌++◌}
 use Rattle.tptp_token.specs.Lexemes.{IsLexedAs}
 use Rattle.tptp_token.proofs.AboutLexemes.LexemeLemmas.{lexes-whole, lexes-nothing}
 use Rattle.tptp_tree.specs.declared.role.Role.{Role}

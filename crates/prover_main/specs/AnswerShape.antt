@@ -1,5 +1,5 @@
 -- The answers of a command's stages, in the words of the definitions.
-use Rattle.std.specs.Prelude.{◌≡◌, ⊤, List, map, position, Option, None, Some, IsTrue}
+use Rattle.std.specs.Prelude.{◌≡◌, ⊤, ℕ, List, map, position, Option, None, Some, IsTrue}
 use Rattle.outside.specs.Library.{Holdings}
 use Rattle.tptp_tree.specs.ProblemSize.{HasProblemSize}
 use Rattle.tptp_tree.specs.declared.problem.Annotated.{Annotated}
@@ -10,6 +10,9 @@ use Rattle.signature.specs.Form.{clausal_form}
 use Rattle.clausal_form.specs.Form.{form_of}
 use Rattle.clausal_form.specs.Fault.{form_fault}
 use Rattle.clausal_form.specs.FormFunctions.{IsHerbrandRefuted}
+use Rattle.clausal_form.specs.DerivationTexts.{IsAcceptedDerivation, IsRefusedDerivation}
+use Rattle.tstp_checker.specs.Causes.{cause_meant}
+use Rattle.tstp_checker.specs.declared.cause.Cause.{Cause}
 use Rattle.laws_meaning.specs.Meaning.{are_closed}
 use Rattle.pool_history.specs.Outcomes.{is_at_rest, is_of_living}
 use Rattle.pool_history.specs.Record.{PoolRecord}
@@ -23,9 +26,10 @@ use Rattle.proving.specs.declared.proved.Proved.{Proved as ProvedPool}
 use Rattle.tstp_writer.specs.ProblemLaws.{ArePrintableEntries}
 use Rattle.prover_main.specs.Outside.{Outside}
 use Rattle.prover_main.specs.Meaning.{IsTheorem}
-use Rattle.prover_main.specs.Answer.{Source, IsUnread, IsUnformed, HasCounted, AreSaturatedFor, IsRead}
-use Rattle.prover_main.specs.declared.answer.Answer.{Answer}
-use Rattle.prover_main.specs.declared.answer.Answer.TheVariants.{Unread, Unformed}
+use Rattle.prover_main.specs.Problems.{Source, IsUnread, IsUnformed, IsRead}
+use Rattle.prover_main.specs.ProveReports.{HasCounted, AreSaturatedFor}
+use Rattle.prover_main.specs.CheckReports.{accepted_line, refused_line}
+use Rattle.prover_main.specs.Reports.{read_status, unread_report, unformed_report}
 use Rattle.prover_main.specs.declared.problem.FormedProblem.{FormedProblem}
 use Rattle.prover_main.specs.declared.problem.Stop.{Stop}
 use Rattle.prover_main.specs.declared.problem.Stop.TheVariants.{NoMemory, Unread as NotRead, Unformed as NotFormed}
@@ -61,10 +65,20 @@ IsStop outside source NoMemory = ⊤
 IsStop outside source (NotRead cause file place) = IsUnread outside source cause file place
 IsStop outside source (NotFormed cause name) = IsUnformed (IsRead outside source) cause name
 
-abbrev pub IsStopAnswer : Stop → Answer → Type 0
-IsStopAnswer NoMemory answer = ⊥
-IsStopAnswer (NotRead cause file place) answer = answer ≡ Unread cause file place
-IsStopAnswer (NotFormed cause name) answer = answer ≡ Unformed cause name
+-- the report of a fault; out of memory has none of its own
+abbrev pub IsStopReport : List ℕ → Stop → ℕ → List ℕ → Type 0
+IsStopReport file NoMemory status text = ⊥
+IsStopReport file (NotRead cause name place) status text = (status ≡ read_status cause) × (text ≡ unread_report file cause name place)
+IsStopReport file (NotFormed cause name) status text = (status ≡ 3) × (text ≡ unformed_report file cause name)
+
+-- The report of what is judged of a text.
+pub data IsJudgement (formulas : List Annotated) (bytes : List ℕ) (status : ℕ) (text : List ℕ) : Type 0 where
+  judged_accepted :
+      (lines : ℕ) → IsAcceptedDerivation formulas bytes lines → IsHerbrandRefuted formulas → IsTheorem formulas → status ≡ 0
+      → text ≡ accepted_line lines → IsJudgement formulas bytes status text
+  judged_refused :
+      (line : ℕ) (cause : Cause) → IsRefusedDerivation formulas bytes line (cause_meant cause) → status ≡ 9 → text ≡ refused_line line cause
+      → IsJudgement formulas bytes status text
 
 -- ---- proofs
 

@@ -1,5 +1,5 @@
 -- The values of the worked examples.
-use Rattle.std.specs.Prelude.{ℕ, List, [], ◌∷◌, false, Some, None, codes, Result}
+use Rattle.std.specs.Prelude.{ℕ, List, [], ◌∷◌, false, true, Some, None, codes, Result}
 use Rattle.literal_selection.specs.declared.choice.Selection.TheVariants.{Negative}
 use Rattle.pool_history.specs.declared.options.Options.{Options}
 use Rattle.outside.specs.Examples.{script_gives}
@@ -14,9 +14,9 @@ use Rattle.laws_meaning.specs.Examples.{hiding_alone}
 use Rattle.prover_main.specs.Outside.{Outside}
 use Rattle.prover_main.specs.Run.{Taken, AreWrites, DeliversInPieces}
 
--- a pool that may count n inferences, and selects negative literals
+-- a pool that may count n inferences, selects negative literals, and splits clauses
 abbrev pub counting : ℕ → Options
-counting n = record { select = Negative; split = false; inferences = n }
+counting n = record { select = Negative; split = true; inferences = n }
 
 -- `! [X] : ( p(X) | ? [X] : r(X,X) )` with these clauses in place of its own
 abbrev pub hiding_with : List TreeClause → ClausalForm

@@ -1,4 +1,4 @@
--- Laws of answers: the bytes that a library tells decide them where something is wrong with the input. And laws of problems that are read.
+-- Laws of reports: the bytes that a library tells decide them where something is wrong with the input. And laws of problems that are read.
 use Rattle.std.specs.Prelude.{◌≡◌, ◌==◌, ◌||◌, ℕ, true, Bool, List, map, Option, IsTrue}
 use Rattle.outside.specs.Library.{Holdings}
 use Rattle.tptp_tree.specs.declared.problem.Annotated.{Annotated}
@@ -6,29 +6,28 @@ use Rattle.tptp_problem.specs.Formulas.{placed}
 use Rattle.tptp_problem.specs.Problem.{IsProblem}
 use Rattle.laws_meaning.specs.Meaning.{are_closed}
 use Rattle.tstp_writer.specs.ProblemLaws.{ArePrintableEntries}
-use Rattle.pool_history.specs.declared.options.Options.{Options}
 use Rattle.prover_main.specs.Outside.{Outside, IsTold}
-use Rattle.prover_main.specs.declared.answer.Answer.{Answer}
-use Rattle.prover_main.specs.Answer.{Source, IsFormed, IsReadProveAnswer, IsReadCheckAnswer, IsRead}
-use Rattle.prover_main.specs.Reports.{status_of}
+use Rattle.prover_main.specs.Words.{Command, check}
+use Rattle.prover_main.specs.Problems.{Source, IsFormed, IsRead}
+use Rattle.prover_main.specs.Answer.{IsAnswered}
 use Rattle.prover_main.specs.Rows.{IsValid}
 
 -- 3, 8 and 9 are the statuses of a fault of the input
 abbrev pub is_exact : ℕ → Bool
 is_exact status = status == 3 || status == 8 || status == 9
 
--- The bytes that are told decide what `check` answers,
-abbrev pub ChecksHaveOneAnswer : Type 0
-ChecksHaveOneAnswer =
-    (outside : Outside) (source : Source) (derivation : List ℕ) (a b : Answer)
-    → IsTold outside → IsReadCheckAnswer outside source derivation a → IsReadCheckAnswer outside source derivation b → a ≡ b
+-- The bytes that are told decide what `check` reports,
+abbrev pub ChecksHaveOneReport : Type 0
+ChecksHaveOneReport =
+    (outside : Outside) (file derivation : List ℕ) (root : Option (List ℕ)) (s u : ℕ) (a b : List ℕ)
+    → IsTold outside → IsAnswered (check file derivation root) outside s a → IsAnswered (check file derivation root) outside u b
+    → (s ≡ u) × (a ≡ b)
 
--- and what `prove` answers where the problem has a fault.
-abbrev pub FaultsAreTheOnlyAnswer : Type 0
-FaultsAreTheOnlyAnswer =
-    (outside : Outside) (source : Source) (options : Options) (a b : Answer)
-    → IsTold outside → is_exact (status_of a) ≡ true → IsReadProveAnswer outside source options a → IsReadProveAnswer outside source options b
-    → a ≡ b
+-- and what each command reports where the input has a fault.
+abbrev pub FaultsAreTheOnlyReport : Type 0
+FaultsAreTheOnlyReport =
+    (outside : Outside) (command : Command) (s u : ℕ) (a b : List ℕ)
+    → IsTold outside → is_exact s ≡ true → IsAnswered command outside s a → IsAnswered command outside u b → (s ≡ u) × (a ≡ b)
 
 -- The formulas of a problem within the limits show that it has no fault.
 abbrev pub FormedIsValid : Type 0

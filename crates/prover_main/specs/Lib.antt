@@ -3,10 +3,15 @@ pub mod WordParts
 pub mod Outside
 pub mod Names
 pub mod Meaning
+pub mod Problems
+pub mod ProveReports
+pub mod CheckReports
 pub mod Answer
 pub mod AnswerShape
 pub mod Reports
 pub mod Run
 pub mod Rows
+pub mod ProveRows
+pub mod CheckRows
 pub mod Laws
 pub mod Examples

@@ -1,5 +1,5 @@
--- The reports, as texts, and their statuses.
-use Rattle.std.specs.Prelude.{ℕ, Bool, true, false, List, ◌++◌, codes}
+-- The texts of reports: words, lines, and the reports that every command has. A command's own stand with what it reports.
+use Rattle.std.specs.Prelude.{ℕ, List, ◌++◌, codes}
 use Rattle.std.specs.Fmt.{decimal}
 use Rattle.tptp_reader.specs.declared.cause.Form.{Form}
 use Rattle.tptp_reader.specs.declared.cause.Form.TheVariants.{Typed, RoleForm, Number, Distinct, Dollar}
@@ -7,11 +7,7 @@ use Rattle.tptp_reader.specs.declared.cause.ReadCause.{ReadCause}
 use Rattle.tptp_reader.specs.declared.cause.ReadCause.TheVariants.{BadByte, Unclosed, Syntax, FreeVariable, Role, SecondConjecture, SelectionMissing, IncludeDepth, TooLong, Nesting, Inappropriate, Load}
 use Rattle.clausal_form.specs.declared.fault.FormCause.{FormCause}
 use Rattle.clausal_form.specs.declared.fault.FormCause.TheVariants.{Expansion, TooHeavy, TotalLimit}
-use Rattle.tstp_checker.specs.declared.cause.Cause.{Cause}
-use Rattle.tstp_checker.specs.declared.cause.Cause.TheVariants.{Text, Order, UnknownParent, Leaf, Clausify, Binding, Rule, Conclusion, NewSymbol, NoEmptyClause}
 use Rattle.tstp_writer.specs.LineTexts.{formula_name_text}
-use Rattle.prover_main.specs.declared.answer.Answer.{Answer}
-use Rattle.prover_main.specs.declared.answer.Answer.TheVariants.{Refuted, Saturated, Spent, Heavy, Accepted, Refused, Unloaded, Unread, Unformed}
 use Rattle.prover_main.specs.Names.{shown, problem_name}
 
 -- ---- causes by their names
@@ -42,18 +38,6 @@ limit_word Expansion = codes "Expansion"
 limit_word TooHeavy = codes "TooHeavy"
 limit_word TotalLimit = codes "TotalLimit"
 
-abbrev pub cause_word : Cause → List ℕ
-cause_word Text = codes "Text"
-cause_word Order = codes "Order"
-cause_word UnknownParent = codes "UnknownParent"
-cause_word Leaf = codes "Leaf"
-cause_word Clausify = codes "Clausify"
-cause_word Binding = codes "Binding"
-cause_word Rule = codes "Rule"
-cause_word Conclusion = codes "Conclusion"
-cause_word NewSymbol = codes "NewSymbol"
-cause_word NoEmptyClause = codes "NoEmptyClause"
-
 -- ---- lines, of the problem in a file
 
 -- the end of a line that names the problem
@@ -68,12 +52,6 @@ status_line word file = codes "% SZS status " ++ word ++ for_problem file
 abbrev pub output_line : List ℕ → List ℕ → List ℕ → List ℕ
 output_line place form file = codes "% SZS output " ++ place ++ codes " " ++ form ++ for_problem file
 
-abbrev pub spent_line : ℕ → ℕ → List ℕ
-spent_line count limit = codes "% spent " ++ decimal count ++ codes " of " ++ decimal limit ++ codes "\n"
-
-abbrev pub heavy_line : List ℕ → List ℕ
-heavy_line key = codes "% heavy " ++ key ++ codes "\n"
-
 abbrev pub load_line : List ℕ → List ℕ
 load_line file = codes "% Load " ++ shown file ++ codes "\n"
 
@@ -85,35 +63,12 @@ place_line word name place = codes "% " ++ word ++ codes " at " ++ shown name ++
 abbrev pub formula_line : List ℕ → List ℕ → List ℕ
 formula_line word name = codes "% " ++ word ++ codes " in " ++ formula_name_text name ++ codes "\n"
 
-abbrev pub accepted_line : ℕ → List ℕ
-accepted_line lines = codes "% accepted " ++ decimal lines ++ codes " lines\n"
-
-abbrev pub refused_line : ℕ → Cause → List ℕ
-refused_line line cause = codes "% refused at line " ++ decimal line ++ codes ": " ++ cause_word cause ++ codes "\n"
-
 -- ---- reports
-
--- with a conjecture, and without
-abbrev pub refutation_word : Bool → List ℕ
-refutation_word true = codes "Theorem"
-refutation_word false = codes "Unsatisfiable"
-
-abbrev pub saturation_word : Bool → List ℕ
-saturation_word true = codes "CounterSatisfiable"
-saturation_word false = codes "Satisfiable"
 
 -- a text between its two lines, after a status
 abbrev pub printed_report : List ℕ → List ℕ → List ℕ → List ℕ → List ℕ
 printed_report file word form text =
     status_line word file ++ output_line (codes "start") form file ++ text ++ output_line (codes "end") form file
-
--- a derivation
-abbrev pub refuted_report : List ℕ → Bool → List ℕ → List ℕ
-refuted_report file conjecture derivation = printed_report file (refutation_word conjecture) (codes "CNFRefutation") derivation
-
--- the members of a saturated set
-abbrev pub saturated_report : List ℕ → Bool → List ℕ → List ℕ
-saturated_report file conjecture members = printed_report file (saturation_word conjecture) (codes "Saturation") members
 
 -- the status of a text that isn't read, and the word for it
 abbrev pub read_status : ReadCause → ℕ
@@ -140,39 +95,9 @@ unformed_report file cause name = status_line (codes "InputError") file ++ formu
 abbrev pub lost_report : List ℕ → List ℕ → List ℕ
 lost_report file name = status_line (codes "OSError") file ++ load_line name
 
--- a pool that gave up
-abbrev pub spent_report : List ℕ → ℕ → ℕ → List ℕ
-spent_report file count allowed = status_line (codes "GaveUp") file ++ spent_line count allowed
-
-abbrev pub heavy_report : List ℕ → List ℕ → List ℕ
-heavy_report file key = status_line (codes "GaveUp") file ++ heavy_line key
-
-abbrev pub status_of : Answer → ℕ
-status_of (Refuted conjecture derivation) = 0
-status_of (Accepted lines) = 0
-status_of (Saturated conjecture members) = 1
-status_of (Spent count allowed) = 2
-status_of (Heavy key) = 2
-status_of (Unformed cause name) = 3
-status_of (Unloaded name) = 4
-status_of (Unread cause name place) = read_status cause
-status_of (Refused line cause) = 9
-
--- the report of an answer on the problem in a file
-abbrev pub report_of : List ℕ → Answer → List ℕ
-report_of file (Refuted conjecture derivation) = refuted_report file conjecture derivation
-report_of file (Accepted lines) = accepted_line lines
-report_of file (Saturated conjecture members) = saturated_report file conjecture members
-report_of file (Spent count allowed) = spent_report file count allowed
-report_of file (Heavy key) = heavy_report file key
-report_of file (Unformed cause name) = unformed_report file cause name
-report_of file (Unloaded name) = lost_report file name
-report_of file (Unread cause name place) = unread_report file cause name place
-report_of file (Refused line cause) = refused_line line cause
-
 -- the program is out of memory
 abbrev pub memory_out_report : List ℕ → List ℕ
 memory_out_report file = status_line (codes "MemoryOut") file
 
 abbrev pub usage_report : List ℕ
-usage_report = codes "usage: prove FILE [--inferences=N] [--tptp=DIR] [--select=none|negative]\n       check FILE DERIVATION [--tptp=DIR]\n"
+usage_report = codes "usage: prove FILE [--inferences=N] [--tptp=DIR] [--select=none|negative] [--split=on|off]\n       check FILE DERIVATION [--tptp=DIR]\n"

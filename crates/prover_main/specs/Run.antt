@@ -5,24 +5,15 @@ use Rattle.outside.specs.Sink.{with_bytes, HasPrefixAfter, Delivers}
 use Rattle.outside.specs.declared.fault.SinkFault.{SinkFault}
 use Rattle.prover_main.specs.Outside.{Outside}
 use Rattle.prover_main.specs.declared.status.TheConstants.{SINK_FAILED, USAGE_SHOWN, MEMORY_OUT}
-use Rattle.prover_main.specs.Words.{Command, prove, check, command_of}
-use Rattle.prover_main.specs.Answer.{IsAnswer}
-use Rattle.prover_main.specs.declared.answer.Answer.{Answer}
-use Rattle.prover_main.specs.Reports.{status_of, report_of, memory_out_report, usage_report}
+use Rattle.prover_main.specs.Words.{Command, command_of}
+use Rattle.prover_main.specs.Answer.{source_of, IsAnswered}
+use Rattle.prover_main.specs.Reports.{memory_out_report, usage_report}
 
 -- ---- the report that is due
 
 -- the problem's file
 abbrev pub file_of : Command → List ℕ
-file_of (prove file root options) = file
-file_of (check file derivation root) = file
-
--- An answer with its cause is told.
-pub record IsAnswered (command : Command) (outside : Outside) (status : ℕ) (text : List ℕ) : Type 0 where
-  pub answer : Answer
-  pub due : IsAnswer outside command answer
-  pub status_is : status ≡ status_of answer
-  pub prints : text ≡ report_of (file_of command) answer
+file_of command = (source_of command).file
 
 -- The program is out of memory, which may happen to each command at any time.
 abbrev pub IsMemoryOut : Command → ℕ → List ℕ → Type 0

@@ -1,10 +1,9 @@
--- The words after a command as the program counts them: none, one, two, or more; and its values.
-use Rattle.std.specs.Prelude.{◌≡◌, ⊤, ℕ, IsTrue, false, List, [], ◌∷◌, fold, Option}
+-- The words after a command as the program counts them: none, one, two, or more, or an empty one; and its values.
+use Rattle.std.specs.Prelude.{⊤, ℕ, IsTrue, List, fold, Option, if◌then◌else◌}
 use Rattle.std.specs.Borrow.{Bor}
 use Rattle.std.specs.Option.{option_map}
 use Rattle.pool_history.specs.Inputs.{IsLimit}
-use Rattle.prover_main.specs.Words.{Given as GivenOptions, Command as Commanded, prove, check, is_filled, prove_with, check_with, command_with}
-use Rattle.prover_main.specs.declared.words.CommandName.{CommandName}
+use Rattle.prover_main.specs.Words.{Given as GivenOptions, Command as Commanded, prove, check, is_filled, Files, one_file, two_files, other_files}
 use Rattle.prover_main.specs.declared.words.Command.{Command}
 use Rattle.prover_main.specs.declared.words.Command.TheVariants.{Prove, Check}
 use Rattle.prover_main.specs.declared.words.Given.{Given}
@@ -18,11 +17,15 @@ pub data FewWords : Type 0 where
   more_words : FewWords
 
 -- and a word more
+abbrev pub few_and : FewWords → List ℕ → FewWords
+few_and no_word w = one_word w
+few_and (one_word v) w = two_words v w
+few_and (two_words u v) w = more_words
+few_and more_words w = more_words
+
+-- that isn't empty, or else it counts as more
 abbrev pub few_with : FewWords → List ℕ → FewWords
-few_with no_word w = one_word w
-few_with (one_word v) w = two_words v w
-few_with (two_words u v) w = more_words
-few_with more_words w = more_words
+few_with few w = if is_filled w then few_and few w else more_words
 
 abbrev pub few_of : List (List ℕ) → FewWords
 few_of words = fold few_with no_word words
@@ -41,30 +44,19 @@ abbrev pub lent : Option (Bor (List ℕ)) → Option (List ℕ)
 lent o = option_map (λ x. x.now) o
 
 abbrev pub given_meant : Given → GivenOptions
-given_meant o = record { inferences = o.inferences; select = o.select; root = lent o.root }
+given_meant o = record { inferences = o.inferences; select = o.select; split = o.split; root = lent o.root }
 
 abbrev pub command_meant : Command → Commanded
 command_meant (Prove file root options) = prove file.now (lent root) options
 command_meant (Check file derivation root) = check file.now derivation.now (lent root)
 
--- words that are counted so; for more than two, three that are empty
-abbrev pub few_listed : FewWords → List (List ℕ)
-few_listed no_word = []
-few_listed (one_word file) = file ∷ []
-few_listed (two_words file other) = file ∷ other ∷ []
-few_listed more_words = [] ∷ [] ∷ [] ∷ []
+-- file words that are counted so
+abbrev pub files_by : FewWords → Files
+files_by (one_word file) = one_file file
+files_by (two_words file second) = two_files file second
+files_by few = other_files
 
--- commands by their counted words
-abbrev pub prove_few : FewWords → Option GivenOptions → Option Commanded
-prove_few words given = prove_with (few_listed words) given
-
-abbrev pub check_few : FewWords → Option GivenOptions → Option Commanded
-check_few words given = check_with (few_listed words) given
-
-abbrev pub command_few : CommandName → FewWords → Option GivenOptions → Option Commanded
-command_few name words given = command_with name (few_listed words) given
-
--- the options are such as a pool takes without splitting, and the file has a name
+-- the options are such as a pool takes, and the file has a name
 abbrev pub IsFit : Commanded → Type 0
-IsFit (prove file root options) = IsLimit options × (options.split ≡ false) × IsTrue (is_filled file)
+IsFit (prove file root options) = IsLimit options × IsTrue (is_filled file)
 IsFit (check file derivation root) = ⊤

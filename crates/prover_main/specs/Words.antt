@@ -9,7 +9,7 @@ use Rattle.tptp_source.specs.Items.{decimal_in}
 use Rattle.prover_main.specs.declared.words.CommandName.{CommandName}
 use Rattle.prover_main.specs.declared.words.CommandName.TheVariants.{Prove, Check}
 use Rattle.prover_main.specs.declared.words.OptionName.{OptionName}
-use Rattle.prover_main.specs.declared.words.OptionName.TheVariants.{Inferences, Tptp, Select}
+use Rattle.prover_main.specs.declared.words.OptionName.TheVariants.{Inferences, Tptp, Select, Split}
 
 -- ---- the tables: each command with its word, its files and its options, and each option with its name and its values
 
@@ -21,13 +21,14 @@ command_word Prove = codes "prove"
 command_word Check = codes "check"
 
 abbrev pub options_of : CommandName → List OptionName
-options_of Prove = Inferences ∷ Tptp ∷ Select ∷ []
+options_of Prove = Inferences ∷ Tptp ∷ Select ∷ Split ∷ []
 options_of Check = Tptp ∷ []
 
 abbrev pub option_word : OptionName → List ℕ
 option_word Inferences = codes "--inferences"
 option_word Tptp = codes "--tptp"
 option_word Select = codes "--select"
+option_word Split = codes "--split"
 
 -- the files of a command and the values of an option, as the usage text shows them
 abbrev pub files_shown : CommandName → List ℕ
@@ -38,6 +39,7 @@ abbrev pub values_shown : OptionName → List ℕ
 values_shown Inferences = codes "N"
 values_shown Tptp = codes "DIR"
 values_shown Select = codes "none|negative"
+values_shown Split = codes "on|off"
 
 -- ---- the usage text: a line for each command, the first one after `usage: `
 
@@ -55,10 +57,12 @@ usage_text = usage_lines (codes "usage: ") commands
 
 -- ---- what the words give
 
--- what options give: how many inferences are counted, which literal of a clause is chosen, and the folder from which includes are loaded
+-- what options give: how many inferences are counted, which literal of a clause is chosen, whether clauses are split, and the folder from which
+-- includes are loaded
 pub record Given : Type 0 where
   pub inferences : Option ℕ
   pub select : Option Selection
+  pub split : Option Bool
   pub root : Option (List ℕ)
 
 -- A command with its values.
@@ -83,6 +87,17 @@ is_filled (b ∷ bs) = true
 abbrev pub file_words : List (List ℕ) → List (List ℕ)
 file_words words = filter (λ w. not (is_option w)) words
 
+-- One file word or two, none of them empty; or others.
+pub data Files : Type 0 where
+  one_file : List ℕ → Files
+  two_files : List ℕ → List ℕ → Files
+  other_files : Files
+
+abbrev pub files_in : List (List ℕ) → Files
+files_in (file ∷ []) = if is_filled file then one_file file else other_files
+files_in (file ∷ second ∷ []) = if is_filled file && is_filled second then two_files file second else other_files
+files_in words = other_files
+
 -- ---- options, each at most once
 
 -- An option is a name, `=` and a value that isn't empty.
@@ -96,7 +111,7 @@ option_named [] name = None
 option_named (o ∷ os) name = if bytes_eq name (option_word o) then Some o else option_named os name
 
 abbrev pub no_options : Given
-no_options = record { inferences = None; select = None; root = None }
+no_options = record { inferences = None; select = None; split = None; root = None }
 
 abbrev pub within_limits : ℕ → Option ℕ
 within_limits n = if nat_le 1 n && nat_le n MOST_INFERENCES then Some n else None
@@ -109,6 +124,9 @@ abbrev pub selection_in : List ℕ → Option Selection
 selection_in value =
     if bytes_eq value (codes "none") then Some Nothing else if bytes_eq value (codes "negative") then Some Negative else None
 
+abbrev pub switch_in : List ℕ → Option Bool
+switch_in value = if bytes_eq value (codes "on") then Some true else if bytes_eq value (codes "off") then Some false else None
+
 abbrev pub with_root : Given → List ℕ → Option Given
 with_root given root = if is_some given.root then None else Some (record given { root = Some root })
 
@@ -118,11 +136,15 @@ with_inferences given n = if is_some given.inferences then None else Some (recor
 abbrev pub with_selection : Given → Selection → Option Given
 with_selection given select = if is_some given.select then None else Some (record given { select = Some select })
 
+abbrev pub with_split : Given → Bool → Option Given
+with_split given split = if is_some given.split then None else Some (record given { split = Some split })
+
 -- and the value of an option more; None where the option can't have it, or has one already
 abbrev pub with_value : Given → OptionName → List ℕ → Option Given
 with_value given Inferences value = option_and_then (with_inferences given) (limit_in value)
 with_value given Tptp value = with_root given value
 with_value given Select value = option_and_then (with_selection given) (selection_in value)
+with_value given Split value = option_and_then (with_split given) (switch_in value)
 
 -- and an option word more, of a command that has these options
 abbrev pub with_option : List OptionName → Given → List ℕ → Option Given
@@ -133,24 +155,26 @@ with_option options given word =
 abbrev pub options_in : List OptionName → List (List ℕ) → Option Given
 options_in options words = fold (λ given w. option_and_then (λ g. with_option options g w) given) (Some no_options) (filter is_option words)
 
--- how a pool works by what is given; clauses aren't split
+-- how a pool works by what is given
 abbrev pub options_by : Given → Options
-options_by given =
-    record { select = unwrap_or given.select Negative; split = false; inferences = unwrap_or given.inferences DEFAULT_INFERENCES }
+options_by given = record {
+  select = unwrap_or given.select Negative;
+  split = unwrap_or given.split true;
+  inferences = unwrap_or given.inferences DEFAULT_INFERENCES;
+}
 
 -- ---- commands; None where the words are usage
 
-abbrev pub prove_with : List (List ℕ) → Option Given → Option Command
-prove_with (file ∷ []) (Some given) = if is_filled file then Some (prove file given.root (options_by given)) else None
+abbrev pub prove_with : Files → Option Given → Option Command
+prove_with (one_file file) (Some given) = Some (prove file given.root (options_by given))
 prove_with files given = None
 
-abbrev pub check_with : List (List ℕ) → Option Given → Option Command
-check_with (file ∷ derivation ∷ []) (Some given) =
-    if is_filled file && is_filled derivation then Some (check file derivation given.root) else None
+abbrev pub check_with : Files → Option Given → Option Command
+check_with (two_files file derivation) (Some given) = Some (check file derivation given.root)
 check_with files given = None
 
 -- by its file words, and what its options give
-abbrev pub command_with : CommandName → List (List ℕ) → Option Given → Option Command
+abbrev pub command_with : CommandName → Files → Option Given → Option Command
 command_with Prove files given = prove_with files given
 command_with Check files given = check_with files given
 
@@ -162,4 +186,5 @@ command_named (c ∷ cs) word = if bytes_eq word (command_word c) then Some c el
 abbrev pub command_of : List (List ℕ) → Option Command
 command_of [] = None
 command_of (word ∷ words) =
-    option_and_then (λ name. command_with name (file_words words) (options_in (options_of name) words)) (command_named commands word)
+    option_and_then (λ name. command_with name (files_in (file_words words)) (options_in (options_of name) words))
+    (command_named commands word)

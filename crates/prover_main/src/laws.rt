@@ -10,8 +10,7 @@ ghost use Rattle.clausal_form.specs.declared.fault.FormCause.TheVariants.{Expans
 ghost use Rattle.tptp_reader.specs.declared.cause.Form.TheVariants.{Typed, RoleForm, Number, Distinct, Dollar};
 ghost use Rattle.tptp_reader.specs.declared.cause.ReadCause.TheVariants as read;
 ghost use Rattle.tstp_checker.specs.declared.cause.Cause.TheVariants as line;
-ghost use Rattle.prover_main.specs.declared.answer.Answer.TheVariants.{Refuted, Saturated, Spent, Heavy, Accepted, Refused, Unloaded, Unread, Unformed};
-ghost use Rattle.literal_selection.specs.declared.choice.Selection.TheVariants.{Nothing};
+ghost use Rattle.literal_selection.specs.declared.choice.Selection.TheVariants.{Negative, Nothing};
 ghost use Rattle.prover_main.specs.Words.{command_of, prove, check, usage_text};
 ghost use Rattle.prover_main.specs.Names.{shown, problem_name};
 ghost use Rattle.signature.specs.Examples.{clause, fof_axiom};
@@ -19,21 +18,25 @@ ghost use Rattle.signature.specs.Form.{clausal_form};
 ghost use Rattle.laws_meaning.specs.Meaning.{has_conjecture};
 ghost use Rattle.laws_meaning.specs.Examples.{hiding_alone, every_p, some_p, contradiction, proving};
 ghost use Rattle.prover_main.specs.Meaning.{FormMeans, IsTheorem};
-ghost use Rattle.prover_main.specs.Reports.{status_of, read_status, read_status_word, report_of, memory_out_report, usage_report, read_word, form_word, limit_word, cause_word};
+ghost use Rattle.prover_main.specs.Reports.{read_status, read_status_word, unread_report, unformed_report, lost_report, memory_out_report, usage_report, read_word, form_word, limit_word};
+ghost use Rattle.prover_main.specs.ProveReports.{refuted_report, saturated_report, spent_report, heavy_report};
+ghost use Rattle.prover_main.specs.CheckReports.{accepted_line, refused_line, cause_word};
 ghost use Rattle.prover_main.specs.Outside.{IsTold};
-ghost use Rattle.prover_main.specs.Laws.{is_exact, ChecksHaveOneAnswer, FaultsAreTheOnlyAnswer, FormedIsValid, ReadProblemsAreClosed, ReadProblemsArePrintable};
+ghost use Rattle.prover_main.specs.Laws.{is_exact, ChecksHaveOneReport, FaultsAreTheOnlyReport, FormedIsValid, ReadProblemsAreClosed, ReadProblemsArePrintable};
 ghost use Rattle.prover_main.specs.Examples.{counting, formula_in, hiding_with, holding_nothing, taking, proving_row, AreWritesBy, DeliversInPiecesBy};
-ghost use Rattle.prover_main.specs.Rows.{UsageRow, TheoremRow, SaturatedRow, GaveUpRow, ReadFaultRow, LoadFaultRow, LostOutputRow, MemoryOutRow, CheckedRow};
+ghost use Rattle.prover_main.specs.Rows.{UsageRow, TheoremRow, ReadFaultRow, LoadFaultRow, LostOutputRow, MemoryOutRow};
+ghost use Rattle.prover_main.specs.ProveRows.{SaturatedRow, GaveUpRow};
+ghost use Rattle.prover_main.specs.CheckRows.{CheckedRow};
 ghost use Rattle.prover_main.specs.Run.{IsDue};
-ghost use Rattle.prover_main.specs.declared.status.TheConstants.{SINK_FAILED, USAGE_SHOWN, MEMORY_OUT};
+ghost use Rattle.prover_main.specs.declared.status.TheConstants.{PROVED, SATURATED, GAVE_UP, INPUT_ERROR, LOAD_FAILED, SINK_FAILED, USAGE_SHOWN, MEMORY_OUT, INAPPROPRIATE, REFUSED};
 
 use clausal_form::laws::texts_have_one_answer;
 
-/// Where the library tells what it holds and no load failed, these bytes decide what `check` answers, and whether `prove`
-/// finds something wrong with the problem, and what.
+/// Where the library tells what it holds and no load failed, these bytes decide what `check` reports, and which fault of the input
+/// each command reports.
 pub fn one_answer()
-    ensures of_check { ChecksHaveOneAnswer }
-    ensures of_prove { FaultsAreTheOnlyAnswer }
+    ensures of_check { ChecksHaveOneReport }
+    ensures of_faults { FaultsAreTheOnlyReport }
 {
     texts_have_one_answer();
 }
@@ -58,14 +61,18 @@ pub fn command_examples()
         ≡ Some (prove (codes "a") (Some (codes "D")) (counting 1000000)) }
     ensures negative { command_of (codes "prove" ∷ codes "a" ∷ codes "--select=negative" ∷ []) ≡ Some (prove (codes "a") None (counting 100000)) }
     ensures nothing { command_of (codes "prove" ∷ codes "--select=none" ∷ codes "a" ∷ codes "--inferences=5" ∷ [])
-        ≡ Some (prove (codes "a") None (record { select = Nothing; split = false; inferences = 5 })) }
+        ≡ Some (prove (codes "a") None (record { select = Nothing; split = true; inferences = 5 })) }
+    ensures split { command_of (codes "prove" ∷ codes "a" ∷ codes "--split=on" ∷ []) ≡ Some (prove (codes "a") None (counting 100000)) }
+    ensures whole { command_of (codes "prove" ∷ codes "--split=off" ∷ codes "a" ∷ [])
+        ≡ Some (prove (codes "a") None (record { select = Negative; split = false; inferences = 100000 })) }
     ensures checked { command_of (codes "check" ∷ codes "a" ∷ codes "d" ∷ []) ≡ Some (check (codes "a") (codes "d") None) }
     ensures checked_with_root { command_of (codes "check" ∷ codes "a" ∷ codes "d" ∷ codes "--tptp=D" ∷ [])
         ≡ Some (check (codes "a") (codes "d") (Some (codes "D"))) }
 {}
 
 /// Words that are usage: another command; a number of files that isn't the command's, or one that is empty; an option that isn't
-/// the command's, stands twice, has no value, has no number from 1 to 1,000,000 in plain digits, or names no mode.
+/// the command's, stands twice, has no value, has no number from 1 to 1,000,000 in plain digits, names no mode, or is neither
+/// `on` nor `off`.
 pub fn usage_examples()
     ensures none { command_of [] ≡ None }
     ensures other { command_of (codes "bench" ∷ codes "1" ∷ []) ≡ None }
@@ -86,6 +93,9 @@ pub fn usage_examples()
     ensures two_modes { command_of (codes "prove" ∷ codes "a" ∷ codes "--select=none" ∷ codes "--select=none" ∷ []) ≡ None }
     ensures no_mode { command_of (codes "prove" ∷ codes "a" ∷ codes "--select=" ∷ []) ≡ None }
     ensures other_mode { command_of (codes "prove" ∷ codes "a" ∷ codes "--select=positive" ∷ []) ≡ None }
+    ensures two_splits { command_of (codes "prove" ∷ codes "a" ∷ codes "--split=on" ∷ codes "--split=off" ∷ []) ≡ None }
+    ensures no_split { command_of (codes "prove" ∷ codes "a" ∷ codes "--split" ∷ []) ≡ None }
+    ensures other_split { command_of (codes "prove" ∷ codes "a" ∷ codes "--split=yes" ∷ []) ≡ None }
     ensures check_selects { command_of (codes "check" ∷ codes "a" ∷ codes "d" ∷ codes "--select=none" ∷ []) ≡ None }
     ensures no_inferences { command_of (codes "prove" ∷ codes "a" ∷ codes "--inferences=0" ∷ []) ≡ None }
     ensures too_many { command_of (codes "prove" ∷ codes "a" ∷ codes "--inferences=1000001" ∷ []) ≡ None }
@@ -136,55 +146,44 @@ pub fn word_examples()
         ∷ codes "Conclusion" ∷ codes "NewSymbol" ∷ codes "NoEmptyClause" ∷ [] }
 {}
 
-/// What is printed, for each answer.
+/// The texts of reports.
 pub fn report_examples()
-    ensures theorem { report_of (codes "dir/r5.p") (Refuted true (codes "cnf(c0,axiom,p).\n"))
+    ensures theorem { refuted_report (codes "dir/r5.p") true (codes "cnf(c0,axiom,p).\n")
         ≡ codes "% SZS status Theorem for r5\n% SZS output start CNFRefutation for r5\ncnf(c0,axiom,p).\n% SZS output end CNFRefutation for r5\n" }
-    ensures unsatisfiable { report_of (codes "r1.p") (Refuted false (codes "cnf(c0,axiom,p).\n"))
+    ensures unsatisfiable { refuted_report (codes "r1.p") false (codes "cnf(c0,axiom,p).\n")
         ≡ codes "% SZS status Unsatisfiable for r1\n% SZS output start CNFRefutation for r1\ncnf(c0,axiom,p).\n% SZS output end CNFRefutation for r1\n" }
-    ensures accepted { report_of (codes "r5.p") (Accepted 11) ≡ codes "% accepted 11 lines\n" }
-    ensures spent { report_of (codes "r15.p") (Spent 12 10) ≡ codes "% SZS status GaveUp for r15\n% spent 12 of 10\n" }
-    ensures syntax { report_of (codes "r13.p") (Unread read.Syntax (codes "r13.p") 18)
+    ensures accepted { accepted_line 11 ≡ codes "% accepted 11 lines\n" }
+    ensures spent { spent_report (codes "r15.p") 12 10 ≡ codes "% SZS status GaveUp for r15\n% spent 12 of 10\n" }
+    ensures syntax { unread_report (codes "r13.p") read.Syntax (codes "r13.p") 18
         ≡ codes "% SZS status InputError for r13\n% Syntax at r13.p:18\n" }
-    ensures too_heavy { report_of (codes "h.p") (Unformed TooHeavy (codes "it's"))
+    ensures too_heavy { unformed_report (codes "h.p") TooHeavy (codes "it's")
         ≡ codes "% SZS status InputError for h\n% TooHeavy in 'it\\'s'\n" }
-    ensures heavy { report_of (codes "r16.p") (Heavy (codes "refl(3,0)")) ≡ codes "% SZS status GaveUp for r16\n% heavy refl(3,0)\n" }
-    ensures problem_lost { report_of (codes "none.p") (Unread read.Load (codes "none.p") 0)
+    ensures heavy { heavy_report (codes "r16.p") (codes "refl(3,0)") ≡ codes "% SZS status GaveUp for r16\n% heavy refl(3,0)\n" }
+    ensures problem_lost { unread_report (codes "none.p") read.Load (codes "none.p") 0
         ≡ codes "% SZS status OSError for none\n% Load none.p\n" }
-    ensures derivation_lost { report_of (codes "r1.p") (Unloaded (codes "d")) ≡ codes "% SZS status OSError for r1\n% Load d\n" }
+    ensures derivation_lost { lost_report (codes "r1.p") (codes "d") ≡ codes "% SZS status OSError for r1\n% Load d\n" }
     ensures memory_out { memory_out_report (codes "dir/r1.p") ≡ codes "% SZS status MemoryOut for r1\n" }
-    ensures lost_under_a_name_of_other_bytes { report_of (codes "r1.p") (Unloaded (7 ∷ codes "d"))
+    ensures lost_under_a_name_of_other_bytes { lost_report (codes "r1.p") (7 ∷ codes "d")
         ≡ codes "% SZS status OSError for r1\n% Load ?d\n" }
-    ensures typed { report_of (codes "r21.p") (Unread (read.Inappropriate Typed) (codes "r21.p") 0)
+    ensures typed { unread_report (codes "r21.p") (read.Inappropriate Typed) (codes "r21.p") 0
         ≡ codes "% SZS status Inappropriate for r21\n% Typed at r21.p:0\n" }
-    ensures refused { report_of (codes "r5.p") (Refused 8 line.Rule) ≡ codes "% refused at line 8: Rule\n" }
-    ensures counter_satisfiable { report_of (codes "dir/q.p") (Saturated true (codes "cnf(s0,plain,p(X0)).\n"))
+    ensures refused { refused_line 8 line.Rule ≡ codes "% refused at line 8: Rule\n" }
+    ensures counter_satisfiable { saturated_report (codes "dir/q.p") true (codes "cnf(s0,plain,p(X0)).\n")
         ≡ codes "% SZS status CounterSatisfiable for q\n% SZS output start Saturation for q\ncnf(s0,plain,p(X0)).\n% SZS output end Saturation for q\n" }
-    ensures satisfiable { report_of (codes "r2.p") (Saturated false [])
+    ensures satisfiable { saturated_report (codes "r2.p") false []
         ≡ codes "% SZS status Satisfiable for r2\n% SZS output start Saturation for r2\n% SZS output end Saturation for r2\n" }
 {}
 
-/// The statuses of the answers, and which of all statuses come exactly for their causes.
+/// The statuses, those of faults of reading, and which of all come exactly for their causes.
 pub fn status_examples()
-    ensures refuted { status_of (Refuted true (codes "cnf(c0,axiom,p).\n")) ≡ 0 }
-    ensures accepted { status_of (Accepted 11) ≡ 0 }
-    ensures spent { status_of (Spent 12 10) ≡ 2 }
-    ensures heavy { status_of (Heavy (codes "refl(3,0)")) ≡ 2 }
-    ensures unformed { status_of (Unformed TotalLimit (codes "a")) ≡ 3 }
-    ensures syntax { status_of (Unread read.Syntax (codes "r13.p") 18) ≡ 3 }
-    ensures too_long { status_of (Unread read.TooLong (codes "r13.p") 0) ≡ 3 }
-    ensures problem_lost { status_of (Unread read.Load (codes "none.p") 0) ≡ 4 }
-    ensures derivation_lost { status_of (Unloaded (codes "d")) ≡ 4 }
+    ensures all { PROVED ∷ SATURATED ∷ GAVE_UP ∷ INPUT_ERROR ∷ LOAD_FAILED ∷ SINK_FAILED ∷ USAGE_SHOWN ∷ MEMORY_OUT ∷ INAPPROPRIATE ∷ REFUSED ∷ []
+        ≡ 0 ∷ 1 ∷ 2 ∷ 3 ∷ 4 ∷ 5 ∷ 6 ∷ 7 ∷ 8 ∷ 9 ∷ [] }
     ensures unread { map read_status
         (read.BadByte ∷ read.Unclosed ∷ read.Syntax ∷ read.FreeVariable ∷ read.Role ∷ read.SecondConjecture ∷ read.SelectionMissing
         ∷ read.IncludeDepth ∷ read.TooLong ∷ read.Nesting ∷ read.Load ∷ [])
         ≡ 3 ∷ 3 ∷ 3 ∷ 3 ∷ 3 ∷ 3 ∷ 3 ∷ 3 ∷ 3 ∷ 3 ∷ 4 ∷ [] }
     ensures forms { map (λ form. read_status (read.Inappropriate form)) (Typed ∷ RoleForm ∷ Number ∷ Distinct ∷ Dollar ∷ [])
         ≡ 8 ∷ 8 ∷ 8 ∷ 8 ∷ 8 ∷ [] }
-    ensures typed { status_of (Unread (read.Inappropriate Typed) (codes "r21.p") 0) ≡ 8 }
-    ensures refused { status_of (Refused 8 line.Rule) ≡ 9 }
-    ensures saturated { status_of (Saturated false []) ≡ 1 }
-    ensures without_answer { SINK_FAILED ∷ USAGE_SHOWN ∷ MEMORY_OUT ∷ [] ≡ 5 ∷ 6 ∷ 7 ∷ [] }
     ensures exact { map is_exact (0 ∷ 1 ∷ 2 ∷ 3 ∷ 4 ∷ 5 ∷ 6 ∷ 7 ∷ 8 ∷ 9 ∷ [])
         ≡ false ∷ false ∷ false ∷ true ∷ false ∷ false ∷ false ∷ false ∷ true ∷ true ∷ [] }
 {}

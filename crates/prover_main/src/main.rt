@@ -1,25 +1,28 @@
 //! The program: `prove` and `check` as one call, `run`, over any library of files and any sink for the report.
 //!
-//! There are five stages, and the first that fails answers: the words of the command line (`words.rt`); reading and clausal form
-//! (`problem.rt`); the proof (`prove.rt` on `proved.rt`) or the check (`check.rt`); the report (`report.rt`, `names.rt`); its writes (`run.rt`;
+//! There are five stages, and the first that fails reports: the words of the command line (`words.rt`); reading and clausal form
+//! (`problem.rt`); the proof (`prove.rt` on `proved.rt`) or the check (`check.rt`); the report, a status and a text (`report.rt` on
+//! `report_lines.rt`, `report_words.rt` and `names.rt`; a command's own in `prove_reports.rt` and `check_reports.rt`); its writes (`run.rt`;
 //! when out of memory in pieces that take none, `memory_out.rt`).
 //!
-//! **What is proved.** The clauses of `run`: one for each row of the table of answers (`specs/Rows.antt`), that every valid input is answered,
-//! and which writes deliver the report.
+//! **What is proved.** The clauses of `run`: one for each row of the table of answers (`specs/Rows.antt`; the rows of one command in
+//! `specs/ProveRows.antt` and `specs/CheckRows.antt`), that every valid input is answered, and which writes deliver the report.
 //!
 //! **What isn't.** That the words which `main` hands over are those of the command line, and that the process ends with the status. A stored
 //! run shows it.
 #![tactic(auto)]
 
-mod answer;
 mod check;
+mod check_reports;
 pub mod laws;
 mod memory_out;
 mod names;
 mod problem;
 mod prove;
+mod prove_reports;
 mod proved;
 mod report;
+mod report_lines;
 mod report_words;
 mod run;
 mod status;

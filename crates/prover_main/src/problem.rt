@@ -5,10 +5,10 @@ ghost use Rattle.std.specs.Option.{option_copied};
 ghost use Rattle.clausal_form.specs.Form.{form_of};
 ghost use Rattle.prover_main.specs.Outside.{outside_by};
 ghost use Rattle.prover_main.specs.Meaning.{FormMeans};
-ghost use Rattle.prover_main.specs.Answer.{source_at};
-ghost use Rattle.prover_main.specs.AnswerShape.{IsFormedFrom, IsReadFrom, IsStop, IsStopAnswer};
+ghost use Rattle.prover_main.specs.Problems.{source_at};
+ghost use Rattle.prover_main.specs.AnswerShape.{IsFormedFrom, IsReadFrom, IsStop, IsStopReport};
 
-use crate::answer::Answer;
+use crate::report::Report;
 use clausal_form::{Clausal, FormCause, FormFault, clausal};
 use outside::Library;
 use plain_types::{Mem, NoMemory, Text};
@@ -35,14 +35,14 @@ pub enum Stop {
 }
 
 impl Stop {
-    /// The answer; out of memory is none.
-    pub fn answer(self) -> Mem<Answer>
-        ensures { IfOk result (λ answer. IsStopAnswer self answer) }
+    /// The report on the problem in a file; out of memory has none of its own.
+    pub fn report(&self, alloc: Global, file: &str) -> Mem<Report>
+        ensures { IfOk result (λ report. IsStopReport file.now self.now report.status report.text) }
     {
         match self {
             Stop::NoMemory => Err(NoMemory),
-            Stop::Unread(cause, file, place) => Ok(Answer::Unread { cause, file, place }),
-            Stop::Unformed(cause, name) => Ok(Answer::Unformed(cause, name)),
+            Stop::Unread(cause, name, place) => Report::unread(alloc, file, *cause, name, *place),
+            Stop::Unformed(cause, name) => Report::unformed(alloc, file, *cause, name),
         }
     }
 }

@@ -1,6 +1,6 @@
-// What `prove` answers: a pool of the clausal form is worked on until an outcome stands, and the answer is made of it.
+// What `prove` reports: a pool of the clausal form is worked on until an outcome stands, and the report is made of it.
 
-ghost use Rattle.std.specs.Prelude.{◌≡◌, false, None, IfOk, IsTrue};
+ghost use Rattle.std.specs.Prelude.{◌≡◌, None, IfOk, IsTrue};
 ghost use Rattle.std.specs.Option.{option_copied};
 ghost use Rattle.signature.specs.Form.{clausal_form};
 ghost use Rattle.clausal_form.specs.Form.{form_of};
@@ -10,13 +10,14 @@ ghost use Rattle.pool_history.specs.Inputs.{IsLimit};
 ghost use Rattle.prover_main.specs.Words.{is_filled};
 ghost use Rattle.prover_main.specs.Outside.{outside_by};
 ghost use Rattle.prover_main.specs.Names.{shown};
-ghost use Rattle.prover_main.specs.Answer.{source_at, IsReadProveAnswer, IsProofAnswer};
+ghost use Rattle.prover_main.specs.Problems.{source_at, IsReadReport};
+ghost use Rattle.prover_main.specs.ProveReports.{IsProofReport};
 ghost use Rattle.prover_main.specs.AnswerShape.{IsAdmissible, IsProvedForm, PoolSays};
 
-use crate::answer::Answer;
 use crate::names::push_shown;
 use crate::problem::{FormedProblem, formed_problem};
 use crate::proved::prove_form;
+use crate::report::Report;
 use laws_saturation::laws::members_have_met;
 use outside::Library;
 use plain_types::{Mem, Text};
@@ -28,66 +29,63 @@ use std::sync::Wait;
 use tptp_tree::Annotated;
 use tstp_writer::Page;
 
-/// Reads the problem of a file, and proves or gives up. The first stage that fails answers.
-pub fn prove_answer<R: Wait, L: Library>(
+/// Reads the problem of a file, and proves or gives up. The first stage that fails reports.
+pub fn prove_report<R: Wait, L: Library>(
     rt: &R,
     alloc: Global,
     library: &mut L,
     file: &str,
     root: Option<&str>,
     options: Options,
-) -> Mem<Answer>
+) -> Mem<Report>
     requires limit { IsLimit options }
-    requires unsplit { options.split ≡ false }
     requires filled { IsTrue (is_filled file.now) }
-    ensures { IfOk result (λ answer. IsReadProveAnswer
+    ensures { IfOk result (λ report. IsReadReport
         (outside_by L.told L.faults L.found L.failed library.old library.new)
         (source_at file.now (option_copied root.entry))
-        options answer) }
+        (IsProofReport file.now options)
+        report.status report.text) }
 {
-    let formed = match formed_problem(alloc, library, file, root) {
-        Ok(formed) => formed,
-        Err(stop) => return stop.answer(),
-    };
-    formed_answer(rt, alloc, file, &formed, options)
+    match formed_problem(alloc, library, file, root) {
+        Ok(formed) => formed_report(rt, alloc, file, &formed, options),
+        Err(stop) => stop.report(alloc, file),
+    }
 }
 
 /// Proves a problem that has its clausal form, or gives up, however the problem came: it may be one that no file spells, and then the
 /// file is the name that its derivations have in place of a file's.
-pub fn formed_answer<R: Wait>(
+pub fn formed_report<R: Wait>(
     rt: &R,
     alloc: Global,
     file: &str,
     formed: &FormedProblem,
     options: Options,
-) -> Mem<Answer>
+) -> Mem<Report>
     requires filled { IsTrue (is_filled file.now) }
     requires limit { IsLimit options }
-    requires unsplit { options.split ≡ false }
     requires admissible { IsAdmissible formed.now.problem.formulas }
     requires within { form_fault formed.now.problem.formulas ≡ None }
     requires form { form_of formed.now.form ≡ clausal_form formed.now.problem.formulas }
-    ensures { IfOk result (λ answer. IsProofAnswer file.now formed.now.problem.formulas options answer) }
+    ensures { IfOk result (λ report. IsProofReport file.now options formed.now.problem.formulas report.status report.text) }
 {
     let proved = prove_form(rt, alloc, &formed.problem, &formed.form, options)?;
-    proof_answer(alloc, file, formed, &proved, options)
+    proof_report(alloc, file, formed, &proved, options)
 }
 
-/// The answer that the pool of a problem's form ends with, however the problem came. What the outcome says of it is handed in.
-fn proof_answer(
+/// The report of the pool of a problem's form that has ended. What the outcome says of the problem is handed in.
+fn proof_report(
     alloc: Global,
     file: &str,
     formed: &FormedProblem,
     proved: &Proved,
     options: Options,
-) -> Mem<Answer>
+) -> Mem<Report>
     requires filled { IsTrue (is_filled file.now) }
-    requires unsplit { options.split ≡ false }
     requires admissible { IsAdmissible formed.now.problem.formulas }
     requires form { form_of formed.now.form ≡ clausal_form formed.now.problem.formulas }
     requires proved { IsProvedForm formed.now.problem.formulas options proved.now }
     requires says { PoolSays formed.now.problem.formulas options proved.now }
-    ensures { IfOk result (λ answer. IsProofAnswer file.now formed.now.problem.formulas options answer) }
+    ensures { IfOk result (λ report. IsProofReport file.now options formed.now.problem.formulas report.status report.text) }
 {
     let conjecture = has_conjecture(formed.problem.formulas.as_slice());
     match proved.outcome {
@@ -100,26 +98,17 @@ fn proof_answer(
                 &proved.pool,
                 name.as_slice(),
             )?;
-            Ok(Answer::Refuted {
-                conjecture,
-                derivation,
-            })
+            Report::refuted(alloc, file, conjecture, &derivation)
         }
         Outcome::Saturated => {
             members_have_met();
             let members = write_saturation(alloc, &formed.form, &proved.bank, &proved.pool)?;
-            Ok(Answer::Saturated {
-                conjecture,
-                members,
-            })
+            Report::saturated(alloc, file, conjecture, &members)
         }
-        Outcome::Spent(count) => Ok(Answer::Spent {
-            count,
-            allowed: options.inferences,
-        }),
+        Outcome::Spent(count) => Report::spent(alloc, file, count, options.inferences),
         Outcome::Heavy(place) => {
-            let key = proved.pool.heavy_key(place);
-            Ok(Answer::Heavy(write_key(alloc, key)?))
+            let key = write_key(alloc, proved.pool.heavy_key(place))?;
+            Report::heavy(alloc, file, &key)
         }
     }
 }

@@ -1,6 +1,6 @@
 // A problem from its formulas to the outcome of a pool.
 
-ghost use Rattle.std.specs.Prelude.{◌≡◌, false, map, None, IfOk, IfErr, IsTrue};
+ghost use Rattle.std.specs.Prelude.{◌≡◌, map, None, IfOk, IfErr, IsTrue};
 ghost use Rattle.tptp_tree.specs.ProblemSize.{HasProblemSize};
 ghost use Rattle.fol_base.specs.Literal.{clause_of};
 ghost use Rattle.signature.specs.Form.{clausal_form};
@@ -39,8 +39,8 @@ pub enum ProveFault {
     Form(FormCause, Text),
 }
 
-/// Brings a problem to clausal form, and works on a pool of its clauses until an outcome stands. Clauses aren't split. What
-/// the form means and what the outcome says of the problem is told here.
+/// Brings a problem to clausal form, and works on a pool of its clauses until an outcome stands. What the form
+/// means and what the outcome says of the problem is told here.
 pub fn prove_problem<R: Wait>(
     rt: &R,
     alloc: Global,
@@ -49,7 +49,6 @@ pub fn prove_problem<R: Wait>(
 ) -> Result<Proved, ProveFault>
     requires size { HasProblemSize problem.now.formulas }
     requires limit { IsLimit options }
-    requires unsplit { options.split ≡ false }
     ensures proved { IfOk result (IsProvedProblem problem.now.formulas options) }
     ensures means { IfOk result (λ p. IsTrue (are_closed problem.now.formulas) → FormMeans problem.now.formulas (form_of p.form)) }
     ensures says { IfOk result (λ p. OutcomeSays problem.now.formulas options (replay p.pool.origin p.pool.history) p.outcome) }
@@ -70,8 +69,8 @@ pub fn prove_problem<R: Wait>(
     }
 }
 
-/// Works on a pool of the clauses of a problem's clausal form until an outcome stands, however the problem came. Clauses aren't split. What
-/// the outcome says of the problem is told.
+/// Works on a pool of the clauses of a problem's clausal form until an outcome stands, however the problem came. What the outcome
+/// says of the problem is told.
 pub fn prove_form<R: Wait>(
     rt: &R,
     alloc: Global,
@@ -82,7 +81,6 @@ pub fn prove_form<R: Wait>(
     requires within { form_fault problem.now.formulas ≡ None }
     requires form { form_of form.now ≡ clausal_form problem.now.formulas }
     requires limit { IsLimit options }
-    requires unsplit { options.split ≡ false }
     ensures proved { IfOk result (IsProvedForm problem.now.formulas options) }
     ensures says { IfOk result (PoolSays problem.now.formulas options) }
 {

@@ -1,11 +1,10 @@
 // The words for causes in reports: the names of their variants.
 
 ghost use Rattle.std.specs.Prelude.{◌≡◌};
-ghost use Rattle.prover_main.specs.Reports.{form_word, read_word, limit_word, cause_word};
+ghost use Rattle.prover_main.specs.Reports.{form_word, read_word, limit_word};
 
 use clausal_form::FormCause;
 use tptp_reader::{Form, ReadCause};
-use tstp_checker::Cause;
 
 /// The word of a form that is left out.
 fn form_word(form: Form) -> &'static [u8]
@@ -48,23 +47,5 @@ pub fn limit_word(cause: FormCause) -> &'static [u8]
         FormCause::Expansion => b"Expansion",
         FormCause::TooHeavy => b"TooHeavy",
         FormCause::TotalLimit => b"TotalLimit",
-    }
-}
-
-/// The word of a cause for which a derivation is refused.
-pub fn cause_word(cause: Cause) -> &'static [u8]
-    ensures { result.now ≡ cause_word cause }
-{
-    match cause {
-        Cause::Text => b"Text",
-        Cause::Order => b"Order",
-        Cause::UnknownParent => b"UnknownParent",
-        Cause::Leaf => b"Leaf",
-        Cause::Clausify => b"Clausify",
-        Cause::Binding => b"Binding",
-        Cause::Rule => b"Rule",
-        Cause::Conclusion => b"Conclusion",
-        Cause::NewSymbol => b"NewSymbol",
-        Cause::NoEmptyClause => b"NoEmptyClause",
     }
 }

@@ -2,34 +2,28 @@
 
 ghost use Rattle.std.specs.Prelude.{◌≡◌, IfOk};
 ghost use Rattle.prover_main.specs.Outside.{outside_by};
-ghost use Rattle.prover_main.specs.Answer.{IsAnswer};
+ghost use Rattle.prover_main.specs.Answer.{IsAnswered};
 ghost use Rattle.prover_main.specs.WordParts.{command_meant, IsFit};
 ghost use Rattle.prover_main.specs.Reports.{memory_out_report};
-ghost use Rattle.prover_main.specs.Rows.{TheoremRow, PrintedRow, SaturatedRow, GaveUpRow, CheckedRow, FormFaultRow, LoadFaultRow, LostOutputRow, UsageRow, MemoryOutRow, ReadFaultRow, CompleteRow};
-ghost use Rattle.prover_main.specs.Run.{file_of, taken_by, status_after, IsAnswered, IsRunBy, DeliveredBy};
+ghost use Rattle.prover_main.specs.Rows.{TheoremRow, FormFaultRow, LoadFaultRow, LostOutputRow, UsageRow, MemoryOutRow, ReadFaultRow, CompleteRow};
+ghost use Rattle.prover_main.specs.ProveRows.{PrintedRow, SaturatedRow, GaveUpRow};
+ghost use Rattle.prover_main.specs.CheckRows.{CheckedRow};
+ghost use Rattle.prover_main.specs.Run.{file_of, taken_by, status_after, IsRunBy, DeliveredBy};
 
-use crate::answer::Answer;
-use crate::check::check_answer;
+use crate::check::check_report;
 use crate::memory_out::deliver_memory_out;
-use crate::prove::prove_answer;
-use crate::report::report_of;
+use crate::prove::prove_report;
+use crate::report::Report;
 use crate::status::{MEMORY_OUT, SINK_FAILED, USAGE_SHOWN};
 use crate::words::{Command, Words};
 use clausal_form::laws::texts_have_one_answer;
 use outside::{Library, Sink, SinkFault, deliver};
-use plain_types::{Mem, NoMemory, Text};
+use plain_types::{Mem, NoMemory};
 use std::alloc::Global;
 use std::sync::Wait;
 
 const USAGE: &[u8] =
-    b"usage: prove FILE [--inferences=N] [--tptp=DIR] [--select=none|negative]\n       check FILE DERIVATION [--tptp=DIR]\n";
-
-/// A report, and the status with which the program ends.
-#[derive(Drop)]
-struct Report {
-    status: u8,
-    text: Text,
-}
+    b"usage: prove FILE [--inferences=N] [--tptp=DIR] [--select=none|negative] [--split=on|off]\n       check FILE DERIVATION [--tptp=DIR]\n";
 
 /// What the program does with the words of its command line: it proves a problem or checks a derivation, and writes the
 /// report. The answer is the status of the report, or `SINK_FAILED`. For words that are usage it takes no memory,
@@ -158,11 +152,18 @@ fn report_to<R: Wait, L: Library>(
         (outside_by L.told L.faults L.found L.failed library.old library.new)
         report.status report.text) }
 {
-    let answer = answer_to(rt, alloc, command, library)?;
-    Ok(Report {
-        status: answer.status(),
-        text: report_of(alloc, file_of(command), &answer)?,
-    })
+    match command {
+        Command::Prove {
+            file,
+            root,
+            options,
+        } => prove_report(rt, alloc, library, file, root, options),
+        Command::Check {
+            file,
+            derivation,
+            root,
+        } => check_report(alloc, library, file, derivation, root),
+    }
 }
 
 /// The problem's file.
@@ -172,31 +173,5 @@ fn file_of<'a>(command: Command<'a>) -> &'a str
     match command {
         Command::Prove { file, .. } => file,
         Command::Check { file, .. } => file,
-    }
-}
-
-/// The answer to a command.
-fn answer_to<R: Wait, L: Library>(
-    rt: &R,
-    alloc: Global,
-    command: Command<'_>,
-    library: &mut L,
-) -> Mem<Answer>
-    requires fit { IsFit (command_meant command) }
-    ensures { IfOk result (λ answer. IsAnswer
-        (outside_by L.told L.faults L.found L.failed library.old library.new)
-        (command_meant command.entry) answer) }
-{
-    match command {
-        Command::Prove {
-            file,
-            root,
-            options,
-        } => prove_answer(rt, alloc, library, file, root, options),
-        Command::Check {
-            file,
-            derivation,
-            root,
-        } => check_answer(alloc, library, file, derivation, root),
     }
 }

@@ -2,8 +2,8 @@
 
 ghost use Rattle.std.specs.Prelude.{◌≡◌, [], ◌∷◌, ◌++◌, map, IfOk, OnErr, string_bytes};
 ghost use Rattle.std.specs.Option.{option_map, option_and_then};
-ghost use Rattle.prover_main.specs.Words.{commands, command_word, command_named, command_of, options_of, option_word as name_of, option_named as named_among, is_option as option_like, setting_in, limit_in, selection_in, with_root, with_inferences, with_selection, with_value, with_option, file_words, options_in, options_by};
-ghost use Rattle.prover_main.specs.WordParts.{few_with, few_of, few_meant, setting_meant, given_meant, command_meant, prove_few, check_few, command_few};
+ghost use Rattle.prover_main.specs.Words.{commands, command_word, command_named, command_of, options_of, option_word as name_of, option_named as named_among, is_option as option_like, setting_in, limit_in, selection_in, switch_in, with_root, with_inferences, with_selection, with_split, with_value, with_option, file_words, options_in, options_by, prove_with, check_with, command_with};
+ghost use Rattle.prover_main.specs.WordParts.{few_with, few_of, few_meant, files_by, setting_meant, given_meant, command_meant};
 
 use literal_selection::Selection;
 use plain_types::{DEFAULT_INFERENCES, MOST_INFERENCES, Mem};
@@ -42,6 +42,8 @@ pub enum OptionName {
     Tptp,
     /// Which literal of a clause is chosen.
     Select,
+    /// Whether clauses are split.
+    Split,
 }
 
 /// A command with its values.
@@ -61,10 +63,11 @@ pub enum Command<'a> {
     },
 }
 
-const PROVE_OPTIONS: [OptionName; 3] = [
+const PROVE_OPTIONS: [OptionName; 4] = [
     OptionName::Inferences,
     OptionName::Tptp,
     OptionName::Select,
+    OptionName::Split,
 ];
 
 const CHECK_OPTIONS: [OptionName; 1] = [OptionName::Tptp];
@@ -101,11 +104,12 @@ impl OptionName {
             OptionName::Inferences => "--inferences",
             OptionName::Tptp => "--tptp",
             OptionName::Select => "--select",
+            OptionName::Split => "--split",
         }
     }
 }
 
-/// File words: the first two, and whether there are more.
+/// File words: the first two, and whether there are more. An empty one counts as more, since no command has it.
 #[derive(Clone, Copy)]
 enum FileWords<'a> {
     None,
@@ -119,6 +123,9 @@ impl<'a> FileWords<'a> {
     fn with(self, word: &'a str) -> FileWords<'a>
         ensures { few_meant result ≡ few_with (few_meant self.entry) word.now }
     {
+        if word.is_empty() {
+            return FileWords::More;
+        }
         match self {
             FileWords::None => FileWords::One(word),
             FileWords::One(first) => FileWords::Two(first, word),
@@ -127,12 +134,13 @@ impl<'a> FileWords<'a> {
     }
 }
 
-/// What options give: how many inferences are counted, which literal of a clause is chosen, and the folder from which includes are
-/// loaded.
+/// What options give: how many inferences are counted, which literal of a clause is chosen, whether clauses are split, and the folder from
+/// which includes are loaded.
 #[derive(Clone, Copy)]
 struct Given<'a> {
     inferences: Option<u32>,
     select: Option<Selection>,
+    split: Option<bool>,
     root: Option<&'a str>,
 }
 
@@ -154,6 +162,7 @@ impl<'a> Given<'a> {
             OptionName::Inferences => self.with_limit(limit_in(value)?),
             OptionName::Tptp => self.with_root(value),
             OptionName::Select => self.with_selection(selection_in(value)?),
+            OptionName::Split => self.with_split(switch_in(value)?),
         }
     }
 
@@ -164,9 +173,8 @@ impl<'a> Given<'a> {
         match self.root {
             Some(_) => None,
             None => Some(Given {
-                inferences: self.inferences,
-                select: self.select,
                 root: Some(root),
+                ..self
             }),
         }
     }
@@ -179,8 +187,7 @@ impl<'a> Given<'a> {
             Some(_) => None,
             None => Some(Given {
                 inferences: Some(limit),
-                select: self.select,
-                root: self.root,
+                ..self
             }),
         }
     }
@@ -192,20 +199,32 @@ impl<'a> Given<'a> {
         match self.select {
             Some(_) => None,
             None => Some(Given {
-                inferences: self.inferences,
                 select: Some(select),
-                root: self.root,
+                ..self
             }),
         }
     }
 
-    /// How a pool works by these options. Clauses aren't split.
+    /// With the choice whether clauses are split, where none was given before.
+    fn with_split(self, split: bool) -> Option<Given<'a>>
+        ensures { option_map given_meant result ≡ with_split (given_meant self.entry) split }
+    {
+        match self.split {
+            Some(_) => None,
+            None => Some(Given {
+                split: Some(split),
+                ..self
+            }),
+        }
+    }
+
+    /// How a pool works by these options.
     fn options(self) -> Options
         ensures { result ≡ options_by (given_meant self.entry) }
     {
         Options {
             select: self.select.unwrap_or(Selection::Negative),
-            split: false,
+            split: self.split.unwrap_or(true),
             inferences: self.inferences.unwrap_or(DEFAULT_INFERENCES),
         }
     }
@@ -276,6 +295,17 @@ fn selection_in(value: &str) -> Option<Selection>
     }
 }
 
+/// Whether a value is `on` or `off`.
+fn switch_in(value: &str) -> Option<bool>
+    ensures { result ≡ switch_in value.now }
+{
+    match value {
+        "on" => Some(true),
+        "off" => Some(false),
+        _ => None,
+    }
+}
+
 /// What options give, and one word more.
 fn given_with<'a>(
     given: Option<Given<'a>>,
@@ -296,6 +326,7 @@ fn arguments_of<'a>(options: &[OptionName], words: &'a [String]) -> Arguments<'a
     let mut given = Some(Given {
         inferences: None,
         select: None,
+        split: None,
         root: None,
     });
     for word in words {
@@ -314,32 +345,27 @@ fn arguments_of<'a>(options: &[OptionName], words: &'a [String]) -> Arguments<'a
 
 /// `prove FILE`, with its options. None exactly where the words are usage.
 fn prove_command(arguments: Arguments<'_>) -> Option<Command<'_>>
-    ensures { option_map command_meant result ≡ prove_few (few_meant arguments.entry.files) (option_map given_meant arguments.entry.options) }
+    ensures { option_map command_meant result ≡ prove_with (files_by (few_meant arguments.entry.files)) (option_map given_meant arguments.entry.options) }
 {
-    match arguments.files {
-        FileWords::One(file) if !file.is_empty() => {
-            let given = arguments.options?;
-            Some(Command::Prove {
-                file,
-                root: given.root,
-                options: given.options(),
-            })
-        }
-        _ => None,
-    }
+    let FileWords::One(file) = arguments.files else {
+        return None;
+    };
+    let given = arguments.options?;
+    Some(Command::Prove {
+        file,
+        root: given.root,
+        options: given.options(),
+    })
 }
 
 /// `check FILE DERIVATION`, with the option for includes. None exactly where the words are usage.
 fn check_command(arguments: Arguments<'_>) -> Option<Command<'_>>
-    ensures { option_map command_meant result ≡ check_few (few_meant arguments.entry.files) (option_map given_meant arguments.entry.options) }
+    ensures { option_map command_meant result ≡ check_with (files_by (few_meant arguments.entry.files)) (option_map given_meant arguments.entry.options) }
 {
     let FileWords::Two(file, derivation) = arguments.files else {
         return None;
     };
     let given = arguments.options?;
-    if file.is_empty() || derivation.is_empty() {
-        return None;
-    }
     Some(Command::Check {
         file,
         derivation,
@@ -349,7 +375,8 @@ fn check_command(arguments: Arguments<'_>) -> Option<Command<'_>>
 
 /// A command with what stands after it. None exactly where the words are usage.
 fn command_with(name: CommandName, arguments: Arguments<'_>) -> Option<Command<'_>>
-    ensures { option_map command_meant result ≡ command_few name (few_meant arguments.entry.files) (option_map given_meant arguments.entry.options) }
+    ensures { option_map command_meant result
+        ≡ command_with name (files_by (few_meant arguments.entry.files)) (option_map given_meant arguments.entry.options) }
 {
     match name {
         CommandName::Prove => prove_command(arguments),

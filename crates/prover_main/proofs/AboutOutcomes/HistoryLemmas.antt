@@ -1,5 +1,5 @@
 -- What the pool of a problem tells once it has ended.
-use Rattle.std.proofs.Common.{◌≡◌, ◌<◌, ◌≤◌, ℕ, List, length, refl, ap, sym, ◌∙◌, subst}
+use Rattle.std.proofs.Common.{◌≡◌, ◌<◌, ◌≤◌, ℕ, List, length, ap, sym, ◌∙◌, subst}
 use Rattle.std.specs.Prelude.{Bool, Some, slice_get, position, All, Contains, IsTrue}
 use Rattle.std.proofs.lemmas.List.Quantifiers.{position-Some}
 use Rattle.fol_base.specs.Clause.{TreeClause}
@@ -13,7 +13,7 @@ use Rattle.kernel_steps.specs.declared.key.Key.TheVariants.{Replaced}
 use Rattle.clausal_form.specs.DerivationTexts.{IsAcceptedDerivation}
 use Rattle.clausal_form.specs.FormFunctions.{is_predicate_in}
 use Rattle.clausal_form.proofs.AboutForms.WellFormedLemmas.{forms-are-well-formed}
-use Rattle.laws_meaning.specs.Meaning.{are_closed, has_conjecture}
+use Rattle.laws_meaning.specs.Meaning.{are_closed}
 use Rattle.pool_history.specs.Inputs.{IsUseOf}
 use Rattle.pool_history.specs.Laws.{IsCounted, IsHeavyAmong}
 use Rattle.pool_history.specs.Lawful.{IsLawful}
@@ -31,7 +31,7 @@ use Rattle.proving.specs.declared.proved.Proved.{Proved as ProvedPool}
 use Rattle.proving.proofs.EndLemmas.{outcomes-have-causes}
 use Rattle.pool_writer.specs.Refuted.{IsRefutationText}
 use Rattle.prover_main.specs.Names.{shown}
-use Rattle.prover_main.specs.Answer.{HasHistory, IsRefuted, HasCounted, IsSpent, IsHeavy}
+use Rattle.prover_main.specs.ProveReports.{HasHistory, IsRefuted, HasCounted, IsSpent, IsHeavy}
 use Rattle.prover_main.specs.AnswerShape.{IsProvedForm, OutcomeSays}
 
 module _ (formulas : List Annotated) (options : Options) (proved : ProvedPool) (is : IsProvedForm formulas options proved) where
@@ -89,15 +89,14 @@ module _ (formulas : List Annotated) (options : Options) (proved : ProvedPool) (
   -- ---- answers, by what the outcome says
 
   pub is-refuted :
-      (file name text : List ℕ) (conjecture : Bool)
+      (file name text : List ℕ)
       → proved.outcome ≡ outcome.Refuted → OutcomeSays formulas options ended outcome.Refuted → IsTrue (are_closed formulas)
-      → conjecture ≡ has_conjecture formulas → name ≡ shown file → IsRefutationText name formulas ended.lines text
-      → (count : ℕ) × IsAcceptedDerivation formulas text count → IsRefuted file formulas options conjecture text
-  is-refuted file name text conjecture same says closed told is_shown printed accepted = record {
+      → name ≡ shown file → IsRefutationText name formulas ended.lines text
+      → (count : ℕ) × IsAcceptedDerivation formulas text count → IsRefuted file formulas options text
+  is-refuted file name text same says closed is_shown printed accepted = record {
     r = ended;
     history = has-history outcome.Refuted same;
     printed = subst (λ word. IsRefutationText word formulas ended.lines text) is_shown printed;
-    conjecture_is = told;
     count = accepted.0;
     accepted = accepted.1;
     herbrand = says.0;
@@ -106,8 +105,8 @@ module _ (formulas : List Annotated) (options : Options) (proved : ProvedPool) (
 
   pub is-spent :
       (count : ℕ) → proved.outcome ≡ outcome.Spent count → OutcomeSays formulas options ended (outcome.Spent count)
-      → IsSpent symbols clauses options count options.inferences
-  is-spent count same says = record { r = ended; history = has-history (outcome.Spent count) same; counts = says; allowed_is = refl }
+      → IsSpent symbols clauses options count
+  is-spent count same says = record { r = ended; history = has-history (outcome.Spent count) same; counts = says }
 
   pub heavy-there : (place : ℕ) → OutcomeSays formulas options ended (outcome.Heavy place) → place < length ended.set_aside
   heavy-there place says = (position-Some (is_of_living ended) ended.set_aside place (Replaced 0) says.1).0

@@ -1,5 +1,5 @@
 -- What the outcome of a problem's pool says of the problem.
-use Rattle.std.proofs.Common.{◌≡◌, List, false}
+use Rattle.std.proofs.Common.{◌≡◌, List}
 use Rattle.tptp_tree.specs.declared.problem.Annotated.{Annotated}
 use Rattle.pool_history.specs.declared.options.Options.{Options}
 use Rattle.pool_history.specs.declared.outcome.Outcome.{Outcome}
@@ -15,11 +15,11 @@ use Rattle.prover_main.proofs.AboutOutcomes.TheoremLemmas.{refuted-theorem}
 
 pub outcome-says :
     (formulas : List Annotated) (options : Options) (proved : ProvedPool) (is : IsProvedForm formulas options proved)
-    → options.split ≡ false → SaturatedIsSaturated → (o : Outcome) → proved.outcome ≡ o
+    → SaturatedIsSaturated → (o : Outcome) → proved.outcome ≡ o
     → OutcomeSays formulas options (ended formulas options proved is) o
-outcome-says formulas options proved is unsplit saturates Refuted same =
+outcome-says formulas options proved is saturates Refuted same =
     let refuted : IsHerbrandRefuted formulas = herbrand-refuted formulas options proved is same in
     (refuted, λ closed. refuted-theorem formulas closed refuted)
-outcome-says formulas options proved is unsplit saturates Saturated same = ended-saturated formulas options proved is same unsplit saturates
-outcome-says formulas options proved is unsplit saturates (Spent count) same = has-counted formulas options proved is count same
-outcome-says formulas options proved is unsplit saturates (Heavy place) same = heavy-cause formulas options proved is place same
+outcome-says formulas options proved is saturates Saturated same = ended-saturated formulas options proved is same saturates
+outcome-says formulas options proved is saturates (Spent count) same = has-counted formulas options proved is count same
+outcome-says formulas options proved is saturates (Heavy place) same = heavy-cause formulas options proved is place same

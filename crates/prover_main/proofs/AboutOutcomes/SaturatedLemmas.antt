@@ -1,6 +1,6 @@
 -- What the pool of a problem tells once nothing is left to do and the empty clause wasn't derived: its members are saturated.
 use Rattle.std.proofs.Common.{◌≡◌, ℕ, List, Some, ap, sym, ◌∙◌, subst}
-use Rattle.std.specs.Prelude.{false, All}
+use Rattle.std.specs.Prelude.{All}
 use Rattle.std.proofs.lemmas.List.Elements.{All-from_recursion}
 use Rattle.fol_base.specs.Clause.{TreeClause}
 use Rattle.fol_base.specs.Symbols.{FunctionSymbols}
@@ -25,7 +25,7 @@ use Rattle.pool_history.specs.declared.outcome.Outcome.TheVariants as outcome
 use Rattle.proving.specs.declared.proved.Proved.{Proved as ProvedPool}
 use Rattle.pool_writer.specs.Saturation.{saturation_text}
 use Rattle.laws_saturation.specs.Laws.{SaturatedIsSaturated, MembersHaveMet}
-use Rattle.prover_main.specs.Answer.{origin_of, AreSaturatedFor, HaveMet, HasHistory, IsSaturation}
+use Rattle.prover_main.specs.ProveReports.{origin_of, AreSaturatedFor, HaveMet, HasHistory, IsSaturation}
 use Rattle.prover_main.specs.AnswerShape.{IsProvedForm, OutcomeSays}
 use Rattle.prover_main.proofs.AboutOutcomes.FormInputs.{form-inputs}
 use Rattle.prover_main.proofs.AboutOutcomes.FormSymbols.{form-allowed}
@@ -33,7 +33,7 @@ use Rattle.prover_main.proofs.AboutOutcomes.HistoryLemmas.{ended, has-history}
 
 module _
     (formulas : List Annotated) (options : Options) (proved : ProvedPool) (is : IsProvedForm formulas options proved)
-    (same : proved.outcome ≡ outcome.Saturated) (unsplit : options.split ≡ false) where
+    (same : proved.outcome ≡ outcome.Saturated) where
   abbrev symbols : List Symbol
   symbols = (clausal_form formulas).symbols
 

@@ -1,6 +1,8 @@
--- The bytes that a library tells decide which answer a command has, where something is wrong with the problem and in `check`.
+-- The bytes that a library tells decide which report a command has, where something is wrong with the problem and in `check`.
 use Rattle.std.proofs.Common.{◌≡◌, ◌<◌, ◌≤◌, ◌⊎◌, inl, inr, ℕ, List, length, Option, None, Some, refl, ap, ap₂, sym, subst, ◌∙◌, arith}
-use Rattle.std.specs.Prelude.{Bool, true, false, map, unwrap_or, IfSome, IsSomeAnd, []}
+use Rattle.std.specs.Prelude.{Bool, true, not, map, unwrap_or, IfSome, IsSomeAnd, []}
+use Rattle.std.specs.List.{list_all}
+use Rattle.std.proofs.lemmas.Bool.{true≢false}
 use Rattle.outside.specs.Library.{Holdings, FoundMore}
 use Rattle.tptp_token.specs.declared.limits.TheConstants.{MOST_TEXT_BYTES}
 use Rattle.tptp_tree.specs.declared.problem.Annotated.{Annotated}
@@ -18,13 +20,14 @@ use Rattle.clausal_form.specs.DerivationLaws.{TextsHaveOneAnswer}
 use Rattle.tstp_checker.specs.Causes.{cause_meant}
 use Rattle.tstp_checker.specs.declared.cause.Cause.{Cause}
 use Rattle.tstp_checker.specs.declared.cause.Cause.TheVariants.{Text, Order, UnknownParent, Leaf, Clausify, Binding, Rule, Conclusion, NewSymbol, NoEmptyClause}
-use Rattle.pool_history.specs.declared.options.Options.{Options}
 use Rattle.prover_main.specs.Outside.{Outside, IsTold}
-use Rattle.prover_main.specs.declared.answer.Answer.{Answer}
-use Rattle.prover_main.specs.declared.answer.Answer.TheVariants.{Refuted, Saturated, Spent, Heavy, Accepted, Refused, Unloaded, Unread, Unformed}
-use Rattle.prover_main.specs.Answer.{Source, IsRead, IsFormed, IsUnread, IsUnformed, IsLoaded, IsJudged, IsTooLong, IsReadProveAnswer, IsReadCheckAnswer}
-use Rattle.prover_main.specs.Reports.{status_of}
-use Rattle.prover_main.specs.Laws.{is_exact, ChecksHaveOneAnswer, FaultsAreTheOnlyAnswer}
+use Rattle.prover_main.specs.Words.{Command, check}
+use Rattle.prover_main.specs.Problems.{Source, IsRead, IsUnread, IsFormed, IsUnformed, IsReport, told_unread, told_unformed, of_formulas}
+use Rattle.prover_main.specs.CheckReports.{IsLoaded, IsRefusedText, IsTooLong, IsCheckReport, told_accepted, told_refused, told_unloaded, accepted_line as accepted_report, refused_line as refused_report}
+use Rattle.prover_main.specs.Answer.{source_of, Gives, Fails, Says, IsAnswered}
+use Rattle.prover_main.specs.Reports.{read_status, unread_report, unformed_report}
+use Rattle.prover_main.specs.Laws.{is_exact, ChecksHaveOneReport, FaultsAreTheOnlyReport}
+use Rattle.prover_main.proofs.AboutRuns.StatusLemmas.{statuses_of, said-has}
 use Rattle.prover_main.proofs.AboutPages.PlacedLemmas.{placed-one}
 
 some-none : {A : Type 0} (x : A) → Some x ≡ None → ⊥
@@ -53,74 +56,93 @@ not-load outside source t c f p h e = t.stays (h.load e).0
 pub unread-read : (outside : Outside) (source : Source) (t : IsTold outside) (c : ReadCause) (f : List ℕ) (p : ℕ) (gs : List Annotated) → IsUnread outside source c f p → IsRead outside source gs → ⊥
 unread-read outside source t c f p gs h k = fault-read outside source t c f p gs (not-load outside source t c f p h) h.fault k
 
-same-unread : (c d : ReadCause) (f g : List ℕ) (p q : ℕ) → (c ≡ d) × (f ≡ g) × (p ≡ q) → Unread c f p ≡ Unread d g q
-same-unread c d f g p q e =
-    ap (λ (x : ReadCause). Unread x f p) e.0 ∙ ap (λ (x : List ℕ). Unread d x p) e.1 ∙ ap (λ (x : ℕ). Unread d g x) e.2
-
-unread-one : (outside : Outside) (source : Source) (t : IsTold outside) (c d : ReadCause) (f g : List ℕ) (p q : ℕ) → IsUnread outside source c f p → IsUnread outside source d g q → Unread c f p ≡ Unread d g q
+unread-one : (outside : Outside) (source : Source) (t : IsTold outside) (c d : ReadCause) (f g : List ℕ) (p q : ℕ) → IsUnread outside source c f p → IsUnread outside source d g q → (c ≡ d) × (f ≡ g) × (p ≡ q)
 unread-one outside source t c d f g p q h k =
-    same-unread c d f g p q
-    (problem-fault-one t.holds source.file source.root outside.found_after outside.found_after c d f g p q (not-load outside source t c f p h)
-    (not-load outside source t d g q k) (told-fault outside source t c f p h.fault) (told-fault outside source t d g q k.fault))
+    problem-fault-one t.holds source.file source.root outside.found_after outside.found_after c d f g p q (not-load outside source t c f p h)
+    (not-load outside source t d g q k) (told-fault outside source t c f p h.fault) (told-fault outside source t d g q k.fault)
 
--- the answer of a fault
-of_fault : Option (FormCause × List ℕ) → Answer
-of_fault None = Accepted 0
-of_fault (Some x) = Unformed x.0 x.1
+-- What a library tells decides a problem: it has one list of formulas or one first fault, and not both.
+pub record IsDecided (Given : List Annotated → Type 0) (Failed : ReadCause → List ℕ → ℕ → Type 0) : Type 0 where
+  pub formulas : (fs gs : List Annotated) → Given fs → Given gs → fs ≡ gs
+  pub fault : (c d : ReadCause) (f g : List ℕ) (p q : ℕ) → Failed c f p → Failed d g q → (c ≡ d) × (f ≡ g) × (p ≡ q)
+  pub apart : (c : ReadCause) (f : List ℕ) (p : ℕ) (gs : List Annotated) → Failed c f p → Given gs → ⊥
+  pub not_load : (c : ReadCause) (f : List ℕ) (p : ℕ) → Failed c f p → c ≡ Load → ⊥
 
-unformed-one : (outside : Outside) (source : Source) (t : IsTold outside) (c d : FormCause) (n m : List ℕ) → IsUnformed (IsRead outside source) c n → IsUnformed (IsRead outside source) d m → Unformed c n ≡ Unformed d m
-unfolding of_fault
-unformed-one outside source t c d n m h k =
-    ap of_fault (sym h.fault ∙ ap form_fault (read-one outside source t h.formulas k.formulas h.read k.read) ∙ k.fault)
+pub read-decided : (outside : Outside) (source : Source) → IsTold outside → IsDecided (IsRead outside source) (IsUnread outside source)
+read-decided outside source t = record {
+  formulas = λ fs gs h k. read-one outside source t fs gs h k;
+  fault = λ c d f g p q h k. unread-one outside source t c d f g p q h k;
+  apart = λ c f p gs h k. unread-read outside source t c f p gs h k;
+  not_load = λ c f p h e. not-load outside source t c f p h e;
+}
 
-pub unformed-formed : (outside : Outside) (source : Source) (t : IsTold outside) (c : FormCause) (n : List ℕ) (gs : List Annotated) → IsUnformed (IsRead outside source) c n → IsFormed (IsRead outside source) gs → ⊥
-unformed-formed outside source t c n gs h k =
-    some-none (c, n) (sym h.fault ∙ ap form_fault (read-one outside source t h.formulas gs h.read k.read) ∙ k.within)
+-- each command reads its problem
+pub decided : (outside : Outside) (command : Command) → IsTold outside → IsDecided (Gives outside command) (Fails outside command)
+decided outside command t = read-decided outside (source_of command) t
 
--- ---- stages: an answer is that of the reading, of the form, or of what is behind
+module _ (Given : List Annotated → Type 0) (Failed : ReadCause → List ℕ → ℕ → Type 0) (x : IsDecided Given Failed) where
+  unformed-one : (c d : FormCause) (n m : List ℕ) → IsUnformed Given c n → IsUnformed Given d m → (c ≡ d) × (n ≡ m)
+  unformed-one c d n m h k =
+      let y : FormCause × List ℕ = (c, n) in
+      let z : FormCause × List ℕ = (d, m) in
+      let same : y ≡ z =
+      ap (λ (o : Option (FormCause × List ℕ)). unwrap_or o y)
+      (sym h.fault ∙ ap form_fault (x.formulas h.formulas k.formulas h.read k.read) ∙ k.fault) in
+      (ap (λ (w : FormCause × List ℕ). w.0) same, ap (λ (w : FormCause × List ℕ). w.1) same)
 
-data Stage (outside : Outside) (source : Source) (behind : List Annotated → Answer → Type 0) (a : Answer) : Type 0 where
-  at_reading : (c : ReadCause) (f : List ℕ) (p : ℕ) → IsUnread outside source c f p → a ≡ Unread c f p → Stage outside source behind a
-  at_forming : (c : FormCause) (n : List ℕ) → IsUnformed (IsRead outside source) c n → a ≡ Unformed c n → Stage outside source behind a
-  at_work : (fs : List Annotated) → IsFormed (IsRead outside source) fs → behind fs a → Stage outside source behind a
+  pub unformed-formed : (c : FormCause) (n : List ℕ) (gs : List Annotated) → IsUnformed Given c n → IsFormed Given gs → ⊥
+  unformed-formed c n gs h k = some-none (c, n) (sym h.fault ∙ ap form_fault (x.formulas h.formulas gs h.read k.read) ∙ k.within)
 
-stage-one :
-    (outside : Outside) (source : Source) (behind : List Annotated → Answer → Type 0) (a b : Answer) → IsTold outside
-    → ((fs : List Annotated) → behind fs a → behind fs b → a ≡ b) → Stage outside source behind a → Stage outside source behind b → a ≡ b
-stage-one outside source behind a b t one (at_reading c f p h e) (at_reading d g q k i) = e ∙ unread-one outside source t c d f g p q h k ∙ sym i
-stage-one outside source behind a b t one (at_reading c f p h e) (at_forming d m k i) = absurd (unread-read outside source t c f p k.formulas h k.read)
-stage-one outside source behind a b t one (at_reading c f p h e) (at_work gs k w) = absurd (unread-read outside source t c f p gs h k.read)
-stage-one outside source behind a b t one (at_forming c n h e) (at_reading d g q k i) = absurd (unread-read outside source t d g q h.formulas k h.read)
-stage-one outside source behind a b t one (at_forming c n h e) (at_forming d m k i) = e ∙ unformed-one outside source t c d n m h k ∙ sym i
-stage-one outside source behind a b t one (at_forming c n h e) (at_work gs k w) = absurd (unformed-formed outside source t c n gs h k)
-stage-one outside source behind a b t one (at_work fs h v) (at_reading d g q k i) = absurd (unread-read outside source t d g q fs k h.read)
-stage-one outside source behind a b t one (at_work fs h v) (at_forming d m k i) = absurd (unformed-formed outside source t d m fs k h)
-stage-one outside source behind a b t one (at_work fs h v) (at_work gs k w) =
-    one gs (subst (λ (xs : List Annotated). behind xs a) (read-one outside source t fs gs h.read k.read) v) w
+-- ---- the same status and the same text
 
--- ---- `prove`: behind the form no answer is exact
+abbrev AreSame : ℕ → ℕ → List ℕ → List ℕ → Type 0
+AreSame s u a b = (s ≡ u) × (a ≡ b)
 
-abbrev Worked : List Annotated → Answer → Type 0
-Worked fs a = is_exact (status_of a) ≡ false
+same-unread :
+    (file : List ℕ) (c d : ReadCause) (f g : List ℕ) (p q s u : ℕ) (a b : List ℕ)
+    → (c ≡ d) × (f ≡ g) × (p ≡ q) → s ≡ read_status c → a ≡ unread_report file c f p → u ≡ read_status d → b ≡ unread_report file d g q
+    → AreSame s u a b
+same-unread file c d f g p q s u a b x e v i w = (
+  e ∙ ap read_status x.0 ∙ sym i,
+  v ∙ ap (λ (y : ReadCause). unread_report file y f p) x.0 ∙ ap (λ (y : List ℕ). unread_report file d y p) x.1
+      ∙ ap (λ (y : ℕ). unread_report file d g y) x.2 ∙ sym w,
+)
 
-true-false : {A : Type 0} (b : Bool) → b ≡ true → b ≡ false → A
-true-false b e f = absurd (let w : true ≡ false = sym e ∙ f in cc)
+same-unformed :
+    (file : List ℕ) (c d : FormCause) (n m : List ℕ) (s u : ℕ) (a b : List ℕ)
+    → (c ≡ d) × (n ≡ m) → s ≡ 3 → a ≡ unformed_report file c n → u ≡ 3 → b ≡ unformed_report file d m → AreSame s u a b
+same-unformed file c d n m s u a b x e v i w = (
+  e ∙ sym i,
+  v ∙ ap (λ (y : FormCause). unformed_report file y n) x.0 ∙ ap (λ (y : List ℕ). unformed_report file d y) x.1 ∙ sym w,
+)
 
-prove-stage : (outside : Outside) (source : Source) (options : Options) (a : Answer) → IsReadProveAnswer outside source options a → Stage outside source Worked a
-prove-stage outside source options (Refuted c d) h = at_work h.formulas h.formed refl
-prove-stage outside source options (Spent n m) h = at_work h.formulas h.formed refl
-prove-stage outside source options (Heavy k) h = at_work h.formulas h.formed refl
-prove-stage outside source options (Saturated c m) h = at_work h.formulas h.formed refl
-prove-stage outside source options (Unread c f p) h = at_reading c f p h refl
-prove-stage outside source options (Unformed c n) h = at_forming c n h refl
-prove-stage outside source options (Accepted n) h = absurd h.says
-prove-stage outside source options (Refused n c) h = absurd h.says
-prove-stage outside source options (Unloaded n) h = absurd h.says
+-- the first stage that fails reports, and else what is said of the formulas
+report-one :
+    (Given : List Annotated → Type 0) (Failed : ReadCause → List ℕ → ℕ → Type 0) (x : IsDecided Given Failed) (file : List ℕ)
+    (Said : List Annotated → ℕ → List ℕ → Type 0) (s u : ℕ) (a b : List ℕ)
+    → ((fs : List Annotated) → Said fs s a → Said fs u b → AreSame s u a b) → IsReport Given Failed file Said s a
+    → IsReport Given Failed file Said u b → AreSame s u a b
+report-one Given Failed x file Said s u a b one (told_unread c f p h e v) (told_unread d g q k i w) =
+    same-unread file c d f g p q s u a b (x.fault c d f g p q h k) e v i w
+report-one Given Failed x file Said s u a b one (told_unread c f p h e v) (told_unformed d m k i w) = absurd (x.apart c f p k.formulas h k.read)
+report-one Given Failed x file Said s u a b one (told_unread c f p h e v) (of_formulas gs k w) = absurd (x.apart c f p gs h k.read)
+report-one Given Failed x file Said s u a b one (told_unformed c n h e v) (told_unread d g q k i w) = absurd (x.apart d g q h.formulas k h.read)
+report-one Given Failed x file Said s u a b one (told_unformed c n h e v) (told_unformed d m k i w) =
+    same-unformed file c d n m s u a b (unformed-one Given Failed x c d n m h k) e v i w
+report-one Given Failed x file Said s u a b one (told_unformed c n h e v) (of_formulas gs k w) = absurd (unformed-formed Given Failed x c n gs h k)
+report-one Given Failed x file Said s u a b one (of_formulas fs h v) (told_unread d g q k i w) = absurd (x.apart d g q fs k h.read)
+report-one Given Failed x file Said s u a b one (of_formulas fs h v) (told_unformed d m k i w) = absurd (unformed-formed Given Failed x d m fs k h)
+report-one Given Failed x file Said s u a b one (of_formulas fs h v) (of_formulas gs k w) =
+    one gs (subst (λ (xs : List Annotated). Said xs s a) (x.formulas fs gs h.read k.read) v) w
 
-pub faults-are-the-only-answer : FaultsAreTheOnlyAnswer
-faults-are-the-only-answer outside source options a b t x h k =
-    stage-one outside source Worked a b t (λ fs v w. true-false (is_exact (status_of a)) x v) (prove-stage outside source options a h)
-    (prove-stage outside source options b k)
+-- and so a command has one report, where it says one thing of formulas
+command-one :
+    (outside : Outside) (command : Command) (s u : ℕ) (a b : List ℕ) → IsTold outside
+    → ((fs : List Annotated) → Says outside command fs s a → Says outside command fs u b → AreSame s u a b)
+    → IsAnswered command outside s a → IsAnswered command outside u b → AreSame s u a b
+command-one outside command s u a b t one h k =
+    report-one (Gives outside command) (Fails outside command) (decided outside command t) (source_of command).file (Says outside command)
+    s u a b one h k
 
 -- ---- `check`: the text has one answer, or it is too long
 
@@ -149,17 +171,17 @@ cause-back Conclusion = refl
 cause-back NewSymbol = refl
 cause-back NoEmptyClause = refl
 
-answer_back : LineAnswer → Answer
-answer_back (accepted n) = Accepted n
-answer_back (refused_line n c) = Refused n (cause_back c)
+status_back : LineAnswer → ℕ
+status_back (accepted n) = 0
+status_back (refused_line n c) = 9
 
-refused-back : (n : ℕ) (c : Cause) → Refused n c ≡ answer_back (refused_line n (cause_meant c))
-unfolding answer_back
-refused-back n c = ap (Refused n) (sym (cause-back c))
+text_back : LineAnswer → List ℕ
+text_back (accepted n) = accepted_report n
+text_back (refused_line n c) = refused_report n (cause_back c)
 
-accepted-back : (n : ℕ) → Accepted n ≡ answer_back (accepted n)
-unfolding answer_back
-accepted-back n = refl
+refused-back : (n : ℕ) (c : Cause) → refused_report n c ≡ text_back (refused_line n (cause_meant c))
+unfolding text_back
+refused-back n c = ap (refused_report n) (sym (cause-back c))
 
 pub text-one : (outside : Outside) (t : IsTold outside) (derivation x y : List ℕ) → IsLoaded outside derivation x → IsLoaded outside derivation y → x ≡ y
 text-one outside t derivation x y h k =
@@ -176,35 +198,51 @@ loaded-short outside t derivation x h f =
     let short : length x ≤ MOST_TEXT_BYTES = h.short in
     omega (arith, long, short)
 
-data Judged (outside : Outside) (derivation : List ℕ) (fs : List Annotated) (a : Answer) : Type 0 where
-  on_text : (x : List ℕ) (v : LineAnswer) → IsLoaded outside derivation x → IsAnswerOn fs x v → a ≡ answer_back v → Judged outside derivation fs a
-  too_long : FoundMore outside.told outside.found_after derivation MOST_TEXT_BYTES → a ≡ Refused 0 Text → Judged outside derivation fs a
+data Judged (outside : Outside) (derivation : List ℕ) (fs : List Annotated) (s : ℕ) (a : List ℕ) : Type 0 where
+  on_text :
+      (x : List ℕ) (v : LineAnswer) → IsLoaded outside derivation x → IsAnswerOn fs x v → s ≡ status_back v → a ≡ text_back v
+      → Judged outside derivation fs s a
+  too_long :
+      FoundMore outside.told outside.found_after derivation MOST_TEXT_BYTES → s ≡ 9 → a ≡ refused_report 0 Text → Judged outside derivation fs s a
 
-judged-one : TextsHaveOneAnswer → (outside : Outside) (derivation : List ℕ) (t : IsTold outside) (fs : List Annotated) (a b : Answer) → Judged outside derivation fs a → Judged outside derivation fs b → a ≡ b
-judged-one one outside derivation t fs a b (on_text x v l h e) (on_text y w m k i) =
-    e ∙ ap answer_back (one fs y v w (subst (λ (z : List ℕ). IsAnswerOn fs z v) (text-one outside t derivation x y l m) h) k) ∙ sym i
-judged-one one outside derivation t fs a b (on_text x v l h e) (too_long f i) = absurd (loaded-short outside t derivation x l f)
-judged-one one outside derivation t fs a b (too_long f e) (on_text y w m k i) = absurd (loaded-short outside t derivation y m f)
-judged-one one outside derivation t fs a b (too_long f e) (too_long g i) = e ∙ sym i
+judged-one : TextsHaveOneAnswer → (outside : Outside) (derivation : List ℕ) (t : IsTold outside) (fs : List Annotated) (s u : ℕ) (a b : List ℕ) → Judged outside derivation fs s a → Judged outside derivation fs u b → AreSame s u a b
+judged-one one outside derivation t fs s u a b (on_text x v l h e f) (on_text y w m k i j) =
+    let same : v ≡ w = one fs y v w (subst (λ (z : List ℕ). IsAnswerOn fs z v) (text-one outside t derivation x y l m) h) k in
+    (e ∙ ap status_back same ∙ sym i, f ∙ ap text_back same ∙ sym j)
+judged-one one outside derivation t fs s u a b (on_text x v l h e f) (too_long g i j) = absurd (loaded-short outside t derivation x l g)
+judged-one one outside derivation t fs s u a b (too_long g e f) (on_text y w m k i j) = absurd (loaded-short outside t derivation y m g)
+judged-one one outside derivation t fs s u a b (too_long g e f) (too_long k i j) = (e ∙ sym i, f ∙ sym j)
 
-check-stage : (outside : Outside) (source : Source) (derivation : List ℕ) (t : IsTold outside) (a : Answer) → IsReadCheckAnswer outside source derivation a → Stage outside source (Judged outside derivation) a
-check-stage outside source derivation t (Accepted n) h =
-    at_work h.formulas h.formed (on_text h.says.text (accepted n) h.says.loaded h.says.judgement.0 (accepted-back n))
-check-stage outside source derivation t (Refused n c) h = at_work h.formulas h.formed (by h.says)
+checked : (outside : Outside) (file derivation : List ℕ) (t : IsTold outside) (fs : List Annotated) (s : ℕ) (a : List ℕ) → IsCheckReport outside file derivation fs s a → Judged outside derivation fs s a
+unfolding status_back text_back
+checked outside file derivation t fs s a (told_accepted n h e w) = on_text h.text (accepted n) h.loaded h.accepted e w
+checked outside file derivation t fs s a (told_refused n c h e w) = by h
   where
-    by :
-        IsJudged outside derivation h.formulas (Refused n c) ⊎ IsTooLong outside derivation n c → Judged outside derivation h.formulas (Refused n c)
-    by (inl j) = on_text j.text (refused_line n (cause_meant c)) j.loaded j.judgement (refused-back n c)
-    by (inr l) = too_long l.found (ap₂ Refused l.line_is l.cause_is)
-check-stage outside source derivation t (Unloaded n) h = absurd (t.stays h.says.rose)
-check-stage outside source derivation t (Unread c f p) h = at_reading c f p h refl
-check-stage outside source derivation t (Unformed c n) h = at_forming c n h refl
-check-stage outside source derivation t (Refuted c d) h = absurd h.says.judgement
-check-stage outside source derivation t (Spent n m) h = absurd h.says.judgement
-check-stage outside source derivation t (Saturated c m) h = absurd h.says.judgement
-check-stage outside source derivation t (Heavy k) h = absurd h.says.judgement
+    by : IsRefusedText outside derivation fs n c ⊎ IsTooLong outside derivation n c → Judged outside derivation fs s a
+    by (inl r) = on_text r.text (refused_line n (cause_meant c)) r.loaded r.refused e (w ∙ refused-back n c)
+    by (inr l) = too_long l.found e (w ∙ ap₂ refused_report l.line_is l.cause_is)
+checked outside file derivation t fs s a (told_unloaded n h e w) = absurd (t.stays h.rose)
 
-pub checks-have-one-answer : TextsHaveOneAnswer → ChecksHaveOneAnswer
-checks-have-one-answer one outside source derivation a b t h k =
-    stage-one outside source (Judged outside derivation) a b t (λ fs v w. judged-one one outside derivation t fs a b v w)
-    (check-stage outside source derivation t a h) (check-stage outside source derivation t b k)
+pub checks-have-one-report : TextsHaveOneAnswer → ChecksHaveOneReport
+checks-have-one-report one outside file derivation root s u a b t h k =
+    command-one outside (check file derivation root) s u a b t
+    (λ fs v w.
+    judged-one one outside derivation t fs s u a b (checked outside file derivation t fs s a v) (checked outside file derivation t fs u b w))
+    h k
+
+-- ---- a fault of the input is the only report
+
+-- of a command whose own statuses are none of a fault
+no-fault-said :
+    (outside : Outside) (command : Command) (s u : ℕ) (a b : List ℕ) → list_all (λ n. not (is_exact n)) (statuses_of command) ≡ true
+    → IsTold outside → is_exact s ≡ true → IsAnswered command outside s a → IsAnswered command outside u b → AreSame s u a b
+no-fault-said outside command s u a b inexact t x h k =
+    command-one outside command s u a b t
+    (λ fs v w.
+    absurd (true≢false (sym (said-has (λ n. not (is_exact n)) outside command fs s a inexact v) ∙ ap not x)))
+    h k
+
+pub faults-are-the-only-report : TextsHaveOneAnswer → FaultsAreTheOnlyReport
+faults-are-the-only-report one outside (check file derivation root) s u a b t x h k =
+    checks-have-one-report one outside file derivation root s u a b t h k
+faults-are-the-only-report one outside command s u a b t x h k = no-fault-said outside command s u a b refl t x h k

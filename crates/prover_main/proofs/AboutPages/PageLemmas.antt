@@ -1,8 +1,6 @@
--- Texts that are added one behind the other.
-use Rattle.std.proofs.Common.{Result, Ok, Err, IfOk, ◌≡◌, ℕ, List, ◌++◌, ap, sym, subst, ◌∙◌}
+-- Texts that are added one after the other.
+use Rattle.std.proofs.Common.{Result, Ok, Err, IfOk, ◌≡◌, ℕ, List, ◌++◌, ap, subst, ◌∙◌}
 use Rattle.std.proofs.lemmas.List.{append_assoc}
-use Rattle.prover_main.specs.Reports.{report_of}
-use Rattle.prover_main.specs.declared.answer.Answer.{Answer}
 
 joined : (old m n x y : List ℕ) → m ≡ old ++ x → n ≡ m ++ y → n ≡ old ++ (x ++ y)
 joined old m n x y e f = f ∙ ap (λ t. t ++ y) e ∙ append_assoc old x y
@@ -28,12 +26,6 @@ pub five_added :
     → p ≡ old ++ x → q ≡ p ++ y → s ≡ q ++ z → t ≡ s ++ w → IfOk r (λ _. n ≡ t ++ v)
     → IfOk r (λ _. n ≡ old ++ (x ++ y ++ z ++ w ++ v))
 five_added r old p q s t n x y z w v e f g h k = four_added r old q s t n (x ++ y) z w v (joined old p q x y e f) g h k
-
--- the report of an answer of that form
-pub told :
-    {E : Type 0} (r : Result (Unit {0}) E) (file old n : List ℕ) (a b : Answer)
-    → a ≡ b → IfOk r (λ _. n ≡ old ++ report_of file b) → IfOk r (λ _. n ≡ old ++ report_of file a)
-told r file old n a b e h = subst (λ k. IfOk r (λ _. n ≡ old ++ report_of file k)) (sym e) h
 
 -- the second by other names of what it is made of
 pub two_added_by :

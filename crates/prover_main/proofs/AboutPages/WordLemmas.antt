@@ -7,38 +7,81 @@ use Rattle.std.proofs.lemmas.List.{drop_more}
 use Rattle.plain_types.specs.declared.limits.TheConstants.{DEFAULT_INFERENCES, MOST_INFERENCES}
 use Rattle.tptp_source.specs.Items.{decimal_in}
 use Rattle.literal_selection.specs.declared.choice.Selection.{Selection}
-use Rattle.prover_main.specs.Words.{Given, Command, prove, check, commands, options_of, option_word, is_option, is_filled, file_words, setting_in, option_named, no_options, within_limits, limit_in, selection_in, with_root, with_inferences, with_selection, with_value, with_option, options_in, options_by, prove_with, check_with, command_with, command_named, command_of}
-use Rattle.prover_main.specs.WordParts.{IsFit, FewWords, more_words, few_with, few_of, prove_few, check_few, command_few}
+use Rattle.prover_main.specs.Words.{Given, Command, prove, check, commands, options_of, is_option, is_filled, file_words, Files, one_file, two_files, other_files, files_in, setting_in, option_named, no_options, within_limits, limit_in, selection_in, switch_in, with_root, with_inferences, with_selection, with_split, with_value, with_option, options_in, options_by, prove_with, check_with, command_with, command_named, command_of}
+use Rattle.prover_main.specs.WordParts.{IsFit, FewWords, no_word, one_word, more_words, few_and, few_with, few_of, files_by}
 use Rattle.prover_main.specs.declared.words.CommandName.{CommandName}
 use Rattle.prover_main.specs.declared.words.CommandName.TheVariants.{Prove, Check}
 use Rattle.prover_main.specs.declared.words.OptionName.{OptionName}
-use Rattle.prover_main.specs.declared.words.OptionName.TheVariants.{Inferences, Tptp, Select}
+use Rattle.prover_main.specs.declared.words.OptionName.TheVariants.{Inferences, Tptp, Select, Split}
 
 -- ---- counted words
 
+more-and : (w : List ℕ) → few_with more_words w ≡ more_words
+more-and w = by (is_filled w)
+  where
+    by : (b : Bool) → (if b then more_words else more_words) ≡ more_words
+    by true = refl
+    by false = refl
+
 more-stays : (ws : List (List ℕ)) → fold few_with more_words ws ≡ more_words
 more-stays [] = refl
-more-stays (w ∷ ws) = more-stays ws
+more-stays (w ∷ ws) = ap (λ x. fold few_with x ws) (more-and w) ∙ more-stays ws
 
-prove-counted : (files : List (List ℕ)) (given : Option Given) → prove_few (few_of files) given ≡ prove_with files given
-prove-counted [] given = refl
-prove-counted (f ∷ []) None = refl
-prove-counted (f ∷ []) (Some given) = refl
-prove-counted (f ∷ g ∷ []) given = refl
-prove-counted (f ∷ g ∷ h ∷ fs) given = ap (λ n. prove_few n given) (more-stays fs)
+abbrev step : Bool → FewWords → List ℕ → FewWords
+step b x w = if b then few_and x w else more_words
 
-check-counted : (files : List (List ℕ)) (given : Option Given) → check_few (few_of files) given ≡ check_with files given
-check-counted [] given = refl
-check-counted (f ∷ []) given = refl
-check-counted (f ∷ g ∷ []) None = refl
-check-counted (f ∷ g ∷ []) (Some given) = refl
-check-counted (f ∷ g ∷ h ∷ fs) given = ap (λ n. check_few n given) (more-stays fs)
+-- three words are more
+third : (f g h : List ℕ) → few_with (few_with (few_with no_word f) g) h ≡ more_words
+third f g h = by (is_filled f) (is_filled g) (is_filled h)
+  where
+    by : (b c d : Bool) → step d (step c (step b no_word f) g) h ≡ more_words
+    by true true true = refl
+    by true true false = refl
+    by true false true = refl
+    by true false false = refl
+    by false true true = refl
+    by false true false = refl
+    by false false true = refl
+    by false false false = refl
 
-counted :
-    (name : CommandName) (files : List (List ℕ)) (given : Option Given)
-    → command_few name (few_of files) given ≡ command_with name files given
-counted Prove files given = prove-counted files given
-counted Check files given = check-counted files given
+files-counted : (files : List (List ℕ)) → files_by (few_of files) ≡ files_in files
+files-counted [] = refl
+files-counted (f ∷ []) = by (is_filled f)
+  where
+    by : (b : Bool) → files_by (if b then one_word f else more_words) ≡ (if b then one_file f else other_files)
+    by true = refl
+    by false = refl
+files-counted (f ∷ g ∷ []) = by (is_filled f) (is_filled g)
+  where
+    by :
+        (b c : Bool)
+        → files_by (if c then few_and (if b then one_word f else more_words) g else more_words) ≡ (if b && c then two_files f g else other_files)
+    by true true = refl
+    by true false = refl
+    by false true = refl
+    by false false = refl
+files-counted (f ∷ g ∷ h ∷ fs) = ap (λ x. files_by (fold few_with x fs)) (third f g h) ∙ ap files_by (more-stays fs)
+
+-- and none of one or two is empty
+abbrev AreFilled : Files → Type 0
+AreFilled (one_file f) = is_filled f ≡ true
+AreFilled (two_files f g) = (is_filled f ≡ true) × (is_filled g ≡ true)
+AreFilled other_files = ⊤
+
+are-filled : (files : List (List ℕ)) → AreFilled (files_in files)
+are-filled [] = tt
+are-filled (f ∷ []) = by (is_filled f) refl
+  where
+    by : (b : Bool) → is_filled f ≡ b → AreFilled (if b then one_file f else other_files)
+    by true e = e
+    by false e = tt
+are-filled (f ∷ g ∷ []) = by (is_filled f) refl (is_filled g) refl
+  where
+    by : (b : Bool) → is_filled f ≡ b → (c : Bool) → is_filled g ≡ c → AreFilled (if b && c then two_files f g else other_files)
+    by true e true k = (e, k)
+    by true e false k = tt
+    by false e c k = tt
+are-filled (f ∷ g ∷ h ∷ fs) = tt
 
 -- ---- the number of inferences is within its limits
 
@@ -88,10 +131,19 @@ selection-counts given (Some select) h = by (is_some given.select)
     by true = tt
     by false = h
 
+split-counts : (given : Given) (o : Option Bool) → IsWithin given.inferences → Counts (option_and_then (with_split given) o)
+split-counts given None h = tt
+split-counts given (Some split) h = by (is_some given.split)
+  where
+    by : (b : Bool) → Counts (if b then None else Some (record given { split = Some split }))
+    by true = tt
+    by false = h
+
 value-counts : (given : Given) (option : OptionName) (value : List ℕ) → IsWithin given.inferences → Counts (with_value given option value)
 value-counts given Inferences value h = inferences-count given (limit_in value) (limit-counts (decimal_in value))
 value-counts given Tptp value h = root-counts given value h
 value-counts given Select value h = selection-counts given (selection_in value) h
+value-counts given Split value h = split-counts given (switch_in value) h
 
 option-counts :
     (options : List OptionName) (given : Given) (word : List ℕ) → IsWithin given.inferences → Counts (with_option options given word)
@@ -121,42 +173,36 @@ abbrev Fits : Option Command → Type 0
 Fits None = ⊤
 Fits (Some command) = IsFit command
 
-prove-fits : (files : List (List ℕ)) (given : Option Given) → Counts given → Fits (prove_with files given)
-prove-fits [] given h = tt
-prove-fits (f ∷ []) None h = tt
-prove-fits (f ∷ []) (Some given) h = by (is_filled f) refl
+prove-fits : (files : Files) (given : Option Given) → AreFilled files → Counts given → Fits (prove_with files given)
+prove-fits (one_file f) None filled h = tt
+prove-fits (one_file f) (Some given) filled h = (limit given.inferences h, filled)
   where
     limit : (o : Option ℕ) → IsWithin o → AreWithin (unwrap_or o DEFAULT_INFERENCES)
     limit None k = (omega arith, omega arith)
     limit (Some n) k = k
+prove-fits (two_files f g) given filled h = tt
+prove-fits other_files given filled h = tt
 
-    by : (b : Bool) → is_filled f ≡ b → Fits (if b then Some (prove f given.root (options_by given)) else None)
-    by true e = (limit given.inferences h, refl, e)
-    by false e = tt
-prove-fits (f ∷ g ∷ fs) given h = tt
+check-fits : (files : Files) (given : Option Given) → Fits (check_with files given)
+check-fits (one_file f) given = tt
+check-fits (two_files f g) None = tt
+check-fits (two_files f g) (Some given) = tt
+check-fits other_files given = tt
 
-check-fits : (files : List (List ℕ)) (given : Option Given) → Fits (check_with files given)
-check-fits [] given = tt
-check-fits (f ∷ []) given = tt
-check-fits (f ∷ g ∷ []) None = tt
-check-fits (f ∷ g ∷ []) (Some given) = by (is_filled f && is_filled g)
-  where
-    by : (b : Bool) → Fits (if b then Some (check f g given.root) else None)
-    by true = tt
-    by false = tt
-check-fits (f ∷ g ∷ h ∷ fs) given = tt
-
-with-fits : (name : CommandName) (words : List (List ℕ)) → Fits (command_with name (file_words words) (options_in (options_of name) words))
+with-fits :
+    (name : CommandName) (words : List (List ℕ)) → Fits (command_with name (files_in (file_words words)) (options_in (options_of name) words))
 with-fits Prove words =
-    prove-fits (file_words words) (options_in (options_of Prove) words)
+    prove-fits (files_in (file_words words)) (options_in (options_of Prove) words) (are-filled (file_words words))
     (options-count (options_of Prove) (filter is_option words) (Some no_options) tt)
-with-fits Check words = check-fits (file_words words) (options_in (options_of Check) words)
+with-fits Check words = check-fits (files_in (file_words words)) (options_in (options_of Check) words)
 
 command-fits : (words : List (List ℕ)) → Fits (command_of words)
 command-fits [] = tt
 command-fits (word ∷ words) = by (command_named commands word)
   where
-    by : (name : Option CommandName) → Fits (option_and_then (λ n. command_with n (file_words words) (options_in (options_of n) words)) name)
+    by :
+        (name : Option CommandName)
+        → Fits (option_and_then (λ n. command_with n (files_in (file_words words)) (options_in (options_of n) words)) name)
     by None = tt
     by (Some name) = with-fits name words
 
@@ -212,11 +258,11 @@ pub command-counted :
     (all words : List (List ℕ)) (word v : List ℕ) (name : CommandName) (options : List OptionName) (files : FewWords) (given : Option Given)
     (command : Option Command)
     → all ≡ word ∷ words → v ≡ word → Some name ≡ command_named commands v → options ≡ options_of name → files ≡ few_of (file_words words)
-    → given ≡ options_in options words → command ≡ command_few name files given → command ≡ command_of all
+    → given ≡ options_in options words → command ≡ command_with name (files_by files) given → command ≡ command_of all
 command-counted all words word v name options files given command a same n os f g c =
     c
-    ∙ ap (λ fs. command_few name fs given) f
-    ∙ ap (command_few name (few_of (file_words words))) (g ∙ ap (λ o. options_in o words) os)
-    ∙ counted name (file_words words) (options_in (options_of name) words)
-    ∙ ap (λ m. option_and_then (λ k. command_with k (file_words words) (options_in (options_of k) words)) m) (n ∙ ap (command_named commands) same)
+    ∙ ap (λ fs. command_with name fs given) (ap files_by f ∙ files-counted (file_words words))
+    ∙ ap (command_with name (files_in (file_words words))) (g ∙ ap (λ o. options_in o words) os)
+    ∙ ap (λ m. option_and_then (λ k. command_with k (files_in (file_words words)) (options_in (options_of k) words)) m)
+    (n ∙ ap (command_named commands) same)
     ∙ sym (ap command_of a)

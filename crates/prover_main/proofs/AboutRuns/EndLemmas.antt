@@ -1,43 +1,33 @@
--- How a run ends: with the answer to its command, out of memory, or with a failed write.
+-- How a run ends: with the report of its command, out of memory, or with a failed write.
 use Rattle.std.proofs.Common.{◌≡◌, ◌⊎◌, inl, inr, ℕ, List, Option, None, Some, refl, ap, sym, subst, ◌∙◌, arith}
-use Rattle.std.specs.Prelude.{Bool, true, not, ◌==◌, ◌||◌, Result, Ok, Err}
+use Rattle.std.specs.Prelude.{true, Result, Ok, Err}
 use Rattle.outside.specs.declared.fault.SinkFault.{SinkFault}
 use Rattle.outside.specs.Sink.{with_bytes}
 use Rattle.tptp_reader.specs.declared.cause.ReadCause.{ReadCause}
 use Rattle.tptp_reader.specs.declared.cause.ReadCause.TheVariants.{Inappropriate, Load}
 use Rattle.clausal_form.specs.DerivationLaws.{TextsHaveOneAnswer}
 use Rattle.prover_main.specs.Outside.{Outside, IsTold}
-use Rattle.prover_main.specs.Words.{Command, prove, check, command_of}
-use Rattle.prover_main.specs.declared.answer.Answer.{Answer}
-use Rattle.prover_main.specs.declared.answer.Answer.TheVariants.{Refuted, Saturated, Spent, Heavy, Accepted, Refused, Unloaded, Unread, Unformed}
-use Rattle.prover_main.specs.Answer.{IsAnswer}
-use Rattle.prover_main.specs.Reports.{status_of, read_status, report_of, memory_out_report}
+use Rattle.prover_main.specs.Words.{Command, command_of}
+use Rattle.prover_main.specs.Problems.{told_unread, told_unformed, of_formulas}
+use Rattle.prover_main.specs.Answer.{IsAnswered}
+use Rattle.prover_main.specs.Reports.{read_status, memory_out_report}
 use Rattle.prover_main.specs.Run.{file_of, Taken, IsDueTo, IsDue, IsDelivery, status_after, IsRun}
 use Rattle.prover_main.specs.Rows.{ForCommand, Took, EndsWith}
 use Rattle.prover_main.specs.Laws.{is_exact}
-use Rattle.prover_main.proofs.AboutPages.OneAnswer.{faults-are-the-only-answer, checks-have-one-answer}
+use Rattle.prover_main.proofs.AboutPages.OneAnswer.{faults-are-the-only-report}
+use Rattle.prover_main.proofs.AboutRuns.StatusLemmas.{is_answered, said-answered}
 
--- ---- the statuses of answers
-
--- 5, 6 and 7 are those of no answer
-abbrev pub is_answered : ℕ → Bool
-is_answered n = not (n == 5 || (n == 6 || n == 7))
+-- ---- the statuses of reports
 
 cause-answered : (c : ReadCause) → is_answered (read_status c) ≡ true
 cause-answered (Inappropriate form) = refl
 cause-answered Load = refl
 cause-answered c = refl
 
-answer-answered : (a : Answer) → is_answered (status_of a) ≡ true
-answer-answered (Refuted c d) = refl
-answer-answered (Spent n m) = refl
-answer-answered (Saturated c m) = refl
-answer-answered (Heavy k) = refl
-answer-answered (Accepted n) = refl
-answer-answered (Refused n c) = refl
-answer-answered (Unloaded n) = refl
-answer-answered (Unread c f p) = cause-answered c
-answer-answered (Unformed c n) = refl
+report-answered : (outside : Outside) (command : Command) (s : ℕ) (a : List ℕ) → IsAnswered command outside s a → is_answered s ≡ true
+report-answered outside command s a (told_unread c f p h e w) = ap is_answered e ∙ cause-answered c
+report-answered outside command s a (told_unformed c n h e w) = ap is_answered e
+report-answered outside command s a (of_formulas fs h w) = said-answered outside command fs s a w
 
 not-five : (n : ℕ) → is_answered n ≡ true → n ≡ 5 → ⊥
 not-five n x e = let w : is_answered 5 ≡ true = ap is_answered (sym e) ∙ x in cc
@@ -60,25 +50,16 @@ six-not-seven n e f = omega (arith, e, f)
 pub due-not-five :
     (outside : Outside) (due : ℕ) (text : List ℕ) (k : Option Command) → IsDue k outside due text → due ≡ 5 → ⊥
 due-not-five outside due text None d e = six-not-five due d.0 e
-due-not-five outside due text (Some command) (inl a) e = not-five (status_of a.answer) (answer-answered a.answer) (sym a.status_is ∙ e)
+due-not-five outside due text (Some command) (inl a) e = not-five due (report-answered outside command due text a) e
 due-not-five outside due text (Some command) (inr m) e = seven-not-five due m.0 e
-
--- ---- one answer
-
-one-answer :
-    TextsHaveOneAnswer → (outside : Outside) (command : Command) (a b : Answer) → IsTold outside → is_exact (status_of a) ≡ true
-    → IsAnswer outside command a → IsAnswer outside command b → a ≡ b
-one-answer one outside (prove file root options) a b t x h k = faults-are-the-only-answer outside (record { file = file; root = root }) options a b t x h k
-one-answer one outside (check file derivation root) a b t x h k = checks-have-one-answer one outside (record { file = file; root = root }) derivation a b t h k
 
 -- ---- the end of a run whose writes didn't fail
 
--- An answer of this status was due to the command, and the sink took its report.
+-- A report of this status was due to the command, and the sink took it.
 pub record IsEnd (outside : Outside) (taken : Taken) (known : ℕ) (command : Command) : Type 0 where
-  pub answer : Answer
-  pub is : IsAnswer outside command answer
-  pub status_is : status_of answer ≡ known
-  pub report : Took taken (report_of (file_of command) answer)
+  pub text : List ℕ
+  pub is : IsAnswered command outside known text
+  pub report : Took taken text
 
 -- Out of memory, and the sink took the report of that.
 pub record IsEndWithoutMemory (taken : Taken) (status : ℕ) (command : Command) : Type 0 where
@@ -108,10 +89,9 @@ module _ (words : List (List ℕ)) (outside : Outside) (taken : Taken) (status :
           → IsEnd outside taken status command ⊎ IsEndWithoutMemory taken status command
       by (inl d) w =
           inl (record {
-            answer = d.answer;
-            is = d.due;
-            status_is = sym (w.0 ∙ d.status_is);
-            report = w.1 ∙ ap (with_bytes taken.bytes_before) d.prints;
+            text = r.text;
+            is = subst (λ (n : ℕ). IsAnswered command outside n r.text) (sym w.0) d;
+            report = w.1;
           })
       by (inr m) w = inr (record { status_is = w.0 ∙ m.0; report = w.1 ∙ ap (with_bytes taken.bytes_before) m.1 })
 
@@ -122,7 +102,7 @@ module _ (words : List (List ℕ)) (outside : Outside) (taken : Taken) (status :
   answered-by known s x command e = by (end-of command e (λ f. not-five known x (sym s ∙ f)))
     where
       by : IsEnd outside taken status command ⊎ IsEndWithoutMemory taken status command → IsEnd outside taken known command
-      by (inl a) = record { answer = a.answer; is = a.is; status_is = a.status_is ∙ s; report = a.report }
+      by (inl a) = record { text = a.text; is = subst (λ (n : ℕ). IsAnswered command outside n a.text) s a.is; report = a.report }
       by (inr m) = absurd (not-seven known x (sym s ∙ m.status_is))
 
   pub usage-due : command_of words ≡ None → IsDue None outside r.due r.text
@@ -143,7 +123,7 @@ module _ (words : List (List ℕ)) (outside : Outside) (taken : Taken) (status :
   usage-only s = by (command_of words) refl
     where
       ended : (command : Command) → IsEnd outside taken status command ⊎ IsEndWithoutMemory taken status command → ⊥
-      ended command (inl a) = not-six (status_of a.answer) (answer-answered a.answer) (a.status_is ∙ s)
+      ended command (inl a) = not-six status (report-answered outside command status a.text a.is) s
       ended command (inr m) = six-not-seven status s m.status_is
 
       by : (k : Option Command) → command_of words ≡ k → k ≡ None
@@ -156,7 +136,7 @@ module _ (words : List (List ℕ)) (outside : Outside) (taken : Taken) (status :
       ended :
           (command : Command) → IsEnd outside taken status command ⊎ IsEndWithoutMemory taken status command
           → IsEndWithoutMemory taken status command
-      ended command (inl a) = absurd (not-seven (status_of a.answer) (answer-answered a.answer) (a.status_is ∙ s))
+      ended command (inl a) = absurd (not-seven status (report-answered outside command status a.text a.is) s)
       ended command (inr m) = m
 
       by : (k : Option Command) → command_of words ≡ k → ForCommand words (IsEndWithoutMemory taken status)
@@ -166,28 +146,18 @@ module _ (words : List (List ℕ)) (outside : Outside) (taken : Taken) (status :
 
   -- ---- faults are told always
 
-  -- An answer that tells what is wrong with the input is the only one that may be due.
+  -- A report that tells a fault of the input is the only one that may be due.
   pub told-always :
-      TextsHaveOneAnswer → (command : Command) (a : Answer) → IsTold outside → command_of words ≡ Some command
-      → is_exact (status_of a) ≡ true → IsAnswer outside command a → EndsWith taken status (status_of a) (report_of (file_of command) a)
-  told-always one command a t e x h = by r.delivered.outcome r.delivered.delivery r.delivered.status_is
+      TextsHaveOneAnswer → (command : Command) (known : ℕ) (text : List ℕ) → IsTold outside → command_of words ≡ Some command
+      → is_exact known ≡ true → IsAnswered command outside known text → EndsWith taken status known text
+  told-always one command known text t e x h = by r.delivered.outcome r.delivered.delivery r.delivered.status_is
     where
-      same : (b : Answer) → IsAnswer outside command b → a ≡ b
-      same b k = one-answer one outside command a b t x h k
-
-      after :
-          (status ≡ r.due) × Took taken r.text → IsDueTo command outside r.due r.text
-          → EndsWith taken status (status_of a) (report_of (file_of command) a)
+      after : (status ≡ r.due) × Took taken r.text → IsDueTo command outside r.due r.text → EndsWith taken status known text
       after w (inl d) =
-          let is : d.answer ≡ a = sym (same d.answer d.due) in
-          inl (
-            w.0 ∙ d.status_is ∙ ap status_of is,
-            w.1 ∙ ap (with_bytes taken.bytes_before) (d.prints ∙ ap (report_of (file_of command)) is),
-          )
+          let same = faults-are-the-only-report one outside command known r.due text r.text t x h d in
+          inl (w.0 ∙ sym same.0, w.1 ∙ ap (with_bytes taken.bytes_before) (sym same.1))
       after w (inr m) = inr (inl (w.0 ∙ m.0))
 
-      by :
-          (o : Result (Unit {0}) SinkFault) → IsDelivery taken r.text o → status ≡ status_after r.due o
-          → EndsWith taken status (status_of a) (report_of (file_of command) a)
+      by : (o : Result (Unit {0}) SinkFault) → IsDelivery taken r.text o → status ≡ status_after r.due o → EndsWith taken status known text
       by (Ok u) d s = after (s, d.0) (due-to command e)
       by (Err f) d s = inr (inr s)

@@ -5,7 +5,8 @@ use Rattle.outside.specs.declared.fault.SinkFault.{SinkFault}
 use Rattle.prover_main.specs.Words.{Command, command_of}
 use Rattle.prover_main.specs.Outside.{Outside}
 use Rattle.prover_main.specs.Reports.{usage_report}
-use Rattle.prover_main.specs.Run.{IsAnswered, IsDueTo, IsDue, Taken, DeliveredBy, IsRunBy}
+use Rattle.prover_main.specs.Answer.{IsAnswered}
+use Rattle.prover_main.specs.Run.{IsDueTo, IsDue, Taken, DeliveredBy, IsRunBy}
 
 pub run_usage :
     {S : Type 0} (gives : S → List ℕ → Result ℕ SinkFault → S → Type 0) (before after : S)

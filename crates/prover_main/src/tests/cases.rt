@@ -12,7 +12,7 @@ pub(crate) struct Case {
 
 /// What is printed where the words are no command.
 const USAGE: &[u8] =
-    b"usage: prove FILE [--inferences=N] [--tptp=DIR] [--select=none|negative]\n       \
+    b"usage: prove FILE [--inferences=N] [--tptp=DIR] [--select=none|negative] [--split=on|off]\n       \
 check FILE DERIVATION [--tptp=DIR]\n";
 
 const TWO_UNITS: &[u8] = b"cnf(a,axiom,p). cnf(b,negated_conjecture,~p).";
@@ -26,6 +26,9 @@ cnf(c5,plain,$false,inference(refl,[status(thm),lit(0),bind([])],[c4])).\n";
 
 const CLAUSES: &[u8] =
     b"cnf(a,axiom,p|q). cnf(b,axiom,~p|q). cnf(c,axiom,p|~q). cnf(d,axiom,~p|~q).";
+
+/// A clause of two parts, and what refutes each.
+const TWO_PARTS: &[u8] = b"cnf(a,axiom,p(X) | q(Y)). cnf(b,axiom,~p(a)). cnf(c,axiom,~q(b)).";
 
 const IMPLICATION: &[u8] =
     b"fof(a,axiom,! [X] : (p(X) => q(X))). fof(b,axiom,p(a)). fof(c,conjecture,q(a)).";
@@ -55,9 +58,15 @@ const NO_MEMBERS: &[u8] = b"% SZS status Satisfiable for r2\n\
 /// A quantifier that ends before the arrow.
 const NARROW: &[u8] = b"fof(a,axiom,! [X] : p(X) => q).";
 
-const NARROW_SATURATED: &[u8] = b"% SZS status Satisfiable for r12\n\
+const NARROW_WHOLE: &[u8] = b"% SZS status Satisfiable for r12\n\
 % SZS output start Saturation for r12\n\
 cnf(s0,plain,~p(sk0) | q).\n\
+% SZS output end Saturation for r12\n";
+
+/// Its clause is split, and no name is true at first: so the part holds that denies one.
+const NARROW_SPLIT: &[u8] = b"% SZS status Satisfiable for r12\n\
+% SZS output start Saturation for r12\n\
+cnf(s0,plain,~p(sk0)).\n\
 % SZS output end Saturation for r12\n";
 
 /// A conjecture whose negation has one clause, which its Skolem constant makes empty.
@@ -82,10 +91,16 @@ cnf(s1,plain,b = c).\n\
 % SZS output end Saturation for r9\n",
     },
     Case {
-        words: &["prove", "--select=none", "r12.p"],
+        words: &["prove", "--select=none", "--split=off", "r12.p"],
         files: &[("r12.p", NARROW)],
         status: 1,
-        report: NARROW_SATURATED,
+        report: NARROW_WHOLE,
+    },
+    Case {
+        words: &["prove", "r12.p"],
+        files: &[("r12.p", NARROW)],
+        status: 1,
+        report: NARROW_SPLIT,
     },
     Case {
         words: &["prove", "r18.p"],
@@ -230,6 +245,11 @@ pub(crate) const REFUTED: &[Refuted] = &[
     Refuted {
         words: &["b.p"],
         files: &[("b.p", CLAUSES)],
+        word: "Unsatisfiable",
+    },
+    Refuted {
+        words: &["b.p"],
+        files: &[("b.p", TWO_PARTS)],
         word: "Unsatisfiable",
     },
     Refuted {

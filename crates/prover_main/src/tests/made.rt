@@ -8,8 +8,7 @@ ghost use Rattle.prover_main.specs.Examples.{formula_in, made_formulas};
 
 use super::*;
 use crate::problem::FormedProblem;
-use crate::prove::formed_answer;
-use crate::report::report_of;
+use crate::prove::formed_report;
 use clausal_form::clausal;
 use literal_selection::Selection;
 use plain_types::{DEFAULT_INFERENCES, Text};
@@ -52,11 +51,10 @@ fn made_is_admissible(problem: &Problem)
 /// The options of a run whose words name none.
 fn options() -> Options
     ensures limit { IsLimit result }
-    ensures unsplit { result.split ≡ false }
 {
     Options {
         select: Selection::Negative,
-        split: false,
+        split: true,
         inferences: DEFAULT_INFERENCES,
     }
 }
@@ -69,9 +67,8 @@ fn made_outcome<R: Wait>(rt: &R, alloc: Global) -> Mem<(u8, Text)> {
         return Err(NoMemory);
     };
     let formed = FormedProblem { problem, form };
-    let answer = formed_answer(rt, alloc, "made", &formed, options())?;
-    let report = report_of(alloc, "made", &answer)?;
-    Ok((answer.status(), report))
+    let report = formed_report(rt, alloc, "made", &formed, options())?;
+    Ok((report.status, report.text))
 }
 
 #[test]

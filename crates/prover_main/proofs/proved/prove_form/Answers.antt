@@ -30,4 +30,4 @@ returns-clause-says g c =
       pool =
           subst (λ (cs : List TreeClause). IsProvedFrom cs c.args.options proved) (ap (λ (f : ClausalForm). f.clauses) c.requires.form) ended;
     })
-    c.requires.unsplit c.saturated_is_saturated.ensures proved.outcome refl) c.prove_clauses.ensures
+    c.saturated_is_saturated.ensures proved.outcome refl) c.prove_clauses.ensures

@@ -1,4 +1,6 @@
-use Rattle.prover_main.proofs.AboutRuns.RowLemmas.{theorem-row, printed-row, saturated-row, gave-up-row, checked-row, form-fault-row, load-fault-row, lost-output-row, usage-row, memory-out-row, read-fault-row, complete-row}
+use Rattle.prover_main.proofs.AboutRuns.CheckRowLemmas.{checked-row}
+use Rattle.prover_main.proofs.AboutRuns.ProveRowLemmas.{printed-row, saturated-row, gave-up-row}
+use Rattle.prover_main.proofs.AboutRuns.RowLemmas.{theorem-row, form-fault-row, load-fault-row, lost-output-row, usage-row, memory-out-row, read-fault-row, complete-row}
 use Rattle.prover_main.proofs.run.run.Goals as goal
 
 pub returns : goal.returns

@@ -1,7 +1,7 @@
 use Rattle.std.proofs.Common.{ap, ◌++◌, ◌∙◌}
 use Rattle.std.specs.Fmt.{decimal}
 use Rattle.prover_main.proofs.AboutPages.PageLemmas.{five_added}
-use Rattle.prover_main.proofs.report.push_refused.Goals as goal
+use Rattle.prover_main.proofs.check_reports.push_refused.Goals as goal
 
 pub returns : goal.returns
 returns c =

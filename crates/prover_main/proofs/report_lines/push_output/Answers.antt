@@ -1,5 +1,5 @@
 use Rattle.prover_main.proofs.AboutPages.PageLemmas.{five_added}
-use Rattle.prover_main.proofs.report.push_output.Goals as goal
+use Rattle.prover_main.proofs.report_lines.push_output.Goals as goal
 
 pub returns : goal.returns
 returns c =

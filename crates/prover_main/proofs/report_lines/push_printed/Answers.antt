@@ -1,5 +1,5 @@
 use Rattle.prover_main.proofs.AboutPages.PageLemmas.{four_added}
-use Rattle.prover_main.proofs.report.push_printed.Goals as goal
+use Rattle.prover_main.proofs.report_lines.push_printed.Goals as goal
 
 pub returns : goal.returns
 returns c =

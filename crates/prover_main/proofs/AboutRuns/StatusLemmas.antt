@@ -1,0 +1,116 @@
+-- The statuses with which commands report on formulas.
+use Rattle.std.proofs.Common.{◌≡◌, ◌⊎◌, inl, inr, ℕ, List, [], ◌∷◌, refl, ap, sym, ◌∙◌, eq-eqb}
+use Rattle.std.specs.Prelude.{Bool, true, false, not, ◌==◌, ◌||◌}
+use Rattle.std.specs.List.{list_all}
+use Rattle.std.proofs.lemmas.Bool.{and_parts, true≢false}
+use Rattle.tptp_tree.specs.declared.problem.Annotated.{Annotated}
+use Rattle.tptp_reader.specs.declared.cause.ReadCause.{ReadCause}
+use Rattle.tptp_reader.specs.declared.cause.ReadCause.TheVariants.{Inappropriate, Load}
+use Rattle.pool_history.specs.declared.options.Options.{Options}
+use Rattle.prover_main.specs.Outside.{Outside}
+use Rattle.prover_main.specs.Words.{Command, prove, check}
+use Rattle.prover_main.specs.Problems.{OfFormed, told_unread, told_unformed, of_formulas}
+use Rattle.prover_main.specs.ProveReports.{IsProofReport, told_refuted, told_saturated, told_spent, told_heavy}
+use Rattle.prover_main.specs.CheckReports.{IsCheckReport, told_accepted, told_refused, told_unloaded}
+use Rattle.prover_main.specs.Answer.{Gives, Says, IsAnswered}
+use Rattle.prover_main.specs.Reports.{read_status}
+
+-- ---- one of some statuses
+
+abbrev IsOneOf : ℕ → List ℕ → Type 0
+IsOneOf s [] = ⊥
+IsOneOf s (n ∷ ns) = (s ≡ n) ⊎ IsOneOf s ns
+
+-- has what all have
+one-has : (P : ℕ → Bool) (s : ℕ) (ns : List ℕ) → list_all P ns ≡ true → IsOneOf s ns → P s ≡ true
+one-has P s [] all h = absurd h
+one-has P s (n ∷ ns) all (inl e) = ap P e ∙ (and_parts (P n) (list_all P ns) all).0
+one-has P s (n ∷ ns) all (inr h) = one-has P s ns (and_parts (P n) (list_all P ns) all).1 h
+
+-- and is no other
+not-one : (n s : ℕ) (ns : List ℕ) → list_all (λ m. not (m == n)) ns ≡ true → IsOneOf s ns → n ≡ s → ⊥
+not-one n s ns others h e = true≢false (sym (one-has (λ m. not (m == n)) s ns others h) ∙ ap not (eq-eqb s n (sym e)))
+
+-- ---- by the command: one more adds its line to each of these
+
+-- the statuses with which a command reports on formulas
+abbrev pub statuses_of : Command → List ℕ
+statuses_of (prove file root options) = 0 ∷ 1 ∷ 2 ∷ []
+statuses_of (check file derivation root) = 0 ∷ 4 ∷ 9 ∷ []
+
+-- no fault of the problem among them
+abbrev is_own : ℕ → Bool
+is_own n = not (n == 3 || n == 8)
+
+-- nor 5, 6 or 7, which are those of no report
+abbrev pub is_answered : ℕ → Bool
+is_answered n = not (n == 5 || (n == 6 || n == 7))
+
+abbrev AreOwn : List ℕ → Type 0
+AreOwn ns = (list_all is_own ns ≡ true) × (list_all is_answered ns ≡ true)
+
+are-own : (command : Command) → AreOwn (statuses_of command)
+are-own (prove file root options) = (refl, refl)
+are-own (check file derivation root) = (refl, refl)
+
+proof-status : (file : List ℕ) (options : Options) (fs : List Annotated) (s : ℕ) (a : List ℕ) → IsProofReport file options fs s a → IsOneOf s (0 ∷ 1 ∷ 2 ∷ [])
+proof-status file options fs s a (told_refuted d h e w) = inl e
+proof-status file options fs s a (told_saturated m h e w) = inr (inl e)
+proof-status file options fs s a (told_spent n h e w) = inr (inr (inl e))
+proof-status file options fs s a (told_heavy k h e w) = inr (inr (inl e))
+
+check-status :
+    (outside : Outside) (file derivation : List ℕ) (fs : List Annotated) (s : ℕ) (a : List ℕ)
+    → IsCheckReport outside file derivation fs s a → IsOneOf s (0 ∷ 4 ∷ 9 ∷ [])
+check-status outside file derivation fs s a (told_accepted n h e w) = inl e
+check-status outside file derivation fs s a (told_unloaded n h e w) = inr (inl e)
+check-status outside file derivation fs s a (told_refused n c h e w) = inr (inr (inl e))
+
+said-status : (outside : Outside) (command : Command) (fs : List Annotated) (s : ℕ) (a : List ℕ) → Says outside command fs s a → IsOneOf s (statuses_of command)
+said-status outside (prove file root options) fs s a h = proof-status file options fs s a h
+said-status outside (check file derivation root) fs s a h = check-status outside file derivation fs s a h
+
+-- ---- whatever the command
+
+-- what all of its statuses have
+pub said-has :
+    (P : ℕ → Bool) (outside : Outside) (command : Command) (fs : List Annotated) (s : ℕ) (a : List ℕ)
+    → list_all P (statuses_of command) ≡ true → Says outside command fs s a → P s ≡ true
+said-has P outside command fs s a all h = one-has P s (statuses_of command) all (said-status outside command fs s a h)
+
+-- no other comes
+pub not-said :
+    {A : Type 0} (outside : Outside) (command : Command) (fs : List Annotated) (s : ℕ) (a : List ℕ)
+    → list_all (λ m. not (m == s)) (statuses_of command) ≡ true → Says outside command fs s a → A
+not-said outside command fs s a others h = absurd (not-one s s (statuses_of command) others (said-status outside command fs s a h) refl)
+
+pub said-answered : (outside : Outside) (command : Command) (fs : List Annotated) (s : ℕ) (a : List ℕ) → Says outside command fs s a → is_answered s ≡ true
+said-answered outside command fs s a h = said-has is_answered outside command fs s a (are-own command).1 h
+
+-- 3 and 8 aren't said of formulas
+said-own : (outside : Outside) (command : Command) (fs : List Annotated) (s : ℕ) (a : List ℕ) → Says outside command fs s a → is_own s ≡ true
+said-own outside command fs s a h = said-has is_own outside command fs s a (are-own command).0 h
+
+pub not-three : (outside : Outside) (command : Command) (fs : List Annotated) (a : List ℕ) → Says outside command fs 3 a → ⊥
+not-three outside command fs a h = true≢false (sym (said-own outside command fs 3 a h))
+
+pub not-eight : (outside : Outside) (command : Command) (fs : List Annotated) (a : List ℕ) → Says outside command fs 8 a → ⊥
+not-eight outside command fs a h = true≢false (sym (said-own outside command fs 8 a h))
+
+-- ---- the statuses of a fault
+
+abbrev faults : List ℕ
+faults = 3 ∷ 4 ∷ 8 ∷ []
+
+cause-status : (c : ReadCause) → IsOneOf (read_status c) faults
+cause-status (Inappropriate form) = inr (inr (inl refl))
+cause-status Load = inr (inl refl)
+cause-status c = inl refl
+
+-- another status is reported on formulas
+pub is-said :
+    (outside : Outside) (command : Command) (n : ℕ) (a : List ℕ) → list_all (λ m. not (m == n)) faults ≡ true
+    → IsAnswered command outside n a → OfFormed (Gives outside command) (λ fs. Says outside command fs n a)
+is-said outside command n a others (of_formulas fs h w) = record { formulas = fs; formed = h; says = w }
+is-said outside command n a others (told_unread c f p h e w) = absurd (not-one n (read_status c) faults others (cause-status c) e)
+is-said outside command n a others (told_unformed c f h e w) = absurd (not-one n 3 faults others (inl refl) e)
