@@ -6,3 +6,4 @@ pub mod SymbolLemmas
 pub mod InstanceLemmas
 pub mod TableLemmas
 pub mod SizeLemmas
+pub mod ConstantLemmas

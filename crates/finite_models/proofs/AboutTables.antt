@@ -4,5 +4,8 @@ pub mod FitLemmas
 pub mod DecodedLemmas
 pub mod ChosenLemmas
 pub mod CellLemmas
+pub mod SignatureLemmas
+pub mod ExchangeLemmas
+pub mod OrderLemmas
 pub mod ModelLemmas
 pub mod SolvedLemmas

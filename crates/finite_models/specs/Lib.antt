@@ -5,6 +5,7 @@ pub mod Found
 pub mod Flattening
 pub mod EntryNames
 pub mod Translation
+pub mod Constants
 pub mod Table
 pub mod Agreement
 pub mod Examples

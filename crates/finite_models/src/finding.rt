@@ -9,6 +9,7 @@ ghost use Rattle.finite_models.specs.Flattening.{flat_clause};
 ghost use Rattle.finite_models.specs.Found.{interpretation_of, place_of_cell, cell_places, IsFound};
 
 use crate::answer::{Found, Interpretation};
+use crate::constants::add_constants;
 use crate::entry_names::EntryNames;
 use crate::flat::FlatClause;
 use crate::flattening::all_flattened;
@@ -63,6 +64,7 @@ fn model_of_size(
     let names = EntryNames::new(alloc, &form.signature, size)?;
     let mut clauses = PropClauses::new(alloc);
     add_symbols(alloc, &form.signature, &names, &mut clauses)?;
+    add_constants(&form.signature, &names, &mut clauses)?;
     add_all_instances(alloc, flat, &names, &mut clauses)?;
     match solve(alloc, &clauses, names.count)? {
         Answer::Refuted(_) => Ok(None),

@@ -125,7 +125,7 @@ positive-is : (b : Bool) → beq b true ≡ b
 positive-is true = refl
 positive-is false = refl
 
-negative-is : (b : Bool) → beq b false ≡ not b
+pub negative-is : (b : Bool) → beq b false ≡ not b
 negative-is true = refl
 negative-is false = refl
 

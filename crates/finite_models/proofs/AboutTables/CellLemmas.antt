@@ -70,53 +70,120 @@ look-up g (r ∷ rows) f vs h k = by (cases_Bool (is_row_of f vs r)) (look-up g 
         cond-false (is_row_of f vs r) r.value (table_value rows f vs) e
         ∙ rest (sym (ap (λ b. b || list_any (is_row_of f vs) rows) e) ∙ k)
 
--- ---- the cells
+-- ---- the cells of a table whose values are told, by a symbol and the number of its arguments
 
-module _ (symbols : List Symbol) (n : EntryNames) (valuation : Valuation) (some : 1 ≤ n.size) where
-  abbrev cells_of : List ℕ → List Cell
-  cells_of fs = flat_map (symbol_cells symbols n valuation) fs
+module _ (symbols : List Symbol) (size : ℕ) (value : ℕ → ℕ → ℕ) (some : 1 ≤ size) where
+  abbrev told_cell : ℕ → ℕ → Cell
+  told_cell f number = record { symbol = f; arguments = digits size (arity_in symbols f) number; value = value f number }
 
-  pub cells-in-order : map place_of_cell (table_cells symbols n valuation) ≡ cell_places symbols n.size
-  cells-in-order = by (numbers_from 1 (length symbols - 1))
+  abbrev told_symbol : ℕ → List Cell
+  told_symbol f = map (told_cell f) (numbers_from 0 (size ^ arity_in symbols f))
+
+  abbrev told_of : List ℕ → List Cell
+  told_of fs = flat_map told_symbol fs
+
+  abbrev pub told_cells : List Cell
+  told_cells = told_of (numbers_from 1 (length symbols - 1))
+
+  abbrev pub told_rows : List Row
+  told_rows = map row_of told_cells
+
+  abbrev pub told_table : Interpretation
+  told_table = record { size = size; rows = told_rows }
+
+  pub told-in-order : map place_of_cell told_cells ≡ cell_places symbols size
+  told-in-order = by (numbers_from 1 (length symbols - 1))
     where
-      by : (fs : List ℕ) → map place_of_cell (cells_of fs) ≡ flat_map (λ f. symbol_places n.size (arity_in symbols f) f) fs
+      by : (fs : List ℕ) → map place_of_cell (told_of fs) ≡ flat_map (λ f. symbol_places size (arity_in symbols f) f) fs
       by [] = refl
       by (f ∷ fs) =
-          map-append place_of_cell (symbol_cells symbols n valuation f) (cells_of fs)
-          ∙ ap₂ ◌++◌ (mapped-again place_of_cell (cell_at symbols n valuation f) (numbers_from 0 (n.size ^ arity_in symbols f))) (by fs)
+          map-append place_of_cell (told_symbol f) (told_of fs)
+          ∙ ap₂ ◌++◌ (mapped-again place_of_cell (told_cell f) (numbers_from 0 (size ^ arity_in symbols f))) (by fs)
 
   -- what holds of each cell
   each-cell :
       (P : Cell → Type 0) (fs : List ℕ)
-      → ((f number : ℕ) → number < n.size ^ arity_in symbols f → P (cell_at symbols n valuation f number))
-      → AllByRecursion P (cells_of fs)
+      → ((f number : ℕ) → number < size ^ arity_in symbols f → P (told_cell f number))
+      → AllByRecursion P (told_of fs)
   each-cell P [] h = tt
   each-cell P (f ∷ fs) h =
-      each-joined P (symbol_cells symbols n valuation f) (cells_of fs)
-      (each-mapped P (cell_at symbols n valuation f) (numbers_from 0 (n.size ^ arity_in symbols f))
-      (each-number (λ number. P (cell_at symbols n valuation f number)) 0 (n.size ^ arity_in symbols f)
-      (λ number l m. h f number (low number (n.size ^ arity_in symbols f) m))))
+      each-joined P (told_symbol f) (told_of fs)
+      (each-mapped P (told_cell f) (numbers_from 0 (size ^ arity_in symbols f))
+      (each-number (λ number. P (told_cell f number)) 0 (size ^ arity_in symbols f)
+      (λ number l m. h f number (low number (size ^ arity_in symbols f) m))))
       (each-cell P fs h)
     where
       low : (a b : ℕ) → a < 0 + b → a < b
       low a b h = omega (arith, h)
 
-  abbrev pub rows : List Row
-  rows = map row_of (table_cells symbols n valuation)
-
-  abbrev pub table : Interpretation
-  table = record { size = n.size; rows = rows }
-
-  pub table-interprets : IsInterpretation (is_predicate_in symbols) table
-  table-interprets =
+  pub told-interprets :
+      ((f number : ℕ) → value f number < (if is_predicate_in symbols f then 2 else size)) → IsInterpretation (is_predicate_in symbols) told_table
+  told-interprets in-range =
       record {
         has_value = some;
         rows_in_range =
-            each-all (row_in_range (is_predicate_in symbols) n.size) rows
-            (each-mapped (λ r. row_in_range (is_predicate_in symbols) n.size r ≡ true) row_of (table_cells symbols n valuation)
-            (each-cell (λ c. row_in_range (is_predicate_in symbols) n.size (row_of c) ≡ true) (numbers_from 1 (length symbols - 1))
-            (λ f number m. lt-ltb (value_at symbols n valuation f number) (if is_predicate_in symbols f then 2 else n.size) (in-range f number))));
+            each-all (row_in_range (is_predicate_in symbols) size) told_rows
+            (each-mapped (λ r. row_in_range (is_predicate_in symbols) size r ≡ true) row_of told_cells
+            (each-cell (λ c. row_in_range (is_predicate_in symbols) size (row_of c) ≡ true) (numbers_from 1 (length symbols - 1))
+            (λ f number m. lt-ltb (value f number) (if is_predicate_in symbols f then 2 else size) (in-range f number))));
       }
+
+  -- a symbol's value is that of the cell with these arguments
+  cell-there :
+      (fs : List ℕ) (f number : ℕ) → list_any (λ g. g == f) fs ≡ true → number < size ^ arity_in symbols f
+      → list_any (λ (c : Cell). is_row_of f (digits size (arity_in symbols f) number) (row_of c)) (told_of fs) ≡ true
+  cell-there [] f number h m = absurd (true≢false (sym h))
+  cell-there (g ∷ fs) f number h m =
+      ⊎_elim
+      (λ e.
+      any-left (λ (c : Cell). is_row_of f vs (row_of c)) (told_symbol g) (told_of fs)
+      (subst (λ k. list_any (λ (c : Cell). is_row_of f vs (row_of c)) (told_symbol k) ≡ true) (sym (eqb-true g f e)) here))
+      (λ e. any-right (λ (c : Cell). is_row_of f vs (row_of c)) (told_symbol g) (told_of fs) (cell-there fs f number e m))
+      (or_cases (g == f) (list_any (λ k. k == f) fs) h)
+    where
+      vs : List ℕ
+      vs = digits size (arity_in symbols f) number
+
+      here : list_any (λ (c : Cell). is_row_of f vs (row_of c)) (told_symbol f) ≡ true
+      here =
+          any-map (λ (c : Cell). is_row_of f vs (row_of c)) (told_cell f) (numbers_from 0 (size ^ arity_in symbols f))
+          ∙ any-number (λ k. is_row_of f vs (row_of (told_cell f k))) 0 (size ^ arity_in symbols f) number (omega arith) (omega (arith, m))
+          (and_from (f == f) (pointwise ◌==◌ vs vs) (eq-eqb f f refl) (same-there vs))
+
+  pub told-at :
+      (f : ℕ) (vs : List ℕ) → (f == 0) ≡ false → f < length symbols → length vs ≡ arity_in symbols f → AllByRecursion (λ v. v < size) vs
+      → symbol_value told_table f vs ≡ value f (digits_number size vs)
+  told-at f vs z known long below =
+      cond-false (f == 0) 1 (table_value told_rows f vs) z
+      ∙ look-up (λ g us. value g (digits_number size us)) told_rows f vs
+      (each-mapped (λ (r : Row). r.value ≡ value r.symbol (digits_number size r.arguments)) row_of told_cells
+      (each-cell (λ (c : Cell). c.value ≡ value c.symbol (digits_number size c.arguments)) (numbers_from 1 (length symbols - 1))
+      (λ g number m. ap (value g) (sym (number-of-digits size (arity_in symbols g) number some m)))))
+      (any-map (is_row_of f vs) row_of told_cells
+      ∙ subst (λ us. list_any (λ (c : Cell). is_row_of f us (row_of c)) told_cells ≡ true)
+      (subst (λ k. digits size k (digits_number size vs) ≡ vs) long (digits-of-number size vs below))
+      (cell-there (numbers_from 1 (length symbols - 1)) f (digits_number size vs)
+      (any-number (λ g. g == f) 1 (length symbols - 1) f (positive f z) (later f (length symbols) known) (eq-eqb f f refl))
+      (subst (λ k. digits_number size vs < size ^ k) long (digits-number-below size vs below))))
+    where
+      positive : (g : ℕ) → (g == 0) ≡ false → 1 ≤ g
+      positive zero h = absurd (true≢false h)
+      positive (suc g) h = omega arith
+
+      later : (g l : ℕ) → g < l → g < 1 + (l - 1)
+      later g l h = omega (arith, h)
+
+-- ---- the table that is read off a valuation
+
+module _ (symbols : List Symbol) (n : EntryNames) (valuation : Valuation) (some : 1 ≤ n.size) where
+  pub cells-in-order : map place_of_cell (table_cells symbols n valuation) ≡ cell_places symbols n.size
+  cells-in-order = told-in-order symbols n.size (value_at symbols n valuation) some
+
+  abbrev pub table : Interpretation
+  table = record { size = n.size; rows = map row_of (table_cells symbols n valuation) }
+
+  pub table-interprets : IsInterpretation (is_predicate_in symbols) table
+  table-interprets = told-interprets symbols n.size (value_at symbols n valuation) some in-range
     where
       in-range : (f number : ℕ) → value_at symbols n valuation f number < (if is_predicate_in symbols f then 2 else n.size)
       in-range f number = by (is_predicate_in symbols f)
@@ -135,51 +202,10 @@ module _ (symbols : List Symbol) (n : EntryNames) (valuation : Valuation) (some 
           by true = bit (valuation (first + number))
           by false = passing-below (λ v. valuation (value_name first rows_of number v)) 0 n.size n.size some (omega arith)
 
-  -- a symbol's value is that of the cell with these arguments
-  cell-there :
-      (fs : List ℕ) (f number : ℕ) → list_any (λ g. g == f) fs ≡ true → number < n.size ^ arity_in symbols f
-      → list_any (λ (c : Cell). is_row_of f (digits n.size (arity_in symbols f) number) (row_of c)) (cells_of fs) ≡ true
-  cell-there [] f number h m = absurd (true≢false (sym h))
-  cell-there (g ∷ fs) f number h m =
-      ⊎_elim
-      (λ e.
-      any-left (λ (c : Cell). is_row_of f vs (row_of c)) (symbol_cells symbols n valuation g) (cells_of fs)
-      (subst (λ k. list_any (λ (c : Cell). is_row_of f vs (row_of c)) (symbol_cells symbols n valuation k) ≡ true) (sym (eqb-true g f e)) here))
-      (λ e.
-      any-right (λ (c : Cell). is_row_of f vs (row_of c)) (symbol_cells symbols n valuation g) (cells_of fs) (cell-there fs f number e m))
-      (or_cases (g == f) (list_any (λ k. k == f) fs) h)
-    where
-      vs : List ℕ
-      vs = digits n.size (arity_in symbols f) number
-
-      here : list_any (λ (c : Cell). is_row_of f vs (row_of c)) (symbol_cells symbols n valuation f) ≡ true
-      here =
-          any-map (λ (c : Cell). is_row_of f vs (row_of c)) (cell_at symbols n valuation f) (numbers_from 0 (n.size ^ arity_in symbols f))
-          ∙ any-number (λ k. is_row_of f vs (row_of (cell_at symbols n valuation f k))) 0 (n.size ^ arity_in symbols f) number (omega arith) (omega (arith, m))
-          (and_from (f == f) (pointwise ◌==◌ vs vs) (eq-eqb f f refl) (same-there vs))
-
-  pub table-at :
+  table-at :
       (f : ℕ) (vs : List ℕ) → (f == 0) ≡ false → f < length symbols → length vs ≡ arity_in symbols f → AllByRecursion (λ v. v < n.size) vs
       → symbol_value table f vs ≡ value_at symbols n valuation f (digits_number n.size vs)
-  table-at f vs z known long below =
-      cond-false (f == 0) 1 (table_value rows f vs) z
-      ∙ look-up (λ g us. value_at symbols n valuation g (digits_number n.size us)) rows f vs
-      (each-mapped (λ (r : Row). r.value ≡ value_at symbols n valuation r.symbol (digits_number n.size r.arguments)) row_of (table_cells symbols n valuation)
-      (each-cell (λ (c : Cell). c.value ≡ value_at symbols n valuation c.symbol (digits_number n.size c.arguments)) (numbers_from 1 (length symbols - 1))
-      (λ g number m. ap (value_at symbols n valuation g) (sym (number-of-digits n.size (arity_in symbols g) number some m)))))
-      (any-map (is_row_of f vs) row_of (table_cells symbols n valuation)
-      ∙ subst (λ us. list_any (λ (c : Cell). is_row_of f us (row_of c)) (table_cells symbols n valuation) ≡ true)
-      (subst (λ k. digits n.size k (digits_number n.size vs) ≡ vs) long (digits-of-number n.size vs below))
-      (cell-there (numbers_from 1 (length symbols - 1)) f (digits_number n.size vs)
-      (any-number (λ g. g == f) 1 (length symbols - 1) f (positive f z) (later f (length symbols) known) (eq-eqb f f refl))
-      (subst (λ k. digits_number n.size vs < n.size ^ k) long (digits-number-below n.size vs below))))
-    where
-      positive : (g : ℕ) → (g == 0) ≡ false → 1 ≤ g
-      positive zero h = absurd (true≢false h)
-      positive (suc g) h = omega arith
-
-      later : (g l : ℕ) → g < l → g < 1 + (l - 1)
-      later g l h = omega (arith, h)
+  table-at f vs z known long below = told-at symbols n.size (value_at symbols n valuation) some f vs z known long below
 
   -- where each function has one value at each list of arguments, the entries are those of the table
   pub table-agrees : symbols_true symbols n valuation ≡ true → Agrees (use_of symbols) (length symbols) (entries_of valuation n) table

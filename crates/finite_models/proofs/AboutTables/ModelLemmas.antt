@@ -1,14 +1,14 @@
 -- From propositional models to finite models of a form, and back.
-use Rattle.std.proofs.Common.{◌≡◌, ℕ, zero, suc, ◌+◌, ◌<◌, ◌≤◌, nat_lt, Bool, true, false, ◌&&◌, List, [], ◌∷◌, length, map, refl, ap, sym, ◌∙◌, subst, arith, ◌⊎◌, inl, inr}
-use Rattle.std.specs.Prelude.{◌^◌, option_map, unwrap_or, slice_index_or}
+use Rattle.std.proofs.Common.{◌≡◌, ℕ, ◌+◌, ◌<◌, ◌≤◌, Bool, true, false, ◌&&◌, List, [], ◌∷◌, length, map, refl, ap, sym, ◌∙◌, subst, arith, ◌⊎◌, inl, inr}
+use Rattle.std.specs.Prelude.{◌^◌, slice_index_or}
 use Rattle.std.specs.List.{AllByRecursion, list_all}
-use Rattle.std.proofs.lemmas.Bool.{and_parts, and_from, cases_Bool, ne_eqb, lt-ltb, ltb-true, true≢false, cond-true, cond-false}
+use Rattle.std.proofs.lemmas.Bool.{and_parts, and_from, cases_Bool, true≢false, cond-true, cond-false}
 use Rattle.fol_base.specs.Clause.{TreeClause}
 use Rattle.fol_base.specs.Interpretation.{Interpretation, IsInterpretation, HoldsIn}
 use Rattle.fol_base.specs.WellFormed.{are_literals_of}
 use Rattle.sat_core.specs.Clause.{Valuation}
 use Rattle.signature.specs.declared.symbol.Symbol.{Symbol}
-use Rattle.signature.specs.Symbol.{is_predicate_kind, IsSignature}
+use Rattle.signature.specs.Symbol.{IsSignature}
 use Rattle.signature.specs.Form.{ClausalForm}
 use Rattle.kernel_steps.specs.Symbols.{clause_symbols_pass}
 use Rattle.clausal_form.specs.FormFunctions.{is_predicate_in}
@@ -18,26 +18,17 @@ use Rattle.finite_models.specs.Agreement.{Agrees, FlatClausesTellTruth, table_of
 use Rattle.finite_models.specs.Model.{has_arity_in, IsOverSignature, IsModel}
 use Rattle.finite_models.specs.Flattening.{Entries, flat_clause, flat_clause_true}
 use Rattle.finite_models.specs.EntryNames.{AreEntryNames, entries_of}
+use Rattle.finite_models.specs.Constants.{constants_true}
 use Rattle.finite_models.specs.Translation.{ClauseFits, is_function, symbol_true, symbols_true, flat_clauses_true}
 use Rattle.finite_models.proofs.AboutNumbers.ListLemmas.{all-numbers}
 use Rattle.finite_models.proofs.AboutFlattening.ProperLemmas.{ProperLiteral, proper-literals}
 use Rattle.finite_models.proofs.AboutFlattening.HoldingLemmas.{holds-flat}
 use Rattle.finite_models.proofs.AboutFlattening.ReturnLemmas.{flat-holds}
 use Rattle.finite_models.proofs.AboutTables.FitLemmas.{clause-fits}
+use Rattle.finite_models.proofs.AboutTables.SignatureLemmas.{number-within, truth-predicate, function-proper}
 use Rattle.finite_models.proofs.AboutTables.DecodedLemmas.{valuation_in, valuation-agrees, function-has-values}
 use Rattle.finite_models.proofs.AboutTables.CellLemmas.{table-interprets, table-agrees}
-
--- a symbol that the signature has, has a number below its length
-number-within : (symbols : List Symbol) (f k : ℕ) → has_arity_in symbols f k ≡ true → nat_lt f (length symbols) ≡ true
-number-within [] f k h = absurd (true≢false (sym h ∙ past f))
-  where
-    past : (g : ℕ) → has_arity_in [] g k ≡ false
-    past zero = refl
-    past (suc g) = refl
-number-within (s ∷ symbols) zero k h = lt-ltb 0 (suc (length symbols)) (omega arith)
-number-within (s ∷ symbols) (suc f) k h =
-    let low : f < length symbols = ltb-true f (length symbols) (number-within symbols f k h) in
-    lt-ltb (suc f) (suc (length symbols)) (omega (arith, low))
+use Rattle.finite_models.proofs.AboutTables.OrderLemmas.{Ordered, in-order, order-valued}
 
 pub flat_clauses_tell_truth : FlatClausesTellTruth
 flat_clauses_tell_truth symbols entries i c interprets agrees used known =
@@ -48,10 +39,6 @@ flat_clauses_tell_truth symbols entries i c interprets agrees used known =
 
 pub tables_have_the_entries : TablesHaveTheEntries
 tables_have_the_entries symbols n valuation some h = (table-interprets symbols n valuation some, table-agrees symbols n valuation some h)
-
--- the symbol `$true` is a predicate
-truth-predicate : (symbols : List Symbol) → IsSignature symbols → is_predicate_in symbols 0 ≡ true
-truth-predicate symbols signed = ap (λ o. unwrap_or (option_map (λ (s : Symbol). is_predicate_kind s.kind) o) false) signed.truth
 
 pub interpretations_have_valuations : InterpretationsHaveValuations
 interpretations_have_valuations symbols n i signed are size_is interprets =
@@ -70,7 +57,7 @@ interpretations_have_valuations symbols n i signed are size_is interprets =
         cond-false (is_predicate_in symbols f) true
         (is_function n.size (slice_index_or n.firsts.items f 0) (n.size ^ arity_in symbols f) (valuation_in symbols n i are size_is)) e
         ∙ function-has-values symbols n i (valuation_in symbols n i are size_is) agrees size_is interprets f
-        (ne_eqb f 0 (λ z. true≢false (sym (ap (is_predicate_in symbols) z ∙ truth-predicate symbols signed) ∙ e))) known e
+        (function-proper symbols (truth-predicate symbols signed) f e) known e
 
     all-functions : symbols_true symbols n (valuation_in symbols n i are size_is) ≡ true
     all-functions =
@@ -145,17 +132,28 @@ model-found form n valuation over some functions flat =
           hold-all form.symbols (entries_of valuation n) (table_of form.symbols n valuation) form.clauses these.0 these.1 over.used over.known flat;
     }
 
--- and a finite model gives a propositional one
+-- and a finite model gives one with its constants in order, and that a propositional one
 pub no-model :
     (form : ClausalForm) (n : EntryNames) → IsOverSignature form → IsSignature form.symbols → AreEntryNames form.symbols n
-    → ((valuation : Valuation) → (symbols_true form.symbols n valuation && flat_clauses_true (map flat_clause form.clauses) n valuation) ≡ false)
+    → ((valuation : Valuation)
+    → (symbols_true form.symbols n valuation && (constants_true form.symbols n valuation && flat_clauses_true (map flat_clause form.clauses) n valuation))
+    ≡ false)
     → (i : Interpretation) → IsModel form i → i.size ≡ n.size → ⊥
-no-model form n over signed are none i model size_is =
-    let there = interpretations_have_valuations form.symbols n i signed are (sym size_is) model.interprets in
-    let flat : list_all (flat_clause_true i.size (entries_of there.0 n)) (map flat_clause form.clauses) ≡ true =
-    flat-all form.symbols (entries_of there.0 n) i form.clauses model.interprets there.2 over.used over.known model.makes_true in
-    true≢false
-    (sym
-    (and_from (symbols_true form.symbols n there.0) (flat_clauses_true (map flat_clause form.clauses) n there.0) there.1
-    (subst (λ k. list_all (flat_clause_true k (entries_of there.0 n)) (map flat_clause form.clauses) ≡ true) size_is flat))
-    ∙ none there.0)
+no-model form n over signed are none i model same =
+    by (in-order form over signed i model (length form.symbols) (omega arith))
+  where
+    by : Ordered form over signed i.size (length form.symbols) → ⊥
+    by o =
+        let size_is : n.size ≡ o.i.size = sym (o.size_is ∙ same) in
+        let there = interpretations_have_valuations form.symbols n o.i signed are size_is (o.model).interprets in
+        let flat : list_all (flat_clause_true o.i.size (entries_of there.0 n)) (map flat_clause form.clauses) ≡ true =
+        flat-all form.symbols (entries_of there.0 n) o.i form.clauses (o.model).interprets there.2 over.used over.known (o.model).makes_true in
+        let ordered : constants_true form.symbols n there.0 ≡ true =
+        order-valued form.symbols n o.i there.0 there.2 (truth-predicate form.symbols signed) size_is o.order in
+        true≢false
+        (sym
+        (and_from (symbols_true form.symbols n there.0)
+        (constants_true form.symbols n there.0 && flat_clauses_true (map flat_clause form.clauses) n there.0) there.1
+        (and_from (constants_true form.symbols n there.0) (flat_clauses_true (map flat_clause form.clauses) n there.0) ordered
+        (subst (λ k. list_all (flat_clause_true k (entries_of there.0 n)) (map flat_clause form.clauses) ≡ true) (sym size_is) flat)))
+        ∙ none there.0)

@@ -9,7 +9,7 @@ use Rattle.finite_models.specs.Translation.{ClauseFits}
 use Rattle.finite_models.specs.Table.{table_cells}
 use Rattle.finite_models.proofs.AboutTables.CellLemmas.{cells-in-order}
 use Rattle.finite_models.proofs.AboutTables.ModelLemmas.{form-fits}
-use Rattle.finite_models.proofs.AboutTables.SolvedLemmas.{both-added, found-model, found-none}
+use Rattle.finite_models.proofs.AboutTables.SolvedLemmas.{all-of-size, found-model, found-none}
 use Rattle.finite_models.proofs.finding.model_of_size.Goals as goal
 
 pub add_all_instances-requires-clause-fits : goal.add_all_instances-requires-clause-fits
@@ -20,8 +20,9 @@ add_all_instances-requires-clause-fits c =
 
 pub returns-in-Refuted-clause-none : goal.returns-in-Refuted-clause-none
 returns-in-Refuted-clause-none c =
-    let all = both-added (form_of c.args.form.now) c.in_ok-names.names c.args.flat.now c.new-clauses.result c.add_symbols.new.clauses
-    c.add_all_instances.new.clauses c.new-clauses.ensures c.requires.flat c.in_ok-add_symbols.ensures c.in_ok-add_all_instances.ensures in
+    let all = all-of-size (form_of c.args.form.now) c.in_ok-names.names c.args.flat.now c.new-clauses.result c.add_symbols.new.clauses
+    c.add_constants.new.clauses c.add_all_instances.new.clauses c.new-clauses.ensures c.requires.flat c.in_ok-add_symbols.ensures
+    c.in_ok-add_constants.ensures c.in_ok-add_all_instances.ensures in
     found-none (form_of c.args.form.now) c.in_ok-names.names c.args.size c.add_all_instances.new.clauses c.in-Refuted.field-0 c.requires.form
     c.in_ok-names.ensures.signature c.in_ok-names.ensures.names c.in_ok-names.ensures.size all
     (subst (λ (a : Answer). IsRightAnswer c.in_ok-names.names.count c.add_all_instances.new.clauses a) c.in-Refuted.is c.in_ok-solve.ensures.right)
@@ -29,8 +30,9 @@ returns-in-Refuted-clause-none c =
 pub returns-clause-model : goal.returns-clause-model
 returns-clause-model c =
     let some : 1 ≤ c.in_ok-names.names.size = omega (arith, c.in_ok-names.ensures.size, c.requires.size) in
-    let all = both-added (form_of c.args.form.now) c.in_ok-names.names c.args.flat.now c.new-clauses.result c.add_symbols.new.clauses
-    c.add_all_instances.new.clauses c.new-clauses.ensures c.requires.flat c.in_ok-add_symbols.ensures c.in_ok-add_all_instances.ensures in
+    let all = all-of-size (form_of c.args.form.now) c.in_ok-names.names c.args.flat.now c.new-clauses.result c.add_symbols.new.clauses
+    c.add_constants.new.clauses c.add_all_instances.new.clauses c.new-clauses.ensures c.requires.flat c.in_ok-add_symbols.ensures
+    c.in_ok-add_constants.ensures c.in_ok-add_all_instances.ensures in
     found-model (form_of c.args.form.now) c.in_ok-names.names c.in_ok-names.names.count c.add_all_instances.new.clauses c.in-Model.truths
     c.in_ok-table-in-Model.table c.requires.form some all
     (subst (λ (a : Answer). IsRightAnswer c.in_ok-names.names.count c.add_all_instances.new.clauses a) c.in-Model.is c.in_ok-solve.ensures.right)
