@@ -114,6 +114,18 @@ impl<S: Historied> TurnLock<S> {
         unreachable!()
     }
 
+    /// Waits until the history is not `length` long. It begins no turn and shows nothing, so who has nothing to do yet waits without closing
+    /// the gate. Nothing bounds the wait.
+    pub fn wait_past<R: Wait>(&self, rt: &R, length: u64) {
+        for _ in rt.forever() {
+            if self.table.shared.peek(LENGTH) != length {
+                return;
+            }
+            thread::yield_now();
+        }
+        unreachable!()
+    }
+
     /// Ends the turn. The history may only have grown, by entries with keys that were new or that the pass owns. The pass has then seen the whole history, and owns the places that were added.
     pub fn give(&self, turn: Turn<S>) -> Pass<S>
         requires lock { turn.hold.pass.lock ≡ self.now }
