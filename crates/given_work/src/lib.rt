@@ -1,7 +1,7 @@
 //! The work on one given clause, and with it the *given-clause loop* of the prover.
 //!
 //! **The loop** is DISCOUNT's (Denzinger, Kronenburg and Schulz 1997), which E has too: only *active* clauses take part in inferences and in
-//! simplification; a clause that waits does neither. The pool (`pool_core`) holds all clauses and the queue of those that wait; `proving` runs
+//! simplification; a clause that waits does neither. The pool (`pool_core`) holds all clauses and the queue of those that wait; `worker_team` runs
 //! the loop. One round of a worker is:
 //!
 //! 1. **Claim.** The pool picks a waiting clause, the *given clause*: five times of six the lightest, else the oldest. It hands out a ticket

@@ -1,4 +1,0 @@
-pub mod Progress
-pub mod Proved
-pub mod Causes
-pub mod Solving

@@ -1,0 +1,9 @@
+pub mod Turns
+pub mod Passes
+pub mod Backs
+pub mod Workers
+pub mod Jobs
+pub mod Team
+pub mod Solving
+pub mod Proved
+pub mod Causes
