@@ -1,6 +1,7 @@
 -- Texts and pages of a report, and how they are delivered.
 pub mod AnswerLemmas
 pub mod DeliveryLemmas
+pub mod ModelOne
 pub mod NameLemmas
 pub mod OneAnswer
 pub mod PageLemmas

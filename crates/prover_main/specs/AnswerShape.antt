@@ -1,6 +1,9 @@
 -- The answers of a command's stages, in the words of the definitions.
 use Rattle.std.specs.Prelude.{◌≡◌, ⊤, ℕ, List, map, position, Option, None, Some, IsTrue}
+use Rattle.std.specs.Option.{option_copied}
 use Rattle.outside.specs.Library.{Holdings}
+use Rattle.fol_base.specs.Clause.{TreeClause}
+use Rattle.fol_base.specs.Literal.{clause_of}
 use Rattle.tptp_tree.specs.ProblemSize.{HasProblemSize}
 use Rattle.tptp_tree.specs.declared.problem.Annotated.{Annotated}
 use Rattle.tptp_tree.specs.declared.problem.Problem.{Problem}
@@ -21,12 +24,13 @@ use Rattle.pool_history.specs.declared.options.Options.{Options}
 use Rattle.pool_history.specs.declared.outcome.Outcome.{Outcome}
 use Rattle.pool_history.specs.declared.outcome.Outcome.TheVariants.{Refuted, Saturated, Spent, Heavy}
 use Rattle.pool_history.specs.Replay.{replay}
-use Rattle.proving.specs.Proved.{IsProvedFrom}
-use Rattle.proving.specs.declared.proved.Proved.{Proved as ProvedPool}
+use Rattle.worker_team.specs.Proved.{IsProvedFrom}
+use Rattle.worker_team.specs.declared.proved.Proved.{Proved as ProvedPool}
 use Rattle.tstp_writer.specs.ProblemLaws.{ArePrintableEntries}
 use Rattle.prover_main.specs.Outside.{Outside}
 use Rattle.prover_main.specs.Meaning.{IsTheorem}
 use Rattle.prover_main.specs.Problems.{Source, IsUnread, IsUnformed, IsRead}
+use Rattle.prover_main.specs.Parts.{part_clauses, part_numbers, numbers_by, left_out}
 use Rattle.prover_main.specs.ProveReports.{HasCounted, AreSaturatedFor}
 use Rattle.prover_main.specs.CheckReports.{accepted_line, refused_line}
 use Rattle.prover_main.specs.Reports.{read_status, unread_report, unformed_report}
@@ -35,7 +39,10 @@ use Rattle.prover_main.specs.declared.problem.Stop.{Stop}
 use Rattle.prover_main.specs.declared.problem.Stop.TheVariants.{NoMemory, Unread as NotRead, Unformed as NotFormed}
 use Rattle.prover_main.specs.declared.proved.ProveFault.{ProveFault}
 use Rattle.prover_main.specs.declared.proved.ProveFault.TheVariants.{NoMemory as WithoutMemory, Form}
+use Rattle.prover_main.specs.declared.prove.Beginning.{Beginning}
 use Rattle.prover_main.specs.declared.proved.Proved.{Proved}
+use Rattle.prover_main.specs.declared.proved.ProvedPart.{ProvedPart}
+use Rattle.prover_main.specs.declared.words.AxiomSelection.{AxiomSelection}
 
 -- ---- the conditions on a problem
 
@@ -82,30 +89,41 @@ pub data IsJudgement (formulas : List Annotated) (bytes : List ℕ) (status : �
 
 -- ---- proofs
 
--- The problem is within the limits of a clausal form, and the pool of the form's clauses with these options has ended.
-pub record IsProvedForm (formulas : List Annotated) (options : Options) (proved : ProvedPool) : Type 0 where
+-- The problem is within the limits of a clausal form, and the pool of these clauses of the form with these options has ended.
+pub record IsProvedForm (formulas : List Annotated) (inputs : List TreeClause) (options : Options) (proved : ProvedPool) : Type 0 where
   pub within : form_fault formulas ≡ None
-  pub pool : IsProvedFrom (clausal_form formulas).clauses options proved
+  pub pool : IsProvedFrom inputs options proved
 
 -- and the form stands beside it.
 pub record IsProvedProblem (formulas : List Annotated) (options : Options) (proved : Proved) : Type 0 where
   pub form : form_of proved.form ≡ clausal_form formulas
-  pub ended : IsProvedForm formulas options (record { outcome = proved.outcome; pool = proved.pool; bank = proved.bank })
+  pub ended : IsProvedForm formulas (clausal_form formulas).clauses options (record { outcome = proved.outcome; pool = proved.pool; bank = proved.bank })
+
+-- what is kept beside a pool of the clauses with which a proof begins
+abbrev pub IsBeginning : List Annotated → Option AxiomSelection → Beginning → Type 0
+IsBeginning formulas axioms beginning =
+    (option_copied beginning.numbers ≡ numbers_by axioms formulas) × (beginning.left_out ≡ left_out axioms formulas)
 
 -- The meaning of an outcome for the problem. Refuted: finitely many ground instances of its form are true in no interpretation, and where no
 -- formula has a free variable, every finite interpretation that makes the axioms true makes the conjecture true. Saturated: the members are
--- saturated for it. Spent: that number of entries was counted. Heavy: nothing is left to do but the first inference of living awake clauses
--- that was set aside.
-abbrev pub OutcomeSays : List Annotated → Options → PoolRecord → Outcome → Type 0
-OutcomeSays formulas options r Refuted = IsHerbrandRefuted formulas × (IsTrue (are_closed formulas) → IsTheorem formulas)
-OutcomeSays formulas options r Saturated =
-    AreSaturatedFor (clausal_form formulas).symbols (clausal_form formulas).clauses options (members_of r)
-OutcomeSays formulas options r (Spent count) = HasCounted (clausal_form formulas).symbols options count r
-OutcomeSays formulas options r (Heavy place) = IsTrue (is_at_rest r) × (position (is_of_living r) r.set_aside ≡ Some place)
+-- saturated for the clauses with which the pool began. Spent: that number of entries was counted. Heavy: nothing is left to do but the first
+-- inference of living awake clauses that was set aside.
+abbrev pub OutcomeSays : List Annotated → List TreeClause → Options → PoolRecord → Outcome → Type 0
+OutcomeSays formulas inputs options r Refuted = IsHerbrandRefuted formulas × (IsTrue (are_closed formulas) → IsTheorem formulas)
+OutcomeSays formulas inputs options r Saturated = AreSaturatedFor (clausal_form formulas).symbols inputs options (members_of r)
+OutcomeSays formulas inputs options r (Spent count) = HasCounted (clausal_form formulas).symbols options count r
+OutcomeSays formulas inputs options r (Heavy place) = IsTrue (is_at_rest r) × (position (is_of_living r) r.set_aside ≡ Some place)
 
 -- of the pool that has ended
-abbrev pub PoolSays : List Annotated → Options → ProvedPool → Type 0
-PoolSays formulas options proved = OutcomeSays formulas options (replay proved.pool.origin proved.pool.history) proved.outcome
+abbrev pub PoolSays : List Annotated → List TreeClause → Options → ProvedPool → Type 0
+PoolSays formulas inputs options proved = OutcomeSays formulas inputs options (replay proved.pool.origin proved.pool.history) proved.outcome
+
+-- The pool of the clauses that come from the formulas at these places has ended. They stand beside it, with their numbers in the form.
+pub record IsProvedPart (formulas : List Annotated) (kept : List ℕ) (options : Options) (part : ProvedPart) : Type 0 where
+  pub clauses : map clause_of part.restricted.clauses ≡ part_clauses kept formulas
+  pub numbers : part.restricted.numbers ≡ part_numbers kept formulas
+  pub ended : IsProvedForm formulas (part_clauses kept formulas) options part.proved
+  pub says : PoolSays formulas (part_clauses kept formulas) options part.proved
 
 -- The problem has no clausal form, because of the formula of that name; or the program is out of memory.
 abbrev pub IsProveFault : List Annotated → ProveFault → Type 0

@@ -13,10 +13,27 @@ use Rattle.signature.specs.Form.{ClausalForm, clausal_form}
 use Rattle.laws_meaning.specs.Examples.{hiding_alone}
 use Rattle.prover_main.specs.Outside.{Outside}
 use Rattle.prover_main.specs.Run.{Taken, AreWrites, DeliversInPieces}
+use Rattle.prover_main.specs.declared.words.AxiomSelection.{AxiomSelection}
+use Rattle.prover_main.specs.declared.words.ProveOptions.{ProveOptions}
 
 -- a pool that may count n inferences, selects negative literals, and splits clauses
-abbrev pub counting : ℕ → Options
-counting n = record { select = Negative; split = true; inferences = n }
+abbrev pub pool_counting : ℕ → Options
+pool_counting n = record { select = Negative; split = true; inferences = n }
+
+-- works on a pool of all clauses
+abbrev pub all_axioms : Options → ProveOptions
+all_axioms pool = record { pool = pool; axioms = None }
+
+abbrev pub counting : ℕ → ProveOptions
+counting n = all_axioms (pool_counting n)
+
+-- a selection by a tolerance and a depth
+abbrev pub selecting : ℕ → ℕ → AxiomSelection
+selecting tolerance depth = record { tolerance = tolerance; depth = depth }
+
+-- a proof that begins with what it keeps
+abbrev pub counting_selected : ℕ → ℕ → ℕ → ProveOptions
+counting_selected n tolerance depth = record { pool = pool_counting n; axioms = Some (selecting tolerance depth) }
 
 -- `! [X] : ( p(X) | ? [X] : r(X,X) )` with these clauses in place of its own
 abbrev pub hiding_with : List TreeClause → ClausalForm

@@ -12,9 +12,9 @@ use Rattle.prover_main.specs.Problems.{Source, IsFormed, IsRead}
 use Rattle.prover_main.specs.Answer.{IsAnswered}
 use Rattle.prover_main.specs.Rows.{IsValid}
 
--- 3, 8 and 9 are the statuses of a fault of the input
+-- 3, 8 and 9 are the statuses of a fault of the input, and 12 that of a search for a model that gave up
 abbrev pub is_exact : ℕ → Bool
-is_exact status = status == 3 || status == 8 || status == 9
+is_exact status = status == 3 || status == 8 || status == 9 || status == 12
 
 -- The bytes that are told decide what `check` reports,
 abbrev pub ChecksHaveOneReport : Type 0

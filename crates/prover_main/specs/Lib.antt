@@ -4,8 +4,10 @@ pub mod Outside
 pub mod Names
 pub mod Meaning
 pub mod Problems
+pub mod Parts
 pub mod ProveReports
 pub mod CheckReports
+pub mod ModelReports
 pub mod Answer
 pub mod AnswerShape
 pub mod Reports
@@ -13,5 +15,6 @@ pub mod Run
 pub mod Rows
 pub mod ProveRows
 pub mod CheckRows
+pub mod ModelRows
 pub mod Laws
 pub mod Examples

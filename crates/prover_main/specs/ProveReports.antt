@@ -1,5 +1,5 @@
 -- What `prove` reports of the formulas of its problem: the texts, and when each comes.
-use Rattle.std.specs.Prelude.{◌≡◌, ◌≢◌, ◌≤◌, ℕ, Bool, true, false, List, ◌++◌, codes, length, Some, slice_get, All, AllPairs, IsTrue}
+use Rattle.std.specs.Prelude.{◌≡◌, ◌≢◌, ◌≤◌, ◌<◌, ℕ, Bool, true, false, List, ◌++◌, codes, length, Some, slice_get, All, AllPairs, IsTrue}
 use Rattle.std.specs.Fmt.{decimal}
 use Rattle.fol_base.specs.Clause.{TreeClause}
 use Rattle.fol_base.specs.Symbols.{FunctionSymbols}
@@ -31,7 +31,9 @@ use Rattle.pool_writer.specs.Refuted.{IsRefutationText}
 use Rattle.pool_writer.specs.Saturation.{saturation_text}
 use Rattle.prover_main.specs.Meaning.{IsTheorem}
 use Rattle.prover_main.specs.Names.{shown}
-use Rattle.prover_main.specs.Reports.{status_line, printed_report}
+use Rattle.prover_main.specs.Parts.{inputs_by, lines_by, left_out}
+use Rattle.prover_main.specs.Reports.{status_line, output_line, printed_report}
+use Rattle.prover_main.specs.declared.words.ProveOptions.{ProveOptions}
 
 -- ---- the texts
 
@@ -40,6 +42,7 @@ abbrev pub refutation_word : Bool → List ℕ
 refutation_word true = codes "Theorem"
 refutation_word false = codes "Unsatisfiable"
 
+-- of a saturated set, and of a model
 abbrev pub saturation_word : Bool → List ℕ
 saturation_word true = codes "CounterSatisfiable"
 saturation_word false = codes "Satisfiable"
@@ -64,6 +67,15 @@ spent_report file count allowed = status_line (codes "GaveUp") file ++ spent_lin
 
 abbrev pub heavy_report : List ℕ → List ℕ → List ℕ
 heavy_report file key = status_line (codes "GaveUp") file ++ heavy_line key
+
+abbrev pub left_out_line : ℕ → ℕ → List ℕ
+left_out_line left all = codes "% left out " ++ decimal left ++ codes " of " ++ decimal all ++ codes "\n"
+
+-- the members of a set that is saturated for a part of the formulas: so many of them were left out
+abbrev pub part_saturated_report : List ℕ → ℕ → ℕ → List ℕ → List ℕ
+part_saturated_report file left all members =
+    status_line (codes "Unknown") file ++ left_out_line left all ++ output_line (codes "start") (codes "Saturation") file ++ members
+    ++ output_line (codes "end") (codes "Saturation") file
 
 -- ---- what a pool says of the clauses with which it begins, over the symbols of a signature
 
@@ -131,29 +143,36 @@ pub record IsSaturation (symbols : List Symbol) (inputs : List TreeClause) (opti
 
 -- ---- the reports
 
--- The derivation is the text of those lines of a lawful history of the clausal form that its empty clause needs, with the problem's file as
--- it is shown. It is accepted, and some finite list of ground instances of the form is true in no interpretation: the conjecture follows
--- from the axioms, and without one the axioms are unsatisfiable.
-pub record IsRefuted (file : List ℕ) (formulas : List Annotated) (options : Options) (derivation : List ℕ) : Type 0 where
+-- The derivation is the text of those lines of a lawful history that its empty clause needs, as lines of a derivation from the whole clausal form,
+-- with the problem's file as it is shown. It is accepted, and some finite list of ground instances of the form is true in no interpretation: the
+-- conjecture follows from the axioms, and without one the axioms are unsatisfiable. The history began with the clauses of the formulas that are kept.
+pub record IsRefuted (file : List ℕ) (formulas : List Annotated) (options : ProveOptions) (derivation : List ℕ) : Type 0 where
   pub r : PoolRecord
-  pub history : HasHistory (clausal_form formulas).symbols (clausal_form formulas).clauses options outcome.Refuted r
-  pub printed : IsRefutationText (shown file) formulas r.lines derivation
+  pub history : HasHistory (clausal_form formulas).symbols (inputs_by options.axioms formulas) options.pool outcome.Refuted r
+  pub printed : IsRefutationText (shown file) formulas (lines_by options.axioms formulas r.lines) derivation
   pub count : ℕ
   pub accepted : IsAcceptedDerivation formulas derivation count
   pub herbrand : IsHerbrandRefuted formulas
   pub theorem : IsTheorem formulas
 
--- The report of a refutation, of a saturated set, of the entries that were counted, or of an inference that is too heavy.
-pub data IsProofReport (file : List ℕ) (options : Options) (formulas : List Annotated) (status : ℕ) (text : List ℕ) : Type 0 where
+-- The report of a refutation, of a saturated set, where formulas were left out of a set that is saturated for the others, of the entries that
+-- were counted, or of an inference that is too heavy.
+pub data IsProofReport (file : List ℕ) (options : ProveOptions) (formulas : List Annotated) (status : ℕ) (text : List ℕ) : Type 0 where
   told_refuted :
       (derivation : List ℕ) → IsRefuted file formulas options derivation → status ≡ 0
       → text ≡ refuted_report file (has_conjecture formulas) derivation → IsProofReport file options formulas status text
   told_saturated :
-      (members : List ℕ) → IsSaturation (clausal_form formulas).symbols (clausal_form formulas).clauses options members → status ≡ 1
+      (members : List ℕ) → left_out options.axioms formulas ≡ 0
+      → IsSaturation (clausal_form formulas).symbols (clausal_form formulas).clauses options.pool members → status ≡ 1
       → text ≡ saturated_report file (has_conjecture formulas) members → IsProofReport file options formulas status text
+  told_part_saturated :
+      (members : List ℕ) → 0 < left_out options.axioms formulas
+      → IsSaturation (clausal_form formulas).symbols (inputs_by options.axioms formulas) options.pool members → status ≡ 10
+      → text ≡ part_saturated_report file (left_out options.axioms formulas) (length formulas) members
+      → IsProofReport file options formulas status text
   told_spent :
-      (count : ℕ) → IsSpent (clausal_form formulas).symbols (clausal_form formulas).clauses options count → status ≡ 2
-      → text ≡ spent_report file count options.inferences → IsProofReport file options formulas status text
+      (count : ℕ) → IsSpent (clausal_form formulas).symbols (inputs_by options.axioms formulas) options.pool count → status ≡ 2
+      → text ≡ spent_report file count options.pool.inferences → IsProofReport file options formulas status text
   told_heavy :
-      (key : List ℕ) → IsHeavy (clausal_form formulas).symbols (clausal_form formulas).clauses options key → status ≡ 2
+      (key : List ℕ) → IsHeavy (clausal_form formulas).symbols (inputs_by options.axioms formulas) options.pool key → status ≡ 2
       → text ≡ heavy_report file key → IsProofReport file options formulas status text

@@ -100,4 +100,4 @@ abbrev pub memory_out_report : List ℕ → List ℕ
 memory_out_report file = status_line (codes "MemoryOut") file
 
 abbrev pub usage_report : List ℕ
-usage_report = codes "usage: prove FILE [--inferences=N] [--tptp=DIR] [--select=none|negative] [--split=on|off]\n       check FILE DERIVATION [--tptp=DIR]\n"
+usage_report = codes "usage: prove FILE [--workers=K] [--inferences=N] [--tptp=DIR] [--select=none|negative] [--split=on|off] [--tolerance=T --depth=D]\n       check FILE DERIVATION [--tptp=DIR]\n       model FILE [--size=S] [--tptp=DIR]\n"

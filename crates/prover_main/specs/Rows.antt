@@ -1,6 +1,6 @@
 -- The table of answers: what each status of a run says of the words of its command line, what the library tells of the run, and what the
 -- sink took. A write that fails, or out of memory, may take the place of each other status. Here are the rows of all commands. Those of one
--- command stand by themselves: ProveRows, CheckRows.
+-- command stand by themselves: ProveRows, CheckRows, ModelRows.
 use Rattle.std.specs.Prelude.{◌≡◌, ◌⊎◌, ℕ, List, Some, None}
 use Rattle.outside.specs.Faults.{Rose}
 use Rattle.outside.specs.Sink.{with_bytes, HasPrefixAfter}
@@ -12,10 +12,10 @@ use Rattle.tptp_problem.specs.Problem.{IsProblemFault}
 use Rattle.clausal_form.specs.FormFunctions.{IsHerbrandRefuted}
 use Rattle.clausal_form.specs.DerivationTexts.{IsAcceptedDerivation}
 use Rattle.clausal_form.specs.declared.fault.FormCause.{FormCause}
-use Rattle.pool_history.specs.declared.options.Options.{Options}
 use Rattle.prover_main.specs.Outside.{Outside, IsTold}
 use Rattle.prover_main.specs.Meaning.{IsTheorem}
 use Rattle.prover_main.specs.Words.{Command, prove, check, command_of}
+use Rattle.prover_main.specs.declared.words.ProveOptions.{ProveOptions}
 use Rattle.prover_main.specs.declared.status.TheConstants.{SINK_FAILED, USAGE_SHOWN, MEMORY_OUT}
 use Rattle.prover_main.specs.Problems.{Source, IsUnformed, IsFormed, OfFormed, IsRead}
 use Rattle.prover_main.specs.CheckReports.{IsLoaded, IsUnloaded}
@@ -155,12 +155,13 @@ pub data IsSettled (outside : Outside) (source : Source) (text : List ℕ) (stat
       (formulas : List Annotated) → status ≡ 9 → IsFormed (IsRead outside source) formulas
       → ((lines : ℕ) → IsAcceptedDerivation formulas text lines → ⊥) → IsSettled outside source text status
 
--- Where the library tells, nothing failed and nothing is wrong with the problem, `prove` ends with 0, 1 or 2, and `check` with 0 or 9 by the
--- text of its derivation; or the run is cut.
+-- Where the library tells, nothing failed and nothing is wrong with the problem, `prove` ends with 0, 1, 2 or 10, and `check` with 0 or 9 by the
+-- text of its derivation; or the run is cut. (By `PartSaturatedRow` 10 wants formulas that are left out. That `model` answers is in `ModelRow`.)
 pub record CompleteRow (words : List (List ℕ)) (outside : Outside) (status : ℕ) : Type 0 where
   pub proves :
-      (source : Source) (options : Options) → IsTold outside → command_of words ≡ Some (prove source.file source.root options)
-      → IsValid outside source → (status ≡ 0) ⊎ ((status ≡ 1) ⊎ ((status ≡ 2) ⊎ IsCut status))
+      (source : Source) (options : ProveOptions) (workers : ℕ) → IsTold outside
+      → command_of words ≡ Some (prove source.file source.root options workers)
+      → IsValid outside source → (status ≡ 0) ⊎ ((status ≡ 1) ⊎ ((status ≡ 2) ⊎ ((status ≡ 10) ⊎ IsCut status)))
   pub checks :
       (source : Source) (derivation text : List ℕ) → IsTold outside → command_of words ≡ Some (check source.file derivation source.root)
       → IsValid outside source → IsLoaded outside derivation text → IsSettled outside source text status ⊎ IsCut status

@@ -1,12 +1,14 @@
 -- The words after a command as the program counts them: none, one, two, or more, or an empty one; and its values.
-use Rattle.std.specs.Prelude.{⊤, ℕ, IsTrue, List, fold, Option, if◌then◌else◌}
+use Rattle.std.specs.Prelude.{◌≤◌, ⊤, ℕ, IsTrue, List, fold, Option, if◌then◌else◌}
 use Rattle.std.specs.Borrow.{Bor}
 use Rattle.std.specs.Option.{option_map}
 use Rattle.pool_history.specs.Inputs.{IsLimit}
-use Rattle.prover_main.specs.Words.{Given as GivenOptions, Command as Commanded, prove, check, is_filled, Files, one_file, two_files, other_files}
+use Rattle.worker_team.specs.declared.team.TheConstants.{MOST_WORKERS}
+use Rattle.prover_main.specs.Words.{Given as GivenOptions, Command as Commanded, prove, check, model, is_filled, Files, one_file, two_files, other_files}
 use Rattle.prover_main.specs.declared.words.Command.{Command}
-use Rattle.prover_main.specs.declared.words.Command.TheVariants.{Prove, Check}
+use Rattle.prover_main.specs.declared.words.Command.TheVariants.{Prove, Check, Model}
 use Rattle.prover_main.specs.declared.words.Given.{Given}
+use Rattle.prover_main.specs.declared.words.TheConstants.{MOST_SIZE}
 use Rattle.prover_main.specs.declared.words.FileWords.{FileWords}
 use Rattle.prover_main.specs.declared.words.FileWords.TheVariants.{None as NoWord, One, Two, More}
 
@@ -44,11 +46,21 @@ abbrev pub lent : Option (Bor (List ℕ)) → Option (List ℕ)
 lent o = option_map (λ x. x.now) o
 
 abbrev pub given_meant : Given → GivenOptions
-given_meant o = record { inferences = o.inferences; select = o.select; split = o.split; root = lent o.root }
+given_meant o = record {
+  workers = o.workers;
+  inferences = o.inferences;
+  select = o.select;
+  split = o.split;
+  root = lent o.root;
+  tolerance = o.tolerance;
+  depth = o.depth;
+  size = o.size;
+}
 
 abbrev pub command_meant : Command → Commanded
-command_meant (Prove file root options) = prove file.now (lent root) options
+command_meant (Prove file root options workers) = prove file.now (lent root) options workers
 command_meant (Check file derivation root) = check file.now derivation.now (lent root)
+command_meant (Model file root most) = model file.now (lent root) most
 
 -- file words that are counted so
 abbrev pub files_by : FewWords → Files
@@ -56,7 +68,9 @@ files_by (one_word file) = one_file file
 files_by (two_words file second) = two_files file second
 files_by few = other_files
 
--- the options are such as a pool takes, and the file has a name
+-- the options are such as a pool takes, the workers are as many as a team may have, and the file has a name; the largest size is one that the search
+-- takes
 abbrev pub IsFit : Commanded → Type 0
-IsFit (prove file root options) = IsLimit options × IsTrue (is_filled file)
+IsFit (prove file root options workers) = IsLimit options.pool × ((1 ≤ workers) × (workers ≤ MOST_WORKERS)) × IsTrue (is_filled file)
 IsFit (check file derivation root) = ⊤
+IsFit (model file root most) = (1 ≤ most) × (most ≤ MOST_SIZE)

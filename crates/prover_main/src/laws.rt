@@ -11,24 +11,29 @@ ghost use Rattle.tptp_reader.specs.declared.cause.Form.TheVariants.{Typed, RoleF
 ghost use Rattle.tptp_reader.specs.declared.cause.ReadCause.TheVariants as read;
 ghost use Rattle.tstp_checker.specs.declared.cause.Cause.TheVariants as line;
 ghost use Rattle.literal_selection.specs.declared.choice.Selection.TheVariants.{Negative, Nothing};
-ghost use Rattle.prover_main.specs.Words.{command_of, prove, check, usage_text};
+ghost use Rattle.prover_main.specs.Words.{command_of, prove, check, model, usage_text};
 ghost use Rattle.prover_main.specs.Names.{shown, problem_name};
 ghost use Rattle.signature.specs.Examples.{clause, fof_axiom};
 ghost use Rattle.signature.specs.Form.{clausal_form};
 ghost use Rattle.laws_meaning.specs.Meaning.{has_conjecture};
+ghost use Rattle.finite_models.specs.Model.{FormsAreOverSignatures};
+ghost use Rattle.finite_models.specs.declared.finding.TheConstants.{MOST_MEASURE};
 ghost use Rattle.laws_meaning.specs.Examples.{hiding_alone, every_p, some_p, contradiction, proving};
 ghost use Rattle.prover_main.specs.Meaning.{FormMeans, IsTheorem};
 ghost use Rattle.prover_main.specs.Reports.{read_status, read_status_word, unread_report, unformed_report, lost_report, memory_out_report, usage_report, read_word, form_word, limit_word};
-ghost use Rattle.prover_main.specs.ProveReports.{refuted_report, saturated_report, spent_report, heavy_report};
+ghost use Rattle.prover_main.specs.ProveReports.{refuted_report, saturated_report, part_saturated_report, spent_report, heavy_report};
 ghost use Rattle.prover_main.specs.CheckReports.{accepted_line, refused_line, cause_word};
+ghost use Rattle.prover_main.specs.ModelReports.{found_report, no_model_report, too_large_report};
 ghost use Rattle.prover_main.specs.Outside.{IsTold};
 ghost use Rattle.prover_main.specs.Laws.{is_exact, ChecksHaveOneReport, FaultsAreTheOnlyReport, FormedIsValid, ReadProblemsAreClosed, ReadProblemsArePrintable};
-ghost use Rattle.prover_main.specs.Examples.{counting, formula_in, hiding_with, holding_nothing, taking, proving_row, AreWritesBy, DeliversInPiecesBy};
+ghost use Rattle.prover_main.specs.Examples.{all_axioms, counting, counting_selected, formula_in, hiding_with, holding_nothing, taking, proving_row, AreWritesBy, DeliversInPiecesBy};
 ghost use Rattle.prover_main.specs.Rows.{UsageRow, TheoremRow, ReadFaultRow, LoadFaultRow, LostOutputRow, MemoryOutRow};
-ghost use Rattle.prover_main.specs.ProveRows.{SaturatedRow, GaveUpRow};
+ghost use Rattle.prover_main.specs.Parts.{NothingLeftOutIsWhole};
+ghost use Rattle.prover_main.specs.ProveRows.{SaturatedRow, PartSaturatedRow, GaveUpRow};
 ghost use Rattle.prover_main.specs.CheckRows.{CheckedRow};
+ghost use Rattle.prover_main.specs.ModelRows.{ModelRow};
 ghost use Rattle.prover_main.specs.Run.{IsDue};
-ghost use Rattle.prover_main.specs.declared.status.TheConstants.{PROVED, SATURATED, GAVE_UP, INPUT_ERROR, LOAD_FAILED, SINK_FAILED, USAGE_SHOWN, MEMORY_OUT, INAPPROPRIATE, REFUSED};
+ghost use Rattle.prover_main.specs.declared.status.TheConstants.{PROVED, SATURATED, GAVE_UP, INPUT_ERROR, LOAD_FAILED, SINK_FAILED, USAGE_SHOWN, MEMORY_OUT, INAPPROPRIATE, REFUSED, PART_SATURATED, MODEL_FOUND, NO_MODEL};
 
 use clausal_form::laws::texts_have_one_answer;
 
@@ -52,27 +57,47 @@ pub fn formed_problems_are_valid()
     ensures { FormedIsValid }
 {}
 
+/// Where an axiom selection leaves nothing out, a proof begins with the whole clausal form.
+pub fn nothing_left_out_is_whole()
+    ensures { NothingLeftOutIsWhole }
+{}
+
+/// Finite models can be sought of the clausal form of each problem: its symbols are in its signature, each with its kind and its number of
+/// arguments.
+pub fn forms_are_over_signatures()
+    ensures { FormsAreOverSignatures }
+{}
+
 /// Words that are a command: options stand in any place after it.
 pub fn command_examples()
-    ensures plain { command_of (codes "prove" ∷ codes "a" ∷ []) ≡ Some (prove (codes "a") None (counting 100000)) }
-    ensures root { command_of (codes "prove" ∷ codes "--tptp=D" ∷ codes "a" ∷ []) ≡ Some (prove (codes "a") (Some (codes "D")) (counting 100000)) }
-    ensures least { command_of (codes "prove" ∷ codes "a" ∷ codes "--inferences=1" ∷ []) ≡ Some (prove (codes "a") None (counting 1)) }
+    ensures plain { command_of (codes "prove" ∷ codes "a" ∷ []) ≡ Some (prove (codes "a") None (counting 100000) 1) }
+    ensures root { command_of (codes "prove" ∷ codes "--tptp=D" ∷ codes "a" ∷ []) ≡ Some (prove (codes "a") (Some (codes "D")) (counting 100000) 1) }
+    ensures least { command_of (codes "prove" ∷ codes "a" ∷ codes "--inferences=1" ∷ []) ≡ Some (prove (codes "a") None (counting 1) 1) }
     ensures most { command_of (codes "prove" ∷ codes "--inferences=1000000" ∷ codes "--tptp=D" ∷ codes "a" ∷ [])
-        ≡ Some (prove (codes "a") (Some (codes "D")) (counting 1000000)) }
-    ensures negative { command_of (codes "prove" ∷ codes "a" ∷ codes "--select=negative" ∷ []) ≡ Some (prove (codes "a") None (counting 100000)) }
+        ≡ Some (prove (codes "a") (Some (codes "D")) (counting 1000000) 1) }
+    ensures negative { command_of (codes "prove" ∷ codes "a" ∷ codes "--select=negative" ∷ []) ≡ Some (prove (codes "a") None (counting 100000) 1) }
     ensures nothing { command_of (codes "prove" ∷ codes "--select=none" ∷ codes "a" ∷ codes "--inferences=5" ∷ [])
-        ≡ Some (prove (codes "a") None (record { select = Nothing; split = true; inferences = 5 })) }
-    ensures split { command_of (codes "prove" ∷ codes "a" ∷ codes "--split=on" ∷ []) ≡ Some (prove (codes "a") None (counting 100000)) }
+        ≡ Some (prove (codes "a") None (all_axioms (record { select = Nothing; split = true; inferences = 5 })) 1) }
+    ensures split { command_of (codes "prove" ∷ codes "a" ∷ codes "--split=on" ∷ []) ≡ Some (prove (codes "a") None (counting 100000) 1) }
     ensures whole { command_of (codes "prove" ∷ codes "--split=off" ∷ codes "a" ∷ [])
-        ≡ Some (prove (codes "a") None (record { select = Negative; split = false; inferences = 100000 })) }
+        ≡ Some (prove (codes "a") None (all_axioms (record { select = Negative; split = false; inferences = 100000 })) 1) }
+    ensures least_selection { command_of (codes "prove" ∷ codes "--tolerance=100" ∷ codes "a" ∷ codes "--depth=1" ∷ [])
+        ≡ Some (prove (codes "a") None (counting_selected 100000 100 1) 1) }
+    ensures most_selection { command_of (codes "prove" ∷ codes "a" ∷ codes "--depth=50" ∷ codes "--tolerance=1000" ∷ codes "--inferences=5" ∷ [])
+        ≡ Some (prove (codes "a") None (counting_selected 5 1000 50) 1) }
+    ensures one { command_of (codes "prove" ∷ codes "--workers=1" ∷ codes "a" ∷ []) ≡ Some (prove (codes "a") None (counting 100000) 1) }
+    ensures team { command_of (codes "prove" ∷ codes "a" ∷ codes "--inferences=5" ∷ codes "--workers=16" ∷ [])
+        ≡ Some (prove (codes "a") None (counting 5) 16) }
     ensures checked { command_of (codes "check" ∷ codes "a" ∷ codes "d" ∷ []) ≡ Some (check (codes "a") (codes "d") None) }
     ensures checked_with_root { command_of (codes "check" ∷ codes "a" ∷ codes "d" ∷ codes "--tptp=D" ∷ [])
         ≡ Some (check (codes "a") (codes "d") (Some (codes "D"))) }
+    ensures modelled { command_of (codes "model" ∷ codes "a" ∷ []) ≡ Some (model (codes "a") None 4) }
+    ensures modelled_to { command_of (codes "model" ∷ codes "--size=8" ∷ codes "a" ∷ codes "--tptp=D" ∷ []) ≡ Some (model (codes "a") (Some (codes "D")) 8) }
 {}
 
 /// Words that are usage: another command; a number of files that isn't the command's, or one that is empty; an option that isn't
-/// the command's, stands twice, has no value, has no number from 1 to 1,000,000 in plain digits, names no mode, or is neither
-/// `on` nor `off`.
+/// the command's, stands twice, has no value, has no number within its limits in plain digits, names no mode, is neither
+/// `on` nor `off`, or is a tolerance or a depth that stands alone.
 pub fn usage_examples()
     ensures none { command_of [] ≡ None }
     ensures other { command_of (codes "bench" ∷ codes "1" ∷ []) ≡ None }
@@ -87,7 +112,7 @@ pub fn usage_examples()
     ensures no_root { command_of (codes "prove" ∷ codes "a" ∷ codes "--tptp=" ∷ []) ≡ None }
     ensures no_number { command_of (codes "prove" ∷ codes "a" ∷ codes "--inferences=" ∷ []) ≡ None }
     ensures dash { command_of (codes "prove" ∷ codes "a" ∷ codes "-" ∷ []) ≡ None }
-    ensures unknown { command_of (codes "prove" ∷ codes "a" ∷ codes "--workers=2" ∷ []) ≡ None }
+    ensures unknown { command_of (codes "prove" ∷ codes "a" ∷ codes "--threads=2" ∷ []) ≡ None }
     ensures twice { command_of (codes "prove" ∷ codes "--inferences=1" ∷ codes "a" ∷ codes "--inferences=1" ∷ []) ≡ None }
     ensures two_roots { command_of (codes "prove" ∷ codes "--tptp=D" ∷ codes "a" ∷ codes "--tptp=E" ∷ []) ≡ None }
     ensures two_modes { command_of (codes "prove" ∷ codes "a" ∷ codes "--select=none" ∷ codes "--select=none" ∷ []) ≡ None }
@@ -97,11 +122,31 @@ pub fn usage_examples()
     ensures no_split { command_of (codes "prove" ∷ codes "a" ∷ codes "--split" ∷ []) ≡ None }
     ensures other_split { command_of (codes "prove" ∷ codes "a" ∷ codes "--split=yes" ∷ []) ≡ None }
     ensures check_selects { command_of (codes "check" ∷ codes "a" ∷ codes "d" ∷ codes "--select=none" ∷ []) ≡ None }
+    ensures tolerance_alone { command_of (codes "prove" ∷ codes "a" ∷ codes "--tolerance=100" ∷ []) ≡ None }
+    ensures depth_alone { command_of (codes "prove" ∷ codes "--depth=1" ∷ codes "a" ∷ []) ≡ None }
+    ensures two_tolerances { command_of
+        (codes "prove" ∷ codes "a" ∷ codes "--tolerance=100" ∷ codes "--depth=1" ∷ codes "--tolerance=100" ∷ []) ≡ None }
+    ensures two_depths { command_of (codes "prove" ∷ codes "a" ∷ codes "--depth=1" ∷ codes "--depth=1" ∷ codes "--tolerance=100" ∷ []) ≡ None }
+    ensures low_tolerance { command_of (codes "prove" ∷ codes "a" ∷ codes "--tolerance=99" ∷ codes "--depth=1" ∷ []) ≡ None }
+    ensures high_tolerance { command_of (codes "prove" ∷ codes "a" ∷ codes "--tolerance=1001" ∷ codes "--depth=1" ∷ []) ≡ None }
+    ensures no_depth { command_of (codes "prove" ∷ codes "a" ∷ codes "--tolerance=100" ∷ codes "--depth=0" ∷ []) ≡ None }
+    ensures too_deep { command_of (codes "prove" ∷ codes "a" ∷ codes "--tolerance=100" ∷ codes "--depth=51" ∷ []) ≡ None }
+    ensures check_has_no_axioms { command_of (codes "check" ∷ codes "a" ∷ codes "d" ∷ codes "--tolerance=100" ∷ codes "--depth=1" ∷ []) ≡ None }
     ensures no_inferences { command_of (codes "prove" ∷ codes "a" ∷ codes "--inferences=0" ∷ []) ≡ None }
     ensures too_many { command_of (codes "prove" ∷ codes "a" ∷ codes "--inferences=1000001" ∷ []) ≡ None }
     ensures leading_zero { command_of (codes "prove" ∷ codes "a" ∷ codes "--inferences=01" ∷ []) ≡ None }
+    ensures no_size { command_of (codes "model" ∷ codes "a" ∷ codes "--size=0" ∷ []) ≡ None }
+    ensures too_large { command_of (codes "model" ∷ codes "a" ∷ codes "--size=9" ∷ []) ≡ None }
+    ensures two_sizes { command_of (codes "model" ∷ codes "a" ∷ codes "--size=2" ∷ codes "--size=2" ∷ []) ≡ None }
+    ensures prove_sizes { command_of (codes "prove" ∷ codes "a" ∷ codes "--size=2" ∷ []) ≡ None }
+    ensures model_counts { command_of (codes "model" ∷ codes "a" ∷ codes "--inferences=5" ∷ []) ≡ None }
+    ensures two_problems { command_of (codes "model" ∷ codes "a" ∷ codes "b" ∷ []) ≡ None }
     ensures sign { command_of (codes "prove" ∷ codes "a" ∷ codes "--inferences=+1" ∷ []) ≡ None }
     ensures letter { command_of (codes "prove" ∷ codes "a" ∷ codes "--inferences=1x" ∷ []) ≡ None }
+    ensures two_teams { command_of (codes "prove" ∷ codes "a" ∷ codes "--workers=2" ∷ codes "--workers=2" ∷ []) ≡ None }
+    ensures no_workers { command_of (codes "prove" ∷ codes "a" ∷ codes "--workers=0" ∷ []) ≡ None }
+    ensures too_many_workers { command_of (codes "prove" ∷ codes "a" ∷ codes "--workers=17" ∷ []) ≡ None }
+    ensures check_alone { command_of (codes "check" ∷ codes "a" ∷ codes "d" ∷ codes "--workers=2" ∷ []) ≡ None }
 {}
 
 /// The usage text has a line for each command of the table, with its files and its options.
@@ -170,22 +215,33 @@ pub fn report_examples()
     ensures refused { refused_line 8 line.Rule ≡ codes "% refused at line 8: Rule\n" }
     ensures counter_satisfiable { saturated_report (codes "dir/q.p") true (codes "cnf(s0,plain,p(X0)).\n")
         ≡ codes "% SZS status CounterSatisfiable for q\n% SZS output start Saturation for q\ncnf(s0,plain,p(X0)).\n% SZS output end Saturation for q\n" }
+    ensures unknown { part_saturated_report (codes "dir/g17.p") 2 3 (codes "cnf(s0,plain,~p(b)).\n")
+        ≡ codes "% SZS status Unknown for g17\n% left out 2 of 3\n% SZS output start Saturation for g17\ncnf(s0,plain,~p(b)).\n% SZS output end Saturation for g17\n" }
     ensures satisfiable { saturated_report (codes "r2.p") false []
         ≡ codes "% SZS status Satisfiable for r2\n% SZS output start Saturation for r2\n% SZS output end Saturation for r2\n" }
+    ensures model { found_report (codes "r4.p") false (codes "% size 1\n% p(0) = 1\n")
+        ≡ codes "% SZS status Satisfiable for r4\n% SZS output start FiniteModel for r4\n% size 1\n% p(0) = 1\n% SZS output end FiniteModel for r4\n" }
+    ensures no_model { no_model_report (codes "m18.p") 1 ≡ codes "% SZS status GaveUp for m18\n% no model of size 1 to 1\n" }
+    ensures too_large { too_large_report (codes "m18.p") 2 ≡ codes "% SZS status GaveUp for m18\n% too large at size 2\n" }
 {}
 
 /// The statuses, those of faults of reading, and which of all come exactly for their causes.
 pub fn status_examples()
-    ensures all { PROVED ∷ SATURATED ∷ GAVE_UP ∷ INPUT_ERROR ∷ LOAD_FAILED ∷ SINK_FAILED ∷ USAGE_SHOWN ∷ MEMORY_OUT ∷ INAPPROPRIATE ∷ REFUSED ∷ []
-        ≡ 0 ∷ 1 ∷ 2 ∷ 3 ∷ 4 ∷ 5 ∷ 6 ∷ 7 ∷ 8 ∷ 9 ∷ [] }
+    ensures all { PROVED ∷ SATURATED ∷ GAVE_UP ∷ INPUT_ERROR ∷ LOAD_FAILED ∷ SINK_FAILED ∷ USAGE_SHOWN ∷ MEMORY_OUT ∷ INAPPROPRIATE ∷ REFUSED ∷ PART_SATURATED ∷ MODEL_FOUND ∷ NO_MODEL ∷ []
+        ≡ 0 ∷ 1 ∷ 2 ∷ 3 ∷ 4 ∷ 5 ∷ 6 ∷ 7 ∷ 8 ∷ 9 ∷ 10 ∷ 11 ∷ 12 ∷ [] }
     ensures unread { map read_status
         (read.BadByte ∷ read.Unclosed ∷ read.Syntax ∷ read.FreeVariable ∷ read.Role ∷ read.SecondConjecture ∷ read.SelectionMissing
         ∷ read.IncludeDepth ∷ read.TooLong ∷ read.Nesting ∷ read.Load ∷ [])
         ≡ 3 ∷ 3 ∷ 3 ∷ 3 ∷ 3 ∷ 3 ∷ 3 ∷ 3 ∷ 3 ∷ 3 ∷ 4 ∷ [] }
     ensures forms { map (λ form. read_status (read.Inappropriate form)) (Typed ∷ RoleForm ∷ Number ∷ Distinct ∷ Dollar ∷ [])
         ≡ 8 ∷ 8 ∷ 8 ∷ 8 ∷ 8 ∷ [] }
-    ensures exact { map is_exact (0 ∷ 1 ∷ 2 ∷ 3 ∷ 4 ∷ 5 ∷ 6 ∷ 7 ∷ 8 ∷ 9 ∷ [])
-        ≡ false ∷ false ∷ false ∷ true ∷ false ∷ false ∷ false ∷ false ∷ true ∷ true ∷ [] }
+    ensures exact { map is_exact (0 ∷ 1 ∷ 2 ∷ 3 ∷ 4 ∷ 5 ∷ 6 ∷ 7 ∷ 8 ∷ 9 ∷ 10 ∷ 11 ∷ 12 ∷ [])
+        ≡ false ∷ false ∷ false ∷ true ∷ false ∷ false ∷ false ∷ false ∷ true ∷ true ∷ false ∷ false ∷ true ∷ [] }
+{}
+
+/// The most that the clauses of a size may measure, where a model of it is searched for.
+pub fn measure_limit()
+    ensures { MOST_MEASURE ≡ 4000000 }
 {}
 
 /// A problem has a conjecture in whatever place it stands.
@@ -227,11 +283,14 @@ pub fn row_examples()
     ensures nothing_told { ¬ MemoryOutRow proving_row (taking []) 7 }
     ensures no_fault { ¬ LoadFaultRow proving_row (holding_nothing 3 3) (taking []) 4 }
     ensures no_saturation { ¬ SaturatedRow [] (holding_nothing 3 3) (taking []) 1 }
+    ensures no_part_saturation { ¬ PartSaturatedRow [] (holding_nothing 3 3) (taking []) 10 }
     ensures nothing_given_up { ¬ GaveUpRow [] (holding_nothing 3 3) (taking []) 2 }
     ensures no_input_error { ¬ ReadFaultRow [] (holding_nothing 3 3) (taking []) 3 }
     ensures nothing_lost { ¬ LostOutputRow [] (holding_nothing 3 3) (taking []) 5 }
     ensures no_form_left_out { ¬ ReadFaultRow [] (holding_nothing 3 3) (taking []) 8 }
     ensures nothing_refused { ¬ CheckedRow [] (holding_nothing 3 3) (taking []) 9 }
+    ensures nothing_found { ¬ ModelRow [] (holding_nothing 3 3) (taking []) 11 }
+    ensures nothing_sought { ¬ ModelRow [] (holding_nothing 3 3) (taking []) 12 }
 {}
 
 /// Deliveries of a text in pieces: of two, as only out of memory is told, and of two of

@@ -1,11 +1,11 @@
 // The reports of `prove` on the formulas of its problem. When each is due is said by the call that makes it.
 
 ghost use Rattle.std.specs.Prelude.{◌≡◌, ◌++◌, IfOk};
-ghost use Rattle.prover_main.specs.ProveReports.{refutation_word, saturation_word, spent_line, heavy_line, refuted_report, saturated_report, spent_report, heavy_report};
+ghost use Rattle.prover_main.specs.ProveReports.{refutation_word, saturation_word, spent_line, heavy_line, left_out_line, refuted_report, saturated_report, part_saturated_report, spent_report, heavy_report};
 
 use crate::report::Report;
-use crate::report_lines::{push_printed, push_status};
-use crate::status::{GAVE_UP, PROVED, SATURATED};
+use crate::report_lines::{push_output, push_printed, push_status};
+use crate::status::{GAVE_UP, PART_SATURATED, PROVED, SATURATED};
 use plain_types::{Mem, Text};
 use std::alloc::Global;
 use tstp_writer::Page;
@@ -27,6 +27,21 @@ impl Report {
         let mut page = Page::new(alloc);
         push_saturated(&mut page, file, conjecture, members.as_slice())?;
         Ok(Report::of(SATURATED, page))
+    }
+
+    /// The members of the pool are a saturated set for a part of the formulas: so many were left out of all.
+    pub fn part_saturated(
+        alloc: Global,
+        file: &str,
+        left: u64,
+        all: u64,
+        members: &Text,
+    ) -> Mem<Report>
+        ensures { IfOk result (λ report. (report.status ≡ 10) × (report.text ≡ part_saturated_report file.now left all members.now)) }
+    {
+        let mut page = Page::new(alloc);
+        push_part_saturated(&mut page, file, left, all, members.as_slice())?;
+        Ok(Report::of(PART_SATURATED, page))
     }
 
     /// The pool gave up: this number of entries was counted, at least as many as are allowed.
@@ -61,8 +76,8 @@ fn refutation_word(conjecture: bool) -> &'static [u8]
     }
 }
 
-/// The word of a saturated set's status, with a conjecture and without.
-fn saturation_word(conjecture: bool) -> &'static [u8]
+/// The word of the status of a saturated set or of a model, with a conjecture and without.
+pub fn saturation_word(conjecture: bool) -> &'static [u8]
     ensures { result.now ≡ saturation_word conjecture }
 {
     if conjecture {
@@ -86,6 +101,28 @@ fn push_saturated(page: &mut Page, file: &str, conjecture: bool, members: &[u8])
 {
     let word = saturation_word(conjecture);
     push_printed(page, file, word, b"Saturation", members)
+}
+
+/// Adds the members of a set that is saturated for a part of the formulas, after their status and how many formulas were left out.
+fn push_part_saturated(page: &mut Page, file: &str, left: u64, all: u64, members: &[u8]) -> Mem<()>
+    ensures { IfOk result (λ _. page.new ≡ page.old ++ part_saturated_report file.now left all members.now) }
+{
+    push_status(page, b"Unknown", file)?;
+    push_left_out(page, left, all)?;
+    push_output(page, b"start", b"Saturation", file)?;
+    page.bytes(members)?;
+    push_output(page, b"end", b"Saturation", file)
+}
+
+/// Adds how many formulas were left out, of how many.
+fn push_left_out(page: &mut Page, left: u64, all: u64) -> Mem<()>
+    ensures { IfOk result (λ _. page.new ≡ page.old ++ left_out_line left all) }
+{
+    page.bytes(b"% left out ")?;
+    page.number(left)?;
+    page.bytes(b" of ")?;
+    page.number(all)?;
+    page.bytes(b"\n")
 }
 
 /// Adds how many entries were counted, of how many.

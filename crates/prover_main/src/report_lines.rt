@@ -28,7 +28,7 @@ pub fn push_status(page: &mut Page, word: &[u8], file: &str) -> Mem<()>
 }
 
 /// Adds a line before or after what is printed, by the word for where it stands and that for what is printed.
-fn push_output(page: &mut Page, place: &[u8], form: &[u8], file: &str) -> Mem<()>
+pub fn push_output(page: &mut Page, place: &[u8], form: &[u8], file: &str) -> Mem<()>
     ensures { IfOk result (λ _. page.new ≡ page.old ++ output_line place.now form.now file.now) }
 {
     page.bytes(b"% SZS output ")?;

@@ -6,12 +6,14 @@ ghost use Rattle.prover_main.specs.Answer.{IsAnswered};
 ghost use Rattle.prover_main.specs.WordParts.{command_meant, IsFit};
 ghost use Rattle.prover_main.specs.Reports.{memory_out_report};
 ghost use Rattle.prover_main.specs.Rows.{TheoremRow, FormFaultRow, LoadFaultRow, LostOutputRow, UsageRow, MemoryOutRow, ReadFaultRow, CompleteRow};
-ghost use Rattle.prover_main.specs.ProveRows.{PrintedRow, SaturatedRow, GaveUpRow};
+ghost use Rattle.prover_main.specs.ProveRows.{PrintedRow, SaturatedRow, PartSaturatedRow, GaveUpRow};
 ghost use Rattle.prover_main.specs.CheckRows.{CheckedRow};
+ghost use Rattle.prover_main.specs.ModelRows.{ModelRow};
 ghost use Rattle.prover_main.specs.Run.{file_of, taken_by, status_after, IsRunBy, DeliveredBy};
 
 use crate::check::check_report;
 use crate::memory_out::deliver_memory_out;
+use crate::model::model_report;
 use crate::prove::prove_report;
 use crate::report::Report;
 use crate::status::{MEMORY_OUT, SINK_FAILED, USAGE_SHOWN};
@@ -21,20 +23,24 @@ use outside::{Library, Sink, SinkFault, deliver};
 use plain_types::{Mem, NoMemory};
 use std::alloc::Global;
 use std::sync::Wait;
+use std::thread::Threads;
+use worker_team::Gate;
 
 const USAGE: &[u8] =
-    b"usage: prove FILE [--inferences=N] [--tptp=DIR] [--select=none|negative] [--split=on|off]\n       check FILE DERIVATION [--tptp=DIR]\n";
+    b"usage: prove FILE [--workers=K] [--inferences=N] [--tptp=DIR] [--select=none|negative] [--split=on|off] [--tolerance=T --depth=D]\n       check FILE DERIVATION [--tptp=DIR]\n       model FILE [--size=S] [--tptp=DIR]\n";
 
-/// What the program does with the words of its command line: it proves a problem or checks a derivation, and writes the
-/// report. The answer is the status of the report, or `SINK_FAILED`. For words that are usage it takes no memory,
-/// and none for the report that it is out of memory. Each clause but the last two is a row of the table of answers and
-/// stands alone. `complete` says that a valid input is answered. `writes` has the whole: what is due, and by which writes it is delivered.
-pub fn run<R: Wait, L: Library, S: Sink>(
+/// What the program does with the words of its command line: it proves a problem, checks a derivation or finds a model, and writes the
+/// report. Workers that prove pass the gate before each of their jobs. The answer is the status of the report, or `SINK_FAILED`. For words
+/// that are usage it takes no memory, and none for the report that it is out of memory. Each clause but the last two is a row of the table of
+/// answers and stands alone. `complete` says that `prove` and `check` answer a valid input; that `model` does is in its row. `writes` has the
+/// whole: what is due, and by which writes it is delivered.
+pub fn run<R: Threads + Wait + Sync, L: Library, S: Sink, G: Gate + Sync>(
     rt: &R,
     alloc: Global,
     words: &Words,
     library: &mut L,
     sink: &mut S,
+    gate: &G,
 ) -> u8
     ensures usage { UsageRow words.now
         (taken_by S.taken S.faults sink.old sink.new)
@@ -47,6 +53,10 @@ pub fn run<R: Wait, L: Library, S: Sink>(
         (taken_by S.taken S.faults sink.old sink.new)
         result }
     ensures saturated { SaturatedRow words.now
+        (outside_by L.told L.faults L.found L.failed library.old library.new)
+        (taken_by S.taken S.faults sink.old sink.new)
+        result }
+    ensures part_saturated { PartSaturatedRow words.now
         (outside_by L.told L.faults L.found L.failed library.old library.new)
         (taken_by S.taken S.faults sink.old sink.new)
         result }
@@ -74,6 +84,10 @@ pub fn run<R: Wait, L: Library, S: Sink>(
         (outside_by L.told L.faults L.found L.failed library.old library.new)
         (taken_by S.taken S.faults sink.old sink.new)
         result }
+    ensures model { ModelRow words.now
+        (outside_by L.told L.faults L.found L.failed library.old library.new)
+        (taken_by S.taken S.faults sink.old sink.new)
+        result }
     ensures memory_out { MemoryOutRow words.now
         (taken_by S.taken S.faults sink.old sink.new)
         result }
@@ -86,16 +100,17 @@ pub fn run<R: Wait, L: Library, S: Sink>(
         result }
 {
     texts_have_one_answer();
-    run_words(rt, alloc, words, library, sink)
+    run_words(rt, alloc, words, library, sink, gate)
 }
 
 /// The report that is due to the words is made and written.
-fn run_words<R: Wait, L: Library, S: Sink>(
+fn run_words<R: Threads + Wait + Sync, L: Library, S: Sink, G: Gate + Sync>(
     rt: &R,
     alloc: Global,
     words: &Words,
     library: &mut L,
     sink: &mut S,
+    gate: &G,
 ) -> u8
     ensures { IsRunBy S.gives sink.old sink.new words.now
         (outside_by L.told L.faults L.found L.failed library.old library.new)
@@ -104,7 +119,7 @@ fn run_words<R: Wait, L: Library, S: Sink>(
 {
     match words.command() {
         None => deliver_report(sink, USAGE, USAGE_SHOWN),
-        Some(command) => match report_to(rt, alloc, command, library) {
+        Some(command) => match report_to(rt, alloc, command, library, gate) {
             Ok(report) => deliver_report(sink, report.text.as_slice(), report.status),
             Err(NoMemory) => report_memory_out(sink, file_of(command)),
         },
@@ -140,11 +155,12 @@ fn status_after(due: u8, delivered: Result<(), SinkFault>) -> u8
 }
 
 /// The report that is due to a command.
-fn report_to<R: Wait, L: Library>(
+fn report_to<R: Threads + Wait + Sync, L: Library, G: Gate + Sync>(
     rt: &R,
     alloc: Global,
     command: Command<'_>,
     library: &mut L,
+    gate: &G,
 ) -> Mem<Report>
     requires fit { IsFit (command_meant command) }
     ensures { IfOk result (λ report.
@@ -157,12 +173,14 @@ fn report_to<R: Wait, L: Library>(
             file,
             root,
             options,
-        } => prove_report(rt, alloc, library, file, root, options),
+            workers,
+        } => prove_report(rt, alloc, library, file, root, options, workers, gate),
         Command::Check {
             file,
             derivation,
             root,
         } => check_report(alloc, library, file, derivation, root),
+        Command::Model { file, root, most } => model_report(alloc, library, file, root, most),
     }
 }
 
@@ -173,5 +191,6 @@ fn file_of<'a>(command: Command<'a>) -> &'a str
     match command {
         Command::Prove { file, .. } => file,
         Command::Check { file, .. } => file,
+        Command::Model { file, .. } => file,
     }
 }

@@ -29,3 +29,12 @@ pub(crate) const INAPPROPRIATE: u8 = 8;
 
 /// The derivation is refused.
 pub(crate) const REFUSED: u8 = 9;
+
+/// The pool's members are a saturated set for a part of the formulas.
+pub(crate) const PART_SATURATED: u8 = 10;
+
+/// A finite model is found.
+pub(crate) const MODEL_FOUND: u8 = 11;
+
+/// The search for a finite model gave up.
+pub(crate) const NO_MODEL: u8 = 12;

@@ -1,5 +1,6 @@
 // Runs over memory end with the report that they should, which no clause says.
 mod cases;
+mod gates;
 mod made;
 
 use super::*;
@@ -9,6 +10,7 @@ use outside::{Files, MemFile, MemLibrary, MemSink};
 use plain_types::Numbers;
 use std::alloc::Global;
 use std::sync::Wait;
+use std::thread::Threads;
 
 /// Room for every report.
 const ROOM: usize = 100_000;
@@ -31,7 +33,7 @@ fn library_of(alloc: Global, files: &[(&str, &[u8])], fail: &[u64]) -> Mem<MemLi
 }
 
 /// The status of a run over files, and the sink.
-fn outcome<R: Wait>(
+fn outcome<R: Threads + Wait + Sync>(
     rt: &R,
     alloc: Global,
     words: &[&str],
@@ -40,7 +42,7 @@ fn outcome<R: Wait>(
     let words = words_of(alloc, words)?;
     let mut library = library_of(alloc, files, &[])?;
     let mut sink = MemSink::new(alloc, 64, ROOM, Numbers::new(alloc))?;
-    let status = run(rt, alloc, &words, &mut library, &mut sink);
+    let status = run(rt, alloc, &words, &mut library, &mut sink, &NoGate);
     Ok((status, sink))
 }
 
@@ -63,7 +65,7 @@ fn failures_end_the_run(rt: HostRuntime) {
         let mut library = library_of(alloc, FAILURE_FILES, failure.loads).expect(&rt, "memory");
         let fail = Numbers::from_slice(alloc, failure.writes).expect(&rt, "memory");
         let mut sink = MemSink::new(alloc, failure.most.max(1), ROOM, fail).expect(&rt, "memory");
-        let status = run(&rt, alloc, &words, &mut library, &mut sink);
+        let status = run(&rt, alloc, &words, &mut library, &mut sink, &NoGate);
         assert_eq!(rt; status, failure.status, "{}", failure.report.len());
         assert!(rt; sink.bytes() == failure.report, "{}", failure.report.len());
     }
@@ -95,7 +97,7 @@ fn with_word<'a>(alloc: Global, front: &[&'a str], words: &[&'a str]) -> Mem<Vec
 fn printed_refutations_are_accepted(rt: HostRuntime) {
     let alloc = rt.alloc();
     for problem in REFUTED {
-        let words = with_word(alloc, &["prove"], problem.words).expect(&rt, "memory");
+        let words = with_word(alloc, problem.command, problem.words).expect(&rt, "memory");
         let told = outcome(&rt, alloc, words.as_slice(), problem.files);
         let (status, sink) = told.expect(&rt, "memory");
         assert_eq!(rt; status, 0, "{}", problem.word);

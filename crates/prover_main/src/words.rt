@@ -2,7 +2,7 @@
 
 ghost use Rattle.std.specs.Prelude.{◌≡◌, [], ◌∷◌, ◌++◌, map, IfOk, OnErr, string_bytes};
 ghost use Rattle.std.specs.Option.{option_map, option_and_then};
-ghost use Rattle.prover_main.specs.Words.{commands, command_word, command_named, command_of, options_of, option_word as name_of, option_named as named_among, is_option as option_like, setting_in, limit_in, selection_in, switch_in, with_root, with_inferences, with_selection, with_split, with_value, with_option, file_words, options_in, options_by, prove_with, check_with, command_with};
+ghost use Rattle.prover_main.specs.Words.{commands, command_word, command_named, command_of, options_of, option_word as name_of, option_named as named_among, is_option as option_like, setting_in, number_in, tolerance_in, selection_in, switch_in, with_root, with_workers, with_inferences, with_selection, with_split, with_tolerance, with_depth, with_size, with_value, with_option, file_words, options_in, options_by, selection_by, prove_with, check_with, model_with, command_with};
 ghost use Rattle.prover_main.specs.WordParts.{few_with, few_of, few_meant, files_by, setting_meant, given_meant, command_meant};
 
 use literal_selection::Selection;
@@ -11,6 +11,7 @@ use pool_core::Options;
 use std::alloc::Global;
 use std::marker::Model;
 use tptp_source::decimal;
+use worker_team::MOST_WORKERS;
 
 /// The words after the program's name, which contracts see as the list of their bytes.
 #[derive(Drop)]
@@ -31,11 +32,14 @@ impl Model for Words {
 pub enum CommandName {
     Prove,
     Check,
+    Model,
 }
 
 /// The options of commands.
 #[derive(Clone, Copy)]
 pub enum OptionName {
+    /// How many workers there are.
+    Workers,
     /// At how many counted inferences a pool gives up.
     Inferences,
     /// The folder from which includes are loaded.
@@ -44,16 +48,38 @@ pub enum OptionName {
     Select,
     /// Whether clauses are split.
     Split,
+    /// How many hundredths as frequent as the rarest symbol of an axiom a symbol may be that reaches it.
+    Tolerance,
+    /// How many steps from the goals axioms are selected.
+    Depth,
+    /// The largest size in which a model is sought.
+    Size,
+}
+
+/// Which axioms a proof begins with: those that are reached from the goals by the symbols that they share, at most so many steps away. The
+/// tolerance is in hundredths.
+#[derive(Clone, Copy)]
+pub struct AxiomSelection {
+    pub tolerance: u32,
+    pub depth: u32,
+}
+
+/// How a problem is proved: how the pool works, and which axioms the proof begins with, which are all where nothing is given.
+#[derive(Clone, Copy)]
+pub struct ProveOptions {
+    pub pool: Options,
+    pub axioms: Option<AxiomSelection>,
 }
 
 /// A command with its values.
 #[derive(Clone, Copy)]
 pub enum Command<'a> {
-    /// Prove the problem of a file, on a pool that works by the options. Includes are loaded from the root, where it is given.
+    /// Prove the problem of a file by so many workers, as the options say. Includes are loaded from the root, where it is given.
     Prove {
         file: &'a str,
         root: Option<&'a str>,
-        options: Options,
+        options: ProveOptions,
+        workers: u32,
     },
     /// Check a derivation of the problem of a file. Includes are loaded from the root, where it is given.
     Check {
@@ -61,16 +87,45 @@ pub enum Command<'a> {
         derivation: &'a str,
         root: Option<&'a str>,
     },
+    /// Find a finite model of the problem of a file, of at most so many values. Includes are loaded from the root, where it is given.
+    Model {
+        file: &'a str,
+        root: Option<&'a str>,
+        most: u32,
+    },
 }
 
-const PROVE_OPTIONS: [OptionName; 4] = [
+/// How many workers there are where no number is given.
+pub const DEFAULT_WORKERS: u32 = 1;
+
+/// The least tolerance of an axiom selection.
+pub(crate) const LEAST_TOLERANCE: u32 = 100;
+
+/// The greatest tolerance of an axiom selection.
+pub(crate) const MOST_TOLERANCE: u32 = 1000;
+
+/// The greatest depth of an axiom selection.
+pub(crate) const MOST_DEPTH: u32 = 50;
+
+/// The largest size that may be asked for.
+pub const MOST_SIZE: u32 = 8;
+
+/// The largest size that is tried where none is asked for.
+pub const DEFAULT_SIZE: u32 = 4;
+
+const PROVE_OPTIONS: [OptionName; 7] = [
+    OptionName::Workers,
     OptionName::Inferences,
     OptionName::Tptp,
     OptionName::Select,
     OptionName::Split,
+    OptionName::Tolerance,
+    OptionName::Depth,
 ];
 
 const CHECK_OPTIONS: [OptionName; 1] = [OptionName::Tptp];
+
+const MODEL_OPTIONS: [OptionName; 2] = [OptionName::Size, OptionName::Tptp];
 
 impl CommandName {
     /// The command of a word.
@@ -80,6 +135,7 @@ impl CommandName {
         match word {
             "prove" => Some(CommandName::Prove),
             "check" => Some(CommandName::Check),
+            "model" => Some(CommandName::Model),
             _ => None,
         }
     }
@@ -91,6 +147,7 @@ impl CommandName {
         match self {
             CommandName::Prove => &PROVE_OPTIONS,
             CommandName::Check => &CHECK_OPTIONS,
+            CommandName::Model => &MODEL_OPTIONS,
         }
     }
 }
@@ -101,10 +158,14 @@ impl OptionName {
         ensures { result.now ≡ name_of self }
     {
         match self {
+            OptionName::Workers => "--workers",
             OptionName::Inferences => "--inferences",
             OptionName::Tptp => "--tptp",
             OptionName::Select => "--select",
             OptionName::Split => "--split",
+            OptionName::Tolerance => "--tolerance",
+            OptionName::Depth => "--depth",
+            OptionName::Size => "--size",
         }
     }
 }
@@ -134,14 +195,18 @@ impl<'a> FileWords<'a> {
     }
 }
 
-/// What options give: how many inferences are counted, which literal of a clause is chosen, whether clauses are split, and the folder from
-/// which includes are loaded.
+/// What options give: how many workers there are, how many inferences are counted, which literal of a clause is chosen, whether clauses are
+/// split, the folder from which includes are loaded, the tolerance and the depth of an axiom selection, and the largest size that is tried.
 #[derive(Clone, Copy)]
 struct Given<'a> {
+    workers: Option<u32>,
     inferences: Option<u32>,
     select: Option<Selection>,
     split: Option<bool>,
     root: Option<&'a str>,
+    tolerance: Option<u32>,
+    depth: Option<u32>,
+    size: Option<u32>,
 }
 
 impl<'a> Given<'a> {
@@ -159,10 +224,14 @@ impl<'a> Given<'a> {
         ensures { option_map given_meant result ≡ with_value (given_meant self.entry) option value.now }
     {
         match option {
-            OptionName::Inferences => self.with_limit(limit_in(value)?),
+            OptionName::Workers => self.with_workers(number_in(MOST_WORKERS, value)?),
+            OptionName::Inferences => self.with_limit(number_in(MOST_INFERENCES, value)?),
             OptionName::Tptp => self.with_root(value),
             OptionName::Select => self.with_selection(selection_in(value)?),
             OptionName::Split => self.with_split(switch_in(value)?),
+            OptionName::Tolerance => self.with_tolerance(tolerance_in(value)?),
+            OptionName::Depth => self.with_depth(number_in(MOST_DEPTH, value)?),
+            OptionName::Size => self.with_size(number_in(MOST_SIZE, value)?),
         }
     }
 
@@ -174,6 +243,19 @@ impl<'a> Given<'a> {
             Some(_) => None,
             None => Some(Given {
                 root: Some(root),
+                ..self
+            }),
+        }
+    }
+
+    /// With the number of workers, where none was given before.
+    fn with_workers(self, workers: u32) -> Option<Given<'a>>
+        ensures { option_map given_meant result ≡ with_workers (given_meant self.entry) workers }
+    {
+        match self.workers {
+            Some(_) => None,
+            None => Some(Given {
+                workers: Some(workers),
                 ..self
             }),
         }
@@ -213,6 +295,45 @@ impl<'a> Given<'a> {
             Some(_) => None,
             None => Some(Given {
                 split: Some(split),
+                ..self
+            }),
+        }
+    }
+
+    /// With the tolerance of an axiom selection, where none was given before.
+    fn with_tolerance(self, tolerance: u32) -> Option<Given<'a>>
+        ensures { option_map given_meant result ≡ with_tolerance (given_meant self.entry) tolerance }
+    {
+        match self.tolerance {
+            Some(_) => None,
+            None => Some(Given {
+                tolerance: Some(tolerance),
+                ..self
+            }),
+        }
+    }
+
+    /// With the depth of an axiom selection, where none was given before.
+    fn with_depth(self, depth: u32) -> Option<Given<'a>>
+        ensures { option_map given_meant result ≡ with_depth (given_meant self.entry) depth }
+    {
+        match self.depth {
+            Some(_) => None,
+            None => Some(Given {
+                depth: Some(depth),
+                ..self
+            }),
+        }
+    }
+
+    /// With the largest size, where none was given before.
+    fn with_size(self, size: u32) -> Option<Given<'a>>
+        ensures { option_map given_meant result ≡ with_size (given_meant self.entry) size }
+    {
+        match self.size {
+            Some(_) => None,
+            None => Some(Given {
+                size: Some(size),
                 ..self
             }),
         }
@@ -272,13 +393,25 @@ fn option_named(options: &[OptionName], name: &str) -> Option<OptionName>
     None
 }
 
-/// The number of inferences that a value is: decimal digits without a leading zero.
-fn limit_in(value: &str) -> Option<u32>
-    ensures { result ≡ limit_in value.now }
+/// The number from 1 to `most` that a value is: decimal digits without a leading zero.
+fn number_in(most: u32, value: &str) -> Option<u32>
+    ensures { result ≡ number_in most value.now }
 {
     let number = decimal(value.as_bytes())?;
-    if 1 <= number && number <= u64::from(MOST_INFERENCES) {
+    if 1 <= number && number <= u64::from(most) {
         Some(number as u32)
+    } else {
+        None
+    }
+}
+
+/// The tolerance that a value is.
+fn tolerance_in(value: &str) -> Option<u32>
+    ensures { result ≡ tolerance_in value.now }
+{
+    let number = number_in(MOST_TOLERANCE, value)?;
+    if LEAST_TOLERANCE <= number {
+        Some(number)
     } else {
         None
     }
@@ -324,10 +457,14 @@ fn arguments_of<'a>(options: &[OptionName], words: &'a [String]) -> Arguments<'a
 {
     let mut files = FileWords::None;
     let mut given = Some(Given {
+        workers: None,
         inferences: None,
         select: None,
         split: None,
         root: None,
+        tolerance: None,
+        depth: None,
+        size: None,
     });
     for word in words {
         let word = word.as_str();
@@ -343,6 +480,17 @@ fn arguments_of<'a>(options: &[OptionName], words: &'a [String]) -> Arguments<'a
     }
 }
 
+/// The axiom selection of a tolerance and a depth. None where one stands alone.
+fn selection_by(tolerance: Option<u32>, depth: Option<u32>) -> Option<Option<AxiomSelection>>
+    ensures { result ≡ selection_by tolerance depth }
+{
+    match (tolerance, depth) {
+        (None, None) => Some(None),
+        (Some(tolerance), Some(depth)) => Some(Some(AxiomSelection { tolerance, depth })),
+        _ => None,
+    }
+}
+
 /// `prove FILE`, with its options. None exactly where the words are usage.
 fn prove_command(arguments: Arguments<'_>) -> Option<Command<'_>>
     ensures { option_map command_meant result ≡ prove_with (files_by (few_meant arguments.entry.files)) (option_map given_meant arguments.entry.options) }
@@ -351,10 +499,15 @@ fn prove_command(arguments: Arguments<'_>) -> Option<Command<'_>>
         return None;
     };
     let given = arguments.options?;
+    let axioms = selection_by(given.tolerance, given.depth)?;
     Some(Command::Prove {
         file,
         root: given.root,
-        options: given.options(),
+        options: ProveOptions {
+            pool: given.options(),
+            axioms,
+        },
+        workers: given.workers.unwrap_or(DEFAULT_WORKERS),
     })
 }
 
@@ -373,6 +526,21 @@ fn check_command(arguments: Arguments<'_>) -> Option<Command<'_>>
     })
 }
 
+/// `model FILE`, with its options. None exactly where the words are usage.
+fn model_command(arguments: Arguments<'_>) -> Option<Command<'_>>
+    ensures { option_map command_meant result ≡ model_with (files_by (few_meant arguments.entry.files)) (option_map given_meant arguments.entry.options) }
+{
+    let FileWords::One(file) = arguments.files else {
+        return None;
+    };
+    let given = arguments.options?;
+    Some(Command::Model {
+        file,
+        root: given.root,
+        most: given.size.unwrap_or(DEFAULT_SIZE),
+    })
+}
+
 /// A command with what stands after it. None exactly where the words are usage.
 fn command_with(name: CommandName, arguments: Arguments<'_>) -> Option<Command<'_>>
     ensures { option_map command_meant result
@@ -381,6 +549,7 @@ fn command_with(name: CommandName, arguments: Arguments<'_>) -> Option<Command<'
     match name {
         CommandName::Prove => prove_command(arguments),
         CommandName::Check => check_command(arguments),
+        CommandName::Model => model_command(arguments),
     }
 }
 

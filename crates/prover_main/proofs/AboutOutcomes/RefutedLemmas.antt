@@ -1,29 +1,29 @@
 -- What the pool of a problem tells once the empty clause was derived: its lines bind terms over the form's own function symbols alone, and so
--- the form is refuted by its ground instances.
+-- the clauses with which it began are refuted by their ground instances, which are the form's.
 use Rattle.std.proofs.Common.{◌≡◌, ℕ, Bool, true, false, not, ◌&&◌, ◌||◌, ◌==◌, List, [], ◌∷◌, refl, ap, sym, subst}
-use Rattle.std.specs.Prelude.{All}
+use Rattle.std.specs.Prelude.{All, Contains}
 use Rattle.std.specs.List.{list_all}
 use Rattle.std.proofs.lemmas.Bool.{and_parts, and_from, false≢true}
-use Rattle.std.proofs.lemmas.List.Elements.{All-head, All-tail}
+use Rattle.std.proofs.lemmas.List.Elements.{All-head, All-tail, All-weaker}
 use Rattle.fol_base.specs.Tree.{Tree, true_symbol, variable, application, Trees, no_trees, tree_then, trees_count}
 use Rattle.fol_base.specs.Clause.{TreeClause}
+use Rattle.fol_base.specs.Covered.{InstanceOf}
 use Rattle.fol_base.specs.Ground.{has_symbol, is_over, are_over}
 use Rattle.fol_base.specs.Kind.{is_function_term, are_function_terms}
 use Rattle.fol_base.specs.Symbols.{FunctionSymbol}
-use Rattle.fol_base.specs.WellFormed.{SymbolUse, WellFormed, has_arities}
+use Rattle.fol_base.specs.WellFormed.{SymbolUse, has_arities}
 use Rattle.tptp_tree.specs.declared.problem.Annotated.{Annotated}
 use Rattle.signature.specs.declared.symbol.Symbol.{Symbol}
 use Rattle.signature.specs.Form.{clausal_form}
 use Rattle.kernel_steps.specs.Derivation.{IsRefutation}
-use Rattle.kernel_steps.specs.Soundness.{bindings_of, binds_each, BindsOver}
-use Rattle.kernel_steps.specs.Symbols.{symbols_pass, all_symbols_pass}
+use Rattle.kernel_steps.specs.Soundness.{bindings_of, binds_each, BindsOver, HerbrandRefuted}
+use Rattle.kernel_steps.specs.Symbols.{symbols_pass, all_symbols_pass, clause_symbols_pass}
 use Rattle.kernel_steps.specs.declared.step.Step.{Step}
 use Rattle.kernel_steps.specs.declared.step.Line.{Line}
 use Rattle.kernel_steps.proofs.AboutGrounding.GroundedLemmasLines.{refutations_herbrand_refute}
 use Rattle.clausal_form.specs.FormFunctions.{is_predicate_in, OwnFunctions, IsHerbrandRefuted}
 use Rattle.clausal_form.specs.FormLaws.{arity_in, use_of}
 use Rattle.clausal_form.proofs.AboutForms.FunctionLemmas.{form-functions}
-use Rattle.clausal_form.proofs.AboutForms.WellFormedLemmas.{forms-are-well-formed}
 use Rattle.tstp_writer.specs.ReadableLines.{is_symbol_in}
 use Rattle.pool_history.specs.Derived.{is_function_term_of, IsPoolLine, ArePoolLines}
 use Rattle.pool_history.specs.Inputs.{AreInputs, IsUseOf}
@@ -32,13 +32,14 @@ use Rattle.pool_history.specs.declared.options.Options.{Options}
 use Rattle.pool_history.specs.declared.outcome.Outcome.TheVariants as outcome
 use Rattle.pool_history.proofs.AboutLines.BeginningLemmas.{lines_are_derived, refuted_is_refutation}
 use Rattle.pool_writer.proofs.FormSymbols.{form-symbols-pass, truth-passes}
-use Rattle.proving.specs.declared.proved.Proved.{Proved as ProvedPool}
+use Rattle.worker_team.specs.declared.proved.Proved.{Proved as ProvedPool}
+use Rattle.prover_main.specs.Parts.{AreOfForm}
 use Rattle.prover_main.specs.AnswerShape.{IsProvedForm}
-use Rattle.prover_main.proofs.AboutOutcomes.FormInputs.{form-inputs}
+use Rattle.prover_main.proofs.AboutOutcomes.InputLemmas.{are-inputs, inputs-contained, inputs-pass, inputs-used}
 use Rattle.prover_main.proofs.AboutOutcomes.FormSymbols.{own-allowed}
 use Rattle.prover_main.proofs.AboutOutcomes.HistoryLemmas.{cause, ended, lawful}
 
-all-both : {X : Type 0} (p q r : X → Bool) → ((x : X) → p x ≡ true → q x ≡ true → r x ≡ true) → (xs : List X) → list_all p xs ≡ true → list_all q xs ≡ true → list_all r xs ≡ true
+pub all-both : {X : Type 0} (p q r : X → Bool) → ((x : X) → p x ≡ true → q x ≡ true → r x ≡ true) → (xs : List X) → list_all p xs ≡ true → list_all q xs ≡ true → list_all r xs ≡ true
 all-both p q r both [] one other = refl
 all-both p q r both (x ∷ xs) one other =
     let first = and_parts (p x) (list_all p xs) one in
@@ -109,47 +110,61 @@ module _ (symbols : List Symbol) (own : OwnFunctions symbols) where
 -- ---- a refuted pool
 
 module _
-    (formulas : List Annotated) (options : Options) (proved : ProvedPool) (is : IsProvedForm formulas options proved)
-    (same : proved.outcome ≡ outcome.Refuted) where
+    (formulas : List Annotated) (inputs : List TreeClause) (of_form : AreOfForm formulas inputs) (options : Options) (proved : ProvedPool)
+    (is : IsProvedForm formulas inputs options proved) (same : proved.outcome ≡ outcome.Refuted) where
   abbrev form : List TreeClause
   form = (clausal_form formulas).clauses
 
   abbrev lines : List Line
-  lines = (ended formulas options proved is).lines
+  lines = (ended formulas inputs of_form options proved is).lines
 
   abbrev usage : SymbolUse
   usage = use_of (clausal_form formulas).symbols
 
-  begun : form ≡ proved.pool.origin.inputs
+  begun : inputs ≡ proved.pool.origin.inputs
   begun = sym (ap (λ (o : Origin). o.inputs) is.pool.origin)
 
-  inputs : AreInputs proved.pool.origin.inputs
-  inputs = subst AreInputs begun (form-inputs formulas is.within)
+  are : AreInputs proved.pool.origin.inputs
+  are = subst AreInputs begun (are-inputs formulas inputs of_form is.within)
 
   used : IsUseOf proved.pool.origin.inputs usage
-  used =
-      let well : WellFormed form = (forms-are-well-formed formulas).0 in
-      subst (λ (cs : List TreeClause). IsUseOf cs usage) begun
-      (subst (λ (u : SymbolUse). IsUseOf form u) (forms-are-well-formed formulas).1 well.used)
+  used = subst (λ (cs : List TreeClause). IsUseOf cs usage) begun (inputs-used formulas inputs of_form)
 
-  of_pool : ArePoolLines usage form lines
+  of_pool : ArePoolLines usage inputs lines
   of_pool =
       subst (λ (cs : List TreeClause). ArePoolLines usage cs lines) (sym begun)
-      (lines_are_derived usage proved.pool.origin proved.pool.history inputs used (lawful formulas options proved is))
+      (lines_are_derived usage proved.pool.origin proved.pool.history are used (lawful formulas inputs of_form options proved is))
 
-  refutes : IsRefutation form lines
+  refutes : IsRefutation inputs lines
   refutes =
       subst (λ (cs : List TreeClause). IsRefutation cs lines) (sym begun)
-      (refuted_is_refutation usage proved.pool.origin proved.pool.history inputs used (lawful formulas options proved is)
-      (cause formulas options proved is outcome.Refuted same))
+      (refuted_is_refutation usage proved.pool.origin proved.pool.history are used (lawful formulas inputs of_form options proved is)
+      (cause formulas inputs of_form options proved is outcome.Refuted same))
+
+  module _ (own : OwnFunctions (clausal_form formulas).symbols) where
+    known : list_all (λ (l : Line). binds_each (symbols_pass (is_symbol_in (clausal_form formulas).symbols)) l.step) lines ≡ true
+    known =
+        (of_pool.symbols (is_symbol_in (clausal_form formulas).symbols) (truth-passes formulas)
+        (inputs-pass formulas inputs (clause_symbols_pass (is_symbol_in (clausal_form formulas).symbols)) of_form (form-symbols-pass formulas))).1
+
+    inputs-refuted : HerbrandRefuted own.functions inputs
+    inputs-refuted =
+        refutations_herbrand_refute (is_predicate_in (clausal_form formulas).symbols) own.functions inputs lines
+        (lines-over (clausal_form formulas).symbols own lines of_pool.each known) refutes
+
+    form-refuted : HerbrandRefuted own.functions form
+    form-refuted = record {
+      by = inputs-refuted.by;
+      instances =
+          All-weaker (InstanceOf own.functions (Contains inputs)) (InstanceOf own.functions (Contains form))
+          (λ g is_of. record {
+            clause = is_of.clause;
+            holds = inputs-contained formulas inputs of_form is_of.clause is_of.holds;
+            is_instance = is_of.is_instance;
+          })
+          inputs-refuted.by inputs-refuted.instances;
+      refuted = inputs-refuted.refuted;
+    }
 
   pub herbrand-refuted : IsHerbrandRefuted formulas
-  herbrand-refuted =
-      let own : OwnFunctions (clausal_form formulas).symbols = form-functions formulas in
-      let known = of_pool.symbols (is_symbol_in (clausal_form formulas).symbols) (truth-passes formulas) (form-symbols-pass formulas) in
-      record {
-        own = own;
-        refuted =
-            refutations_herbrand_refute (is_predicate_in (clausal_form formulas).symbols) own.functions form lines
-            (lines-over (clausal_form formulas).symbols own lines of_pool.each known.1) refutes;
-      }
+  herbrand-refuted = record { own = form-functions formulas; refuted = form-refuted (form-functions formulas) }

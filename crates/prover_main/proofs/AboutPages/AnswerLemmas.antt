@@ -1,5 +1,5 @@
 -- From the reports of the stages to the report of a command.
-use Rattle.std.proofs.Common.{◌≡◌, ◌≤◌, ◌<◌, ℕ, List, length, refl, ap, sym, subst, ◌∙◌, inl, inr, arith}
+use Rattle.std.proofs.Common.{◌≡◌, ◌≤◌, ℕ, List, length, refl, ap, sym, subst, ◌∙◌, inl, inr, arith}
 use Rattle.std.specs.Prelude.{Option, None, Some, Result, Ok, Err, IfOk, IfSome, option_map}
 use Rattle.outside.specs.Faults.{Rose}
 use Rattle.outside.specs.Library.{Holdings, HoldsExactly, FoundMore, failed_after as after_load}

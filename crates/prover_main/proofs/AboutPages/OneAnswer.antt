@@ -1,6 +1,6 @@
 -- The bytes that a library tells decide which report a command has, where something is wrong with the problem and in `check`.
 use Rattle.std.proofs.Common.{◌≡◌, ◌<◌, ◌≤◌, ◌⊎◌, inl, inr, ℕ, List, length, Option, None, Some, refl, ap, ap₂, sym, subst, ◌∙◌, arith}
-use Rattle.std.specs.Prelude.{Bool, true, not, map, unwrap_or, IfSome, IsSomeAnd, []}
+use Rattle.std.specs.Prelude.{true, not, map, unwrap_or, IfSome, IsSomeAnd, []}
 use Rattle.std.specs.List.{list_all}
 use Rattle.std.proofs.lemmas.Bool.{true≢false}
 use Rattle.outside.specs.Library.{Holdings, FoundMore}
@@ -21,13 +21,14 @@ use Rattle.tstp_checker.specs.Causes.{cause_meant}
 use Rattle.tstp_checker.specs.declared.cause.Cause.{Cause}
 use Rattle.tstp_checker.specs.declared.cause.Cause.TheVariants.{Text, Order, UnknownParent, Leaf, Clausify, Binding, Rule, Conclusion, NewSymbol, NoEmptyClause}
 use Rattle.prover_main.specs.Outside.{Outside, IsTold}
-use Rattle.prover_main.specs.Words.{Command, check}
+use Rattle.prover_main.specs.Words.{Command, check, model}
 use Rattle.prover_main.specs.Problems.{Source, IsRead, IsUnread, IsFormed, IsUnformed, IsReport, told_unread, told_unformed, of_formulas}
 use Rattle.prover_main.specs.CheckReports.{IsLoaded, IsRefusedText, IsTooLong, IsCheckReport, told_accepted, told_refused, told_unloaded, accepted_line as accepted_report, refused_line as refused_report}
 use Rattle.prover_main.specs.Answer.{source_of, Gives, Fails, Says, IsAnswered}
 use Rattle.prover_main.specs.Reports.{read_status, unread_report, unformed_report}
 use Rattle.prover_main.specs.Laws.{is_exact, ChecksHaveOneReport, FaultsAreTheOnlyReport}
 use Rattle.prover_main.proofs.AboutRuns.StatusLemmas.{statuses_of, said-has}
+use Rattle.prover_main.proofs.AboutPages.ModelOne.{model-one}
 use Rattle.prover_main.proofs.AboutPages.PlacedLemmas.{placed-one}
 
 some-none : {A : Type 0} (x : A) → Some x ≡ None → ⊥
@@ -245,4 +246,6 @@ no-fault-said outside command s u a b inexact t x h k =
 pub faults-are-the-only-report : TextsHaveOneAnswer → FaultsAreTheOnlyReport
 faults-are-the-only-report one outside (check file derivation root) s u a b t x h k =
     checks-have-one-report one outside file derivation root s u a b t h k
+faults-are-the-only-report one outside (model file root most) s u a b t x h k =
+    command-one outside (model file root most) s u a b t (λ fs v w. model-one file most fs s u a b x v w) h k
 faults-are-the-only-report one outside command s u a b t x h k = no-fault-said outside command s u a b refl t x h k

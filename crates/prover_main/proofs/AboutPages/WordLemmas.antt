@@ -1,18 +1,21 @@
 -- Words after a command, counted and by their rule; and the values of options.
 use Rattle.std.proofs.Common.{◌≡◌, ◌≤◌, ◌<◌, ℕ, ◌+◌, Bool, true, false, not, ◌&&◌, List, [], ◌∷◌, length, map, drop, get_or, Option, None, Some, refl, ap, sym, ◌∙◌, subst, arith}
-use Rattle.std.specs.Prelude.{⊤, fold, bytes_eq, nat_le, option_and_then, unwrap_or, is_some, if◌then◌else◌}
+use Rattle.std.specs.Prelude.{⊤, fold, nat_le, option_map, option_and_then, unwrap_or, is_some, if◌then◌else◌}
 use Rattle.std.specs.List.{filter}
 use Rattle.std.proofs.lemmas.Bool.{leb-true}
 use Rattle.std.proofs.lemmas.List.{drop_more}
 use Rattle.plain_types.specs.declared.limits.TheConstants.{DEFAULT_INFERENCES, MOST_INFERENCES}
 use Rattle.tptp_source.specs.Items.{decimal_in}
 use Rattle.literal_selection.specs.declared.choice.Selection.{Selection}
-use Rattle.prover_main.specs.Words.{Given, Command, prove, check, commands, options_of, is_option, is_filled, file_words, Files, one_file, two_files, other_files, files_in, setting_in, option_named, no_options, within_limits, limit_in, selection_in, switch_in, with_root, with_inferences, with_selection, with_split, with_value, with_option, options_in, options_by, prove_with, check_with, command_with, command_named, command_of}
+use Rattle.prover_main.specs.Words.{Given, Command, prove, commands, options_of, is_option, is_filled, file_words, Files, one_file, two_files, other_files, files_in, setting_in, option_named, no_options, within, number_in, tolerance_in, selection_in, switch_in, with_root, with_workers, with_inferences, with_selection, with_split, with_tolerance, with_depth, with_size, with_value, with_option, options_in, options_by, selection_by, prove_with, check_with, model_with, command_with, command_named, command_of}
 use Rattle.prover_main.specs.WordParts.{IsFit, FewWords, no_word, one_word, more_words, few_and, few_with, few_of, files_by}
 use Rattle.prover_main.specs.declared.words.CommandName.{CommandName}
-use Rattle.prover_main.specs.declared.words.CommandName.TheVariants.{Prove, Check}
+use Rattle.prover_main.specs.declared.words.CommandName.TheVariants.{Prove, Check, Model}
 use Rattle.prover_main.specs.declared.words.OptionName.{OptionName}
-use Rattle.prover_main.specs.declared.words.OptionName.TheVariants.{Inferences, Tptp, Select, Split}
+use Rattle.prover_main.specs.declared.words.OptionName.TheVariants.{Workers, Inferences, Tptp, Select, Split, Tolerance, Depth, Size}
+use Rattle.prover_main.specs.declared.words.AxiomSelection.{AxiomSelection}
+use Rattle.prover_main.specs.declared.words.TheConstants.{DEFAULT_SIZE, DEFAULT_WORKERS, MOST_DEPTH, MOST_SIZE}
+use Rattle.worker_team.specs.declared.team.TheConstants.{MOST_WORKERS}
 
 -- ---- counted words
 
@@ -83,47 +86,59 @@ are-filled (f ∷ g ∷ []) = by (is_filled f) refl (is_filled g) refl
     by false e c k = tt
 are-filled (f ∷ g ∷ h ∷ fs) = tt
 
--- ---- the number of inferences is within its limits
+-- ---- the numbers that are given are within their limits
 
-abbrev AreWithin : ℕ → Type 0
-AreWithin n = (1 ≤ n) × (n ≤ MOST_INFERENCES)
+abbrev AreWithin : ℕ → ℕ → Type 0
+AreWithin most n = (1 ≤ n) × (n ≤ most)
 
-abbrev IsWithin : Option ℕ → Type 0
-IsWithin None = ⊤
-IsWithin (Some n) = AreWithin n
+abbrev IsWithin : ℕ → Option ℕ → Type 0
+IsWithin most None = ⊤
+IsWithin most (Some n) = AreWithin most n
+
+-- the number of inferences, the number of workers, and the largest size
+abbrev GivenCounts : Given → Type 0
+GivenCounts given = IsWithin MOST_INFERENCES given.inferences × IsWithin MOST_WORKERS given.workers × IsWithin MOST_SIZE given.size
 
 abbrev Counts : Option Given → Type 0
 Counts None = ⊤
-Counts (Some given) = IsWithin given.inferences
+Counts (Some given) = GivenCounts given
 
-within-counts : (n : ℕ) → IsWithin (within_limits n)
-within-counts n = by (nat_le 1 n) refl (nat_le n MOST_INFERENCES) refl
+within-counts : (most n : ℕ) → IsWithin most (within most n)
+within-counts most n = by (nat_le 1 n) refl (nat_le n most) refl
   where
-    by : (b : Bool) → nat_le 1 n ≡ b → (c : Bool) → nat_le n MOST_INFERENCES ≡ c → IsWithin (if b && c then Some n else None)
-    by true h true k = (leb-true 1 n h, leb-true n MOST_INFERENCES k)
+    by : (b : Bool) → nat_le 1 n ≡ b → (c : Bool) → nat_le n most ≡ c → IsWithin most (if b && c then Some n else None)
+    by true h true k = (leb-true 1 n h, leb-true n most k)
     by true h false k = tt
     by false h c k = tt
 
-limit-counts : (o : Option ℕ) → IsWithin (option_and_then within_limits o)
-limit-counts None = tt
-limit-counts (Some n) = within-counts n
+number-counts : (most : ℕ) (o : Option ℕ) → IsWithin most (option_and_then (within most) o)
+number-counts most None = tt
+number-counts most (Some n) = within-counts most n
 
-root-counts : (given : Given) (root : List ℕ) → IsWithin given.inferences → Counts (with_root given root)
+root-counts : (given : Given) (root : List ℕ) → GivenCounts given → Counts (with_root given root)
 root-counts given root h = by (is_some given.root)
   where
     by : (b : Bool) → Counts (if b then None else Some (record given { root = Some root }))
     by true = tt
     by false = h
 
-inferences-count : (given : Given) (o : Option ℕ) → IsWithin o → Counts (option_and_then (with_inferences given) o)
-inferences-count given None h = tt
-inferences-count given (Some n) h = by (is_some given.inferences)
+inferences-count : (given : Given) (o : Option ℕ) → GivenCounts given → IsWithin MOST_INFERENCES o → Counts (option_and_then (with_inferences given) o)
+inferences-count given None h k = tt
+inferences-count given (Some n) h k = by (is_some given.inferences)
   where
     by : (b : Bool) → Counts (if b then None else Some (record given { inferences = Some n }))
     by true = tt
-    by false = h
+    by false = (k, h.1, h.2)
 
-selection-counts : (given : Given) (o : Option Selection) → IsWithin given.inferences → Counts (option_and_then (with_selection given) o)
+workers-count : (given : Given) (o : Option ℕ) → GivenCounts given → IsWithin MOST_WORKERS o → Counts (option_and_then (with_workers given) o)
+workers-count given None h k = tt
+workers-count given (Some n) h k = by (is_some given.workers)
+  where
+    by : (b : Bool) → Counts (if b then None else Some (record given { workers = Some n }))
+    by true = tt
+    by false = (h.0, k, h.2)
+
+selection-counts : (given : Given) (o : Option Selection) → GivenCounts given → Counts (option_and_then (with_selection given) o)
 selection-counts given None h = tt
 selection-counts given (Some select) h = by (is_some given.select)
   where
@@ -131,7 +146,7 @@ selection-counts given (Some select) h = by (is_some given.select)
     by true = tt
     by false = h
 
-split-counts : (given : Given) (o : Option Bool) → IsWithin given.inferences → Counts (option_and_then (with_split given) o)
+split-counts : (given : Given) (o : Option Bool) → GivenCounts given → Counts (option_and_then (with_split given) o)
 split-counts given None h = tt
 split-counts given (Some split) h = by (is_some given.split)
   where
@@ -139,14 +154,43 @@ split-counts given (Some split) h = by (is_some given.split)
     by true = tt
     by false = h
 
-value-counts : (given : Given) (option : OptionName) (value : List ℕ) → IsWithin given.inferences → Counts (with_value given option value)
-value-counts given Inferences value h = inferences-count given (limit_in value) (limit-counts (decimal_in value))
+tolerance-counts : (given : Given) (o : Option ℕ) → GivenCounts given → Counts (option_and_then (with_tolerance given) o)
+tolerance-counts given None h = tt
+tolerance-counts given (Some t) h = by (is_some given.tolerance)
+  where
+    by : (b : Bool) → Counts (if b then None else Some (record given { tolerance = Some t }))
+    by true = tt
+    by false = h
+
+depth-counts : (given : Given) (o : Option ℕ) → GivenCounts given → Counts (option_and_then (with_depth given) o)
+depth-counts given None h = tt
+depth-counts given (Some d) h = by (is_some given.depth)
+  where
+    by : (b : Bool) → Counts (if b then None else Some (record given { depth = Some d }))
+    by true = tt
+    by false = h
+
+size-counts : (given : Given) (o : Option ℕ) → GivenCounts given → IsWithin MOST_SIZE o → Counts (option_and_then (with_size given) o)
+size-counts given None h k = tt
+size-counts given (Some n) h k = by (is_some given.size)
+  where
+    by : (b : Bool) → Counts (if b then None else Some (record given { size = Some n }))
+    by true = tt
+    by false = (h.0, h.1, k)
+
+value-counts : (given : Given) (option : OptionName) (value : List ℕ) → GivenCounts given → Counts (with_value given option value)
+value-counts given Workers value h = workers-count given (number_in MOST_WORKERS value) h (number-counts MOST_WORKERS (decimal_in value))
+value-counts given Inferences value h =
+    inferences-count given (number_in MOST_INFERENCES value) h (number-counts MOST_INFERENCES (decimal_in value))
 value-counts given Tptp value h = root-counts given value h
 value-counts given Select value h = selection-counts given (selection_in value) h
 value-counts given Split value h = split-counts given (switch_in value) h
+value-counts given Tolerance value h = tolerance-counts given (tolerance_in value) h
+value-counts given Depth value h = depth-counts given (number_in MOST_DEPTH value) h
+value-counts given Size value h = size-counts given (number_in MOST_SIZE value) h (number-counts MOST_SIZE (decimal_in value))
 
 option-counts :
-    (options : List OptionName) (given : Given) (word : List ℕ) → IsWithin given.inferences → Counts (with_option options given word)
+    (options : List OptionName) (given : Given) (word : List ℕ) → GivenCounts given → Counts (with_option options given word)
 option-counts options given word h = by (setting_in word)
   where
     named : (value : List ℕ) (o : Option OptionName) → Counts (option_and_then (λ option. with_value given option value) o)
@@ -175,11 +219,21 @@ Fits (Some command) = IsFit command
 
 prove-fits : (files : Files) (given : Option Given) → AreFilled files → Counts given → Fits (prove_with files given)
 prove-fits (one_file f) None filled h = tt
-prove-fits (one_file f) (Some given) filled h = (limit given.inferences h, filled)
+prove-fits (one_file f) (Some given) filled h = by (selection_by given.tolerance given.depth)
   where
-    limit : (o : Option ℕ) → IsWithin o → AreWithin (unwrap_or o DEFAULT_INFERENCES)
+    limit : (o : Option ℕ) → IsWithin MOST_INFERENCES o → AreWithin MOST_INFERENCES (unwrap_or o DEFAULT_INFERENCES)
     limit None k = (omega arith, omega arith)
     limit (Some n) k = k
+
+    workers : (o : Option ℕ) → IsWithin MOST_WORKERS o → AreWithin MOST_WORKERS (unwrap_or o DEFAULT_WORKERS)
+    workers None k = (omega arith, omega arith)
+    workers (Some n) k = k
+
+    by :
+        (o : Option (Option AxiomSelection))
+        → Fits (option_map (λ axioms. prove f given.root (record { pool = options_by given; axioms = axioms }) (unwrap_or given.workers DEFAULT_WORKERS)) o)
+    by None = tt
+    by (Some axioms) = (limit given.inferences h.0, workers given.workers h.1, filled)
 prove-fits (two_files f g) given filled h = tt
 prove-fits other_files given filled h = tt
 
@@ -189,12 +243,25 @@ check-fits (two_files f g) None = tt
 check-fits (two_files f g) (Some given) = tt
 check-fits other_files given = tt
 
+model-fits : (files : Files) (given : Option Given) → Counts given → Fits (model_with files given)
+model-fits (one_file f) None h = tt
+model-fits (one_file f) (Some given) h = limit given.size h.2
+  where
+    limit : (o : Option ℕ) → IsWithin MOST_SIZE o → AreWithin MOST_SIZE (unwrap_or o DEFAULT_SIZE)
+    limit None k = (omega arith, omega arith)
+    limit (Some n) k = k
+model-fits (two_files f g) given h = tt
+model-fits other_files given h = tt
+
 with-fits :
     (name : CommandName) (words : List (List ℕ)) → Fits (command_with name (files_in (file_words words)) (options_in (options_of name) words))
 with-fits Prove words =
     prove-fits (files_in (file_words words)) (options_in (options_of Prove) words) (are-filled (file_words words))
-    (options-count (options_of Prove) (filter is_option words) (Some no_options) tt)
+    (options-count (options_of Prove) (filter is_option words) (Some no_options) (tt, tt, tt))
 with-fits Check words = check-fits (files_in (file_words words)) (options_in (options_of Check) words)
+with-fits Model words =
+    model-fits (files_in (file_words words)) (options_in (options_of Model) words)
+    (options-count (options_of Model) (filter is_option words) (Some no_options) (tt, tt, tt))
 
 command-fits : (words : List (List ℕ)) → Fits (command_of words)
 command-fits [] = tt

@@ -3,15 +3,15 @@ use Rattle.std.proofs.Common.{◌≡◌, ◌⊎◌, inl, inr, ℕ, List, refl, a
 use Rattle.std.specs.Prelude.{Some}
 use Rattle.outside.specs.Sink.{with_bytes}
 use Rattle.tptp_tree.specs.declared.problem.Annotated.{Annotated}
-use Rattle.pool_history.specs.declared.options.Options.{Options}
+use Rattle.prover_main.specs.declared.words.ProveOptions.{ProveOptions}
 use Rattle.prover_main.specs.Outside.{Outside}
 use Rattle.prover_main.specs.Words.{Command, prove, command_of}
 use Rattle.prover_main.specs.Problems.{Source, source_at, IsRead, IsFormed, OfFormed}
-use Rattle.prover_main.specs.ProveReports.{IsProofReport, told_refuted, told_saturated, told_spent, told_heavy}
+use Rattle.prover_main.specs.ProveReports.{IsProofReport, told_refuted, told_saturated, told_part_saturated, told_spent, told_heavy}
 use Rattle.prover_main.specs.Answer.{Gives, Says, IsAnswered}
 use Rattle.prover_main.specs.Run.{Taken, IsRun}
 use Rattle.prover_main.specs.Rows.{Took}
-use Rattle.prover_main.specs.ProveRows.{ForProve, PrintedRefutation, PrintedRow, PrintedSaturation, SaturatedRow, PrintedSpent, PrintedHeavy, GaveUpRow}
+use Rattle.prover_main.specs.ProveRows.{ForProve, PrintedRefutation, PrintedRow, PrintedSaturation, SaturatedRow, PrintedPartSaturation, PartSaturatedRow, PrintedSpent, PrintedHeavy, GaveUpRow}
 use Rattle.prover_main.proofs.AboutRuns.StatusLemmas.{not-said, is-said}
 use Rattle.prover_main.proofs.AboutRuns.EndLemmas.{answered, answered-by}
 
@@ -19,25 +19,26 @@ module _ (words : List (List ℕ)) (outside : Outside) (taken : Taken) (status :
   -- ---- 0
 
   said-refutation :
-      (file : List ℕ) (options : Options) (fs : List Annotated) (a : List ℕ) → IsProofReport file options fs 0 a → Took taken a
+      (file : List ℕ) (options : ProveOptions) (fs : List Annotated) (a : List ℕ) → IsProofReport file options fs 0 a → Took taken a
       → PrintedRefutation taken file options fs
   said-refutation file options fs a (told_refuted d h e w) k =
       record { derivation = d; refuted = h; report = k ∙ ap (with_bytes taken.bytes_before) w }
-  said-refutation file options fs a (told_saturated m h e w) k = absurd (omega (arith, e))
+  said-refutation file options fs a (told_saturated m n h e w) k = absurd (omega (arith, e))
+  said-refutation file options fs a (told_part_saturated m n h e w) k = absurd (omega (arith, e))
   said-refutation file options fs a (told_spent n h e w) k = absurd (omega (arith, e))
   said-refutation file options fs a (told_heavy n h e w) k = absurd (omega (arith, e))
 
   printed-refutation :
-      (source : Source) (options : Options) (a : List ℕ) → IsAnswered (prove source.file source.root options) outside 0 a → Took taken a
+      (source : Source) (options : ProveOptions) (workers : ℕ) (a : List ℕ) → IsAnswered (prove source.file source.root options workers) outside 0 a → Took taken a
       → OfFormed (IsRead outside source) (PrintedRefutation taken source.file options)
-  printed-refutation source options a h k =
-      let x = is-said outside (prove source.file source.root options) 0 a refl h in
+  printed-refutation source options workers a h k =
+      let x = is-said outside (prove source.file source.root options workers) 0 a refl h in
       record { formulas = x.formulas; formed = x.formed; says = said-refutation source.file options x.formulas a x.says k }
 
   pub printed-row : PrintedRow words outside taken status
-  printed-row source options e s =
-      let x = answered-by words outside taken status r 0 s refl (prove source.file source.root options) e in
-      printed-refutation source options x.text x.is x.report
+  printed-row source options workers e s =
+      let x = answered-by words outside taken status r 0 s refl (prove source.file source.root options workers) e in
+      printed-refutation source options workers x.text x.is x.report
 
   -- ---- 1
 
@@ -45,19 +46,21 @@ module _ (words : List (List ℕ)) (outside : Outside) (taken : Taken) (status :
       (command : Command) (fs : List Annotated) (a : List ℕ) → command_of words ≡ Some command → IsFormed (Gives outside command) fs
       → Says outside command fs 1 a → Took taken a
       → ForProve words (λ source options. OfFormed (IsRead outside source) (PrintedSaturation taken source.file options))
-  said-saturation (prove file root options) fs a i f (told_saturated m h e w) k = record {
+  said-saturation (prove file root options workers) fs a i f (told_saturated m n h e w) k = record {
     source = source_at file root;
     options = options;
+    workers = workers;
     is_prove = i;
     says = record {
       formulas = fs;
       formed = f;
-      says = record { members = m; saturation = h; report = k ∙ ap (with_bytes taken.bytes_before) w };
+      says = record { members = m; whole = n; saturation = h; report = k ∙ ap (with_bytes taken.bytes_before) w };
     };
   }
-  said-saturation (prove file root options) fs a i f (told_refuted d h e w) k = absurd (omega (arith, e))
-  said-saturation (prove file root options) fs a i f (told_spent n h e w) k = absurd (omega (arith, e))
-  said-saturation (prove file root options) fs a i f (told_heavy n h e w) k = absurd (omega (arith, e))
+  said-saturation (prove file root options workers) fs a i f (told_refuted d h e w) k = absurd (omega (arith, e))
+  said-saturation (prove file root options workers) fs a i f (told_part_saturated m n h e w) k = absurd (omega (arith, e))
+  said-saturation (prove file root options workers) fs a i f (told_spent n h e w) k = absurd (omega (arith, e))
+  said-saturation (prove file root options workers) fs a i f (told_heavy n h e w) k = absurd (omega (arith, e))
   said-saturation command fs a i f h k = not-said outside command fs 1 a refl h
 
   printed-saturation :
@@ -71,18 +74,53 @@ module _ (words : List (List ℕ)) (outside : Outside) (taken : Taken) (status :
       let x = answered words outside taken status r 1 s refl in
       printed-saturation x.command x.says.text x.is_command x.says.is x.says.report
 
+  -- ---- 10
+
+  said-part-saturation :
+      (command : Command) (fs : List Annotated) (a : List ℕ) → command_of words ≡ Some command → IsFormed (Gives outside command) fs
+      → Says outside command fs 10 a → Took taken a
+      → ForProve words (λ source options. OfFormed (IsRead outside source) (PrintedPartSaturation taken source.file options))
+  said-part-saturation (prove file root options workers) fs a i f (told_part_saturated m n h e w) k = record {
+    source = source_at file root;
+    options = options;
+    workers = workers;
+    is_prove = i;
+    says = record {
+      formulas = fs;
+      formed = f;
+      says = record { members = m; some_left = n; saturation = h; report = k ∙ ap (with_bytes taken.bytes_before) w };
+    };
+  }
+  said-part-saturation (prove file root options workers) fs a i f (told_refuted d h e w) k = absurd (omega (arith, e))
+  said-part-saturation (prove file root options workers) fs a i f (told_saturated m n h e w) k = absurd (omega (arith, e))
+  said-part-saturation (prove file root options workers) fs a i f (told_spent n h e w) k = absurd (omega (arith, e))
+  said-part-saturation (prove file root options workers) fs a i f (told_heavy n h e w) k = absurd (omega (arith, e))
+  said-part-saturation command fs a i f h k = not-said outside command fs 10 a refl h
+
+  printed-part-saturation :
+      (command : Command) (a : List ℕ) → command_of words ≡ Some command → IsAnswered command outside 10 a → Took taken a
+      → ForProve words (λ source options. OfFormed (IsRead outside source) (PrintedPartSaturation taken source.file options))
+  printed-part-saturation command a i h k =
+      let x = is-said outside command 10 a refl h in said-part-saturation command x.formulas a i x.formed x.says k
+
+  pub part-saturated-row : PartSaturatedRow words outside taken status
+  part-saturated-row s =
+      let x = answered words outside taken status r 10 s refl in
+      printed-part-saturation x.command x.says.text x.is_command x.says.is x.says.report
+
   -- ---- 2
 
-  abbrev GivesUp : Source → Options → Type 0
+  abbrev GivesUp : Source → ProveOptions → Type 0
   GivesUp source options =
       OfFormed (IsRead outside source) (λ formulas. PrintedSpent taken source.file options formulas ⊎ PrintedHeavy taken source.file options formulas)
 
   said-given-up :
       (command : Command) (fs : List Annotated) (a : List ℕ) → command_of words ≡ Some command → IsFormed (Gives outside command) fs
       → Says outside command fs 2 a → Took taken a → ForProve words GivesUp
-  said-given-up (prove file root options) fs a i f (told_spent n h e w) k = record {
+  said-given-up (prove file root options workers) fs a i f (told_spent n h e w) k = record {
     source = source_at file root;
     options = options;
+    workers = workers;
     is_prove = i;
     says = record {
       formulas = fs;
@@ -90,9 +128,10 @@ module _ (words : List (List ℕ)) (outside : Outside) (taken : Taken) (status :
       says = inl (record { count = n; spent = h; report = k ∙ ap (with_bytes taken.bytes_before) w });
     };
   }
-  said-given-up (prove file root options) fs a i f (told_heavy n h e w) k = record {
+  said-given-up (prove file root options workers) fs a i f (told_heavy n h e w) k = record {
     source = source_at file root;
     options = options;
+    workers = workers;
     is_prove = i;
     says = record {
       formulas = fs;
@@ -100,8 +139,9 @@ module _ (words : List (List ℕ)) (outside : Outside) (taken : Taken) (status :
       says = inr (record { key = n; heavy = h; report = k ∙ ap (with_bytes taken.bytes_before) w });
     };
   }
-  said-given-up (prove file root options) fs a i f (told_refuted d h e w) k = absurd (omega (arith, e))
-  said-given-up (prove file root options) fs a i f (told_saturated m h e w) k = absurd (omega (arith, e))
+  said-given-up (prove file root options workers) fs a i f (told_refuted d h e w) k = absurd (omega (arith, e))
+  said-given-up (prove file root options workers) fs a i f (told_saturated m n h e w) k = absurd (omega (arith, e))
+  said-given-up (prove file root options workers) fs a i f (told_part_saturated m n h e w) k = absurd (omega (arith, e))
   said-given-up command fs a i f h k = not-said outside command fs 2 a refl h
 
   gives-up : (command : Command) (a : List ℕ) → command_of words ≡ Some command → IsAnswered command outside 2 a → Took taken a → ForProve words GivesUp

@@ -12,11 +12,11 @@ use Rattle.clausal_form.specs.DerivationTexts.{IsAcceptedDerivation, IsRefusedDe
 use Rattle.clausal_form.specs.DerivationLaws.{TextsHaveOneAnswer}
 use Rattle.tstp_checker.specs.Causes.{cause_meant}
 use Rattle.tstp_checker.specs.declared.cause.Cause.{Cause}
-use Rattle.pool_history.specs.declared.options.Options.{Options}
+use Rattle.prover_main.specs.declared.words.ProveOptions.{ProveOptions}
 use Rattle.prover_main.specs.Outside.{Outside, IsTold}
 use Rattle.prover_main.specs.Words.{Command, prove, check, command_of}
 use Rattle.prover_main.specs.Problems.{Source, IsRead, IsUnread, IsFormed, OfFormed, told_unread, told_unformed, of_formulas}
-use Rattle.prover_main.specs.ProveReports.{IsProofReport, told_refuted, told_saturated, told_spent, told_heavy}
+use Rattle.prover_main.specs.ProveReports.{IsProofReport, told_refuted, told_saturated, told_part_saturated, told_spent, told_heavy}
 use Rattle.prover_main.specs.CheckReports.{IsLoaded, IsRefusedText, IsTooLong, IsCheckReport, told_accepted, told_refused, told_unloaded}
 use Rattle.prover_main.specs.Answer.{Gives, Fails, Says, IsAnswered}
 use Rattle.prover_main.specs.Reports.{read_status, unread_report, unformed_report, usage_report}
@@ -43,13 +43,15 @@ module _ (words : List (List ℕ)) (outside : Outside) (taken : Taken) (status :
   -- ---- 0
 
   said-theorem : (command : Command) (fs : List Annotated) (a : List ℕ) → Says outside command fs 0 a → IsRefutedTheorem fs
-  said-theorem (prove file root options) fs a (told_refuted d h e w) = (h.herbrand, h.theorem)
+  said-theorem (prove file root options workers) fs a (told_refuted d h e w) = (h.herbrand, h.theorem)
   said-theorem (check file derivation root) fs a (told_accepted n h e w) = (h.herbrand, h.theorem)
-  said-theorem (prove file root options) fs a (told_saturated m h e w) = absurd (omega (arith, e))
-  said-theorem (prove file root options) fs a (told_spent n h e w) = absurd (omega (arith, e))
-  said-theorem (prove file root options) fs a (told_heavy k h e w) = absurd (omega (arith, e))
+  said-theorem (prove file root options workers) fs a (told_saturated m n h e w) = absurd (omega (arith, e))
+  said-theorem (prove file root options workers) fs a (told_part_saturated m n h e w) = absurd (omega (arith, e))
+  said-theorem (prove file root options workers) fs a (told_spent n h e w) = absurd (omega (arith, e))
+  said-theorem (prove file root options workers) fs a (told_heavy k h e w) = absurd (omega (arith, e))
   said-theorem (check file derivation root) fs a (told_refused n c h e w) = absurd (omega (arith, e))
   said-theorem (check file derivation root) fs a (told_unloaded n h e w) = absurd (omega (arith, e))
+  said-theorem command fs a h = not-said outside command fs 0 a refl h
 
   refuted-theorem : (command : Command) (a : List ℕ) → IsAnswered command outside 0 a → OfFormed (Gives outside command) IsRefutedTheorem
   refuted-theorem command a h =
@@ -181,20 +183,21 @@ module _ (words : List (List ℕ)) (outside : Outside) (taken : Taken) (status :
   -- ---- completeness
 
   abbrev IsWorked : Type 0
-  IsWorked = (status ≡ 0) ⊎ ((status ≡ 1) ⊎ ((status ≡ 2) ⊎ IsCut status))
+  IsWorked = (status ≡ 0) ⊎ ((status ≡ 1) ⊎ ((status ≡ 2) ⊎ ((status ≡ 10) ⊎ IsCut status)))
 
-  said-worked : (file : List ℕ) (options : Options) (fs : List Annotated) (s : ℕ) (a : List ℕ) → IsProofReport file options fs s a → status ≡ s → IsWorked
+  said-worked : (file : List ℕ) (options : ProveOptions) (fs : List Annotated) (s : ℕ) (a : List ℕ) → IsProofReport file options fs s a → status ≡ s → IsWorked
   said-worked file options fs s a (told_refuted d h e w) i = inl (i ∙ e)
-  said-worked file options fs s a (told_saturated m h e w) i = inr (inl (i ∙ e))
+  said-worked file options fs s a (told_saturated m n h e w) i = inr (inl (i ∙ e))
+  said-worked file options fs s a (told_part_saturated m n h e w) i = inr (inr (inr (inl (i ∙ e))))
   said-worked file options fs s a (told_spent n h e w) i = inr (inr (inl (i ∙ e)))
   said-worked file options fs s a (told_heavy n h e w) i = inr (inr (inl (i ∙ e)))
 
   prove-complete :
-      (source : Source) (options : Options) (s : ℕ) (a : List ℕ) → IsTold outside → IsValid outside source
-      → IsAnswered (prove source.file source.root options) outside s a → status ≡ s → IsWorked
-  prove-complete source options s a t v (of_formulas fs h w) i = said-worked source.file options fs s a w i
-  prove-complete source options s a t v (told_unread c f p h e w) i = absurd (v.read c f p (not-load outside source t c f p h) h.fault)
-  prove-complete source options s a t v (told_unformed c n h e w) i = absurd (v.formed c n h)
+      (source : Source) (options : ProveOptions) (workers s : ℕ) (a : List ℕ) → IsTold outside → IsValid outside source
+      → IsAnswered (prove source.file source.root options workers) outside s a → status ≡ s → IsWorked
+  prove-complete source options workers s a t v (of_formulas fs h w) i = said-worked source.file options fs s a w i
+  prove-complete source options workers s a t v (told_unread c f p h e w) i = absurd (v.read c f p (not-load outside source t c f p h) h.fault)
+  prove-complete source options workers s a t v (told_unformed c n h e w) i = absurd (v.formed c n h)
 
   -- a text that is refused isn't accepted
   refused-not-accepted :
@@ -234,19 +237,20 @@ module _ (words : List (List ℕ)) (outside : Outside) (taken : Taken) (status :
 
   pub complete-row : TextsHaveOneAnswer → CompleteRow words outside status
   complete-row one = record {
-    proves = λ source options t e v. by_prove source options t e v r.delivered.outcome r.delivered.status_is;
+    proves = λ source options workers t e v. by_prove source options workers t e v r.delivered.outcome r.delivered.status_is;
     checks = λ source derivation x t e v loaded. by_check source derivation x t e v loaded r.delivered.outcome r.delivered.status_is;
   }
     where
       by_prove :
-          (source : Source) (options : Options) → IsTold outside → command_of words ≡ Some (prove source.file source.root options)
+          (source : Source) (options : ProveOptions) (workers : ℕ) → IsTold outside
+          → command_of words ≡ Some (prove source.file source.root options workers)
           → IsValid outside source → (o : Result (Unit {0}) SinkFault) → status ≡ status_after r.due o → IsWorked
-      by_prove source options t e v (Ok u) s = due (due-to words outside taken status r (prove source.file source.root options) e)
+      by_prove source options workers t e v (Ok u) s = due (due-to words outside taken status r (prove source.file source.root options workers) e)
         where
-          due : IsDueTo (prove source.file source.root options) outside r.due r.text → IsWorked
-          due (inl d) = prove-complete source options r.due r.text t v d s
-          due (inr m) = inr (inr (inr (inl (s ∙ m.0))))
-      by_prove source options t e v (Err f) s = inr (inr (inr (inr s)))
+          due : IsDueTo (prove source.file source.root options workers) outside r.due r.text → IsWorked
+          due (inl d) = prove-complete source options workers r.due r.text t v d s
+          due (inr m) = inr (inr (inr (inr (inl (s ∙ m.0)))))
+      by_prove source options workers t e v (Err f) s = inr (inr (inr (inr (inr s))))
 
       by_check :
           (source : Source) (derivation x : List ℕ) → IsTold outside → command_of words ≡ Some (check source.file derivation source.root)

@@ -1,17 +1,18 @@
 -- The statuses with which commands report on formulas.
 use Rattle.std.proofs.Common.{◌≡◌, ◌⊎◌, inl, inr, ℕ, List, [], ◌∷◌, refl, ap, sym, ◌∙◌, eq-eqb}
-use Rattle.std.specs.Prelude.{Bool, true, false, not, ◌==◌, ◌||◌}
+use Rattle.std.specs.Prelude.{Bool, true, not, ◌==◌, ◌||◌}
 use Rattle.std.specs.List.{list_all}
 use Rattle.std.proofs.lemmas.Bool.{and_parts, true≢false}
 use Rattle.tptp_tree.specs.declared.problem.Annotated.{Annotated}
 use Rattle.tptp_reader.specs.declared.cause.ReadCause.{ReadCause}
 use Rattle.tptp_reader.specs.declared.cause.ReadCause.TheVariants.{Inappropriate, Load}
-use Rattle.pool_history.specs.declared.options.Options.{Options}
+use Rattle.prover_main.specs.declared.words.ProveOptions.{ProveOptions}
 use Rattle.prover_main.specs.Outside.{Outside}
-use Rattle.prover_main.specs.Words.{Command, prove, check}
+use Rattle.prover_main.specs.Words.{Command, prove, check, model}
 use Rattle.prover_main.specs.Problems.{OfFormed, told_unread, told_unformed, of_formulas}
-use Rattle.prover_main.specs.ProveReports.{IsProofReport, told_refuted, told_saturated, told_spent, told_heavy}
+use Rattle.prover_main.specs.ProveReports.{IsProofReport, told_refuted, told_saturated, told_part_saturated, told_spent, told_heavy}
 use Rattle.prover_main.specs.CheckReports.{IsCheckReport, told_accepted, told_refused, told_unloaded}
+use Rattle.prover_main.specs.ModelReports.{IsModelReport, told_model, told_no_model, told_too_large}
 use Rattle.prover_main.specs.Answer.{Gives, Says, IsAnswered}
 use Rattle.prover_main.specs.Reports.{read_status}
 
@@ -35,8 +36,9 @@ not-one n s ns others h e = true≢false (sym (one-has (λ m. not (m == n)) s ns
 
 -- the statuses with which a command reports on formulas
 abbrev pub statuses_of : Command → List ℕ
-statuses_of (prove file root options) = 0 ∷ 1 ∷ 2 ∷ []
+statuses_of (prove file root options workers) = 0 ∷ 1 ∷ 2 ∷ 10 ∷ []
 statuses_of (check file derivation root) = 0 ∷ 4 ∷ 9 ∷ []
+statuses_of (model file root most) = 11 ∷ 12 ∷ []
 
 -- no fault of the problem among them
 abbrev is_own : ℕ → Bool
@@ -50,12 +52,14 @@ abbrev AreOwn : List ℕ → Type 0
 AreOwn ns = (list_all is_own ns ≡ true) × (list_all is_answered ns ≡ true)
 
 are-own : (command : Command) → AreOwn (statuses_of command)
-are-own (prove file root options) = (refl, refl)
+are-own (prove file root options workers) = (refl, refl)
 are-own (check file derivation root) = (refl, refl)
+are-own (model file root most) = (refl, refl)
 
-proof-status : (file : List ℕ) (options : Options) (fs : List Annotated) (s : ℕ) (a : List ℕ) → IsProofReport file options fs s a → IsOneOf s (0 ∷ 1 ∷ 2 ∷ [])
+proof-status : (file : List ℕ) (options : ProveOptions) (fs : List Annotated) (s : ℕ) (a : List ℕ) → IsProofReport file options fs s a → IsOneOf s (0 ∷ 1 ∷ 2 ∷ 10 ∷ [])
 proof-status file options fs s a (told_refuted d h e w) = inl e
-proof-status file options fs s a (told_saturated m h e w) = inr (inl e)
+proof-status file options fs s a (told_saturated m n h e w) = inr (inl e)
+proof-status file options fs s a (told_part_saturated m n h e w) = inr (inr (inr (inl e)))
 proof-status file options fs s a (told_spent n h e w) = inr (inr (inl e))
 proof-status file options fs s a (told_heavy k h e w) = inr (inr (inl e))
 
@@ -66,9 +70,15 @@ check-status outside file derivation fs s a (told_accepted n h e w) = inl e
 check-status outside file derivation fs s a (told_unloaded n h e w) = inr (inl e)
 check-status outside file derivation fs s a (told_refused n c h e w) = inr (inr (inl e))
 
+model-status : (file : List ℕ) (most : ℕ) (fs : List Annotated) (s : ℕ) (a : List ℕ) → IsModelReport file most fs s a → IsOneOf s (11 ∷ 12 ∷ [])
+model-status file most fs s a (told_model t h e w) = inl e
+model-status file most fs s a (told_no_model h e w) = inr (inl e)
+model-status file most fs s a (told_too_large n h e w) = inr (inl e)
+
 said-status : (outside : Outside) (command : Command) (fs : List Annotated) (s : ℕ) (a : List ℕ) → Says outside command fs s a → IsOneOf s (statuses_of command)
-said-status outside (prove file root options) fs s a h = proof-status file options fs s a h
+said-status outside (prove file root options workers) fs s a h = proof-status file options fs s a h
 said-status outside (check file derivation root) fs s a h = check-status outside file derivation fs s a h
+said-status outside (model file root most) fs s a h = model-status file most fs s a h
 
 -- ---- whatever the command
 

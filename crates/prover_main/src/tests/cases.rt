@@ -12,8 +12,8 @@ pub(crate) struct Case {
 
 /// What is printed where the words are no command.
 const USAGE: &[u8] =
-    b"usage: prove FILE [--inferences=N] [--tptp=DIR] [--select=none|negative] [--split=on|off]\n       \
-check FILE DERIVATION [--tptp=DIR]\n";
+    b"usage: prove FILE [--workers=K] [--inferences=N] [--tptp=DIR] [--select=none|negative] [--split=on|off] [--tolerance=T --depth=D]\n       \
+check FILE DERIVATION [--tptp=DIR]\n       model FILE [--size=S] [--tptp=DIR]\n";
 
 const TWO_UNITS: &[u8] = b"cnf(a,axiom,p). cnf(b,negated_conjecture,~p).";
 
@@ -50,6 +50,11 @@ const GROUP_AXIOMS: &[u8] =
 fof(left_inv,axiom,! [X] : mult(inv(X),X) = e).\n\
 cnf(assoc,axiom,( mult(mult(X,Y),Z) = mult(X,mult(Y,Z)) )).\n";
 
+/// Two constants, and a function of 24 arguments.
+const TWO_AND_WIDE: &[u8] =
+    b"cnf(a,axiom,a != b). cnf(b,axiom,f(X1,X2,X3,X4,X5,X6,X7,X8,X9,X10,X11,X12,X13,X14,X15,X16,X17,X18,\
+X19,X20,X21,X22,X23,X24) = a).";
+
 /// What is printed of an empty problem.
 const NO_MEMBERS: &[u8] = b"% SZS status Satisfiable for r2\n\
 % SZS output start Saturation for r2\n\
@@ -63,6 +68,17 @@ const NARROW_WHOLE: &[u8] = b"% SZS status Satisfiable for r12\n\
 cnf(s0,plain,~p(sk0) | q).\n\
 % SZS output end Saturation for r12\n";
 
+/// Units and a clause that resolves with one of them.
+pub(crate) const APART: &[u8] = b"cnf(a,axiom,p(a)). cnf(b,axiom,~p(X) | q(X)). cnf(c,axiom,r).";
+
+pub(crate) const APART_SATURATED: &[u8] = b"% SZS status Satisfiable for r18\n\
+% SZS output start Saturation for r18\n\
+cnf(s0,plain,p(a)).\n\
+cnf(s1,plain,~p(X0) | q(X0)).\n\
+cnf(s2,plain,r).\n\
+cnf(s3,plain,q(a)).\n\
+% SZS output end Saturation for r18\n";
+
 /// Its clause is split, and no name is true at first: so the part holds that denies one.
 const NARROW_SPLIT: &[u8] = b"% SZS status Satisfiable for r12\n\
 % SZS output start Saturation for r12\n\
@@ -71,6 +87,23 @@ cnf(s0,plain,~p(sk0)).\n\
 
 /// A conjecture whose negation has one clause, which its Skolem constant makes empty.
 const EQUAL_TO_SOME: &[u8] = b"fof(g,conjecture,! [X] : ? [Y] : X = Y).";
+
+/// A goal that shares its rare symbol with two axioms, and an axiom about another one.
+const REACHED: &[u8] =
+    b"fof(a1,axiom,! [X] : (p(X) => q(X))). fof(a2,axiom,p(a)). fof(a3,axiom,r(b)). fof(c,conjecture,q(a)).";
+
+/// A goal whose symbols are the frequent ones of both axioms.
+const UNREACHED: &[u8] = b"fof(a1,axiom,p(a)). fof(a2,axiom,~r(b)). fof(c,conjecture,p(b)).";
+
+/// Axioms of which each is reached through the one after it, after one that isn't needed.
+const IN_THREE_STEPS: &[u8] =
+    b"fof(z,axiom,z0 | z1). fof(a,axiom,p(a)). fof(b,axiom,! [X] : (p(X) => q(X))). \
+fof(c,axiom,! [X] : (q(X) => r(X))). fof(d,conjecture,r(a)).";
+
+/// A goal of two clauses after axioms that it doesn't reach.
+const LAST_PART: &[u8] =
+    b"cnf(y,axiom,y | z). cnf(z,axiom,~z). cnf(a,axiom,p(X) | q(Y)). cnf(b,negated_conjecture,~p(a)). \
+cnf(c,negated_conjecture,~q(b)).";
 
 pub(crate) const CASES: &[Case] = &[
     // What ends with a saturated set.
@@ -104,18 +137,16 @@ cnf(s1,plain,b = c).\n\
     },
     Case {
         words: &["prove", "r18.p"],
-        files: &[(
-            "r18.p",
-            b"cnf(a,axiom,p(a)). cnf(b,axiom,~p(X) | q(X)). cnf(c,axiom,r).",
-        )],
+        files: &[("r18.p", APART)],
         status: 1,
-        report: b"% SZS status Satisfiable for r18\n\
-% SZS output start Saturation for r18\n\
-cnf(s0,plain,p(a)).\n\
-cnf(s1,plain,~p(X0) | q(X0)).\n\
-cnf(s2,plain,r).\n\
-cnf(s3,plain,q(a)).\n\
-% SZS output end Saturation for r18\n",
+        report: APART_SATURATED,
+    },
+    // By two workers, whose one inference makes the last member.
+    Case {
+        words: &["prove", "--workers=2", "r18.p"],
+        files: &[("r18.p", APART)],
+        status: 1,
+        report: APART_SATURATED,
     },
     Case {
         words: &["prove", "c.p"],
@@ -126,6 +157,54 @@ cnf(s3,plain,q(a)).\n\
 cnf(s0,plain,p).\n\
 cnf(s1,plain,~q).\n\
 % SZS output end Saturation for c\n",
+    },
+    // What a selection leaves out.
+    Case {
+        words: &["prove", "--tolerance=100", "--depth=1", "g17.p"],
+        files: &[("g17.p", UNREACHED)],
+        status: 10,
+        report: b"% SZS status Unknown for g17\n\
+% left out 2 of 3\n\
+% SZS output start Saturation for g17\n\
+cnf(s0,plain,~p(b)).\n\
+% SZS output end Saturation for g17\n",
+    },
+    Case {
+        words: &["prove", "--tolerance=200", "--depth=1", "g17.p"],
+        files: &[("g17.p", UNREACHED)],
+        status: 1,
+        report: b"% SZS status CounterSatisfiable for g17\n\
+% SZS output start Saturation for g17\n\
+cnf(s0,plain,p(a)).\n\
+cnf(s1,plain,~r(b)).\n\
+cnf(s2,plain,~p(b)).\n\
+% SZS output end Saturation for g17\n",
+    },
+    // Without a goal everything is kept.
+    Case {
+        words: &["prove", "--depth=50", "n.p", "--tolerance=1000"],
+        files: &[("n.p", b"cnf(a,axiom,p). cnf(b,axiom,q).")],
+        status: 1,
+        report: b"% SZS status Satisfiable for n\n\
+% SZS output start Saturation for n\n\
+cnf(s0,plain,p).\n\
+cnf(s1,plain,q).\n\
+% SZS output end Saturation for n\n",
+    },
+    Case {
+        words: &[
+            "prove",
+            "--tolerance=100",
+            "--depth=1",
+            "--inferences=10",
+            "s.p",
+        ],
+        files: &[(
+            "s.p",
+            b"cnf(z,axiom,z). cnf(a,axiom,p(a)). cnf(b,negated_conjecture,~p(X) | p(f(X))). cnf(c,negated_conjecture,p(a)).",
+        )],
+        status: 2,
+        report: b"% SZS status GaveUp for s\n% spent 10 of 10\n",
     },
     // What gives up.
     Case {
@@ -220,6 +299,54 @@ cnf(c3,plain,$false,inference(refl,[status(thm),lit(0),bind([sk0])],[c2])).\n\
         status: 9,
         report: b"% refused at line 0: NoEmptyClause\n",
     },
+    // Finite models.
+    Case {
+        words: &["model", "r4.p"],
+        files: &[("r4.p", b"cnf(a,axiom,p(X)).")],
+        status: 11,
+        report: b"% SZS status Satisfiable for r4\n\
+% SZS output start FiniteModel for r4\n\
+% size 1\n\
+% p(0) = 1\n\
+% SZS output end FiniteModel for r4\n",
+    },
+    Case {
+        words: &["model", "--size=1", "m18.p"],
+        files: &[("m18.p", b"cnf(a,axiom,a != b).")],
+        status: 12,
+        report: b"% SZS status GaveUp for m18\n% no model of size 1 to 1\n",
+    },
+    Case {
+        words: &["model", "m18.p"],
+        files: &[("m18.p", b"cnf(a,axiom,a != b).")],
+        status: 11,
+        report: b"% SZS status Satisfiable for m18\n\
+% SZS output start FiniteModel for m18\n\
+% size 2\n\
+% a = 0\n\
+% b = 1\n\
+% SZS output end FiniteModel for m18\n",
+    },
+    Case {
+        words: &["model", "m18.p"],
+        files: &[("m18.p", TWO_AND_WIDE)],
+        status: 12,
+        report: b"% SZS status GaveUp for m18\n% too large at size 2\n",
+    },
+    Case {
+        words: &["model", "c.p"],
+        files: &[(
+            "c.p",
+            b"fof(a,axiom,? [X] : p(X)). fof(c,conjecture,! [X] : p(X)).",
+        )],
+        status: 11,
+        report: b"% SZS status CounterSatisfiable for c\n\
+% SZS output start FiniteModel for c\n\
+% size 2\n\
+% p(0) = 1\n\
+% p(1) = 0\n\
+% SZS output end FiniteModel for c\n",
+    },
     // Words.
     Case {
         words: &["prove"],
@@ -227,10 +354,18 @@ cnf(c3,plain,$false,inference(refl,[status(thm),lit(0),bind([sk0])],[c2])).\n\
         status: 6,
         report: USAGE,
     },
+    Case {
+        words: &["prove", "--depth=1", "r2.p"],
+        files: &[("r2.p", b"")],
+        status: 6,
+        report: USAGE,
+    },
 ];
 
-/// Problems that are refuted, whose derivations must be accepted: the words, the files, and the word of the status.
+/// Problems that are refuted, whose derivations must be accepted: the command that refutes them, the words that `check` has too, the files,
+/// and the word of the status.
 pub(crate) struct Refuted {
+    pub command: &'static [&'static str],
     pub words: &'static [&'static str],
     pub files: &'static [(&'static str, &'static [u8])],
     pub word: &'static str,
@@ -238,21 +373,50 @@ pub(crate) struct Refuted {
 
 pub(crate) const REFUTED: &[Refuted] = &[
     Refuted {
+        command: &["prove"],
         words: &["b.p"],
         files: &[("b.p", IMPLICATION)],
         word: "Theorem",
     },
     Refuted {
+        command: &["prove"],
         words: &["b.p"],
         files: &[("b.p", CLAUSES)],
         word: "Unsatisfiable",
     },
     Refuted {
+        command: &["prove"],
         words: &["b.p"],
         files: &[("b.p", TWO_PARTS)],
         word: "Unsatisfiable",
     },
+    // Of a part of the axioms: what is printed is a derivation from all.
     Refuted {
+        command: &["prove", "--tolerance=100", "--depth=1"],
+        words: &["b.p"],
+        files: &[("b.p", REACHED)],
+        word: "Theorem",
+    },
+    Refuted {
+        command: &["prove", "--tolerance=1000", "--depth=3"],
+        words: &["b.p"],
+        files: &[("b.p", IN_THREE_STEPS)],
+        word: "Theorem",
+    },
+    Refuted {
+        command: &["prove", "--tolerance=1000", "--depth=50", "--split=off"],
+        words: &["b.p"],
+        files: &[("b.p", LAST_PART)],
+        word: "Unsatisfiable",
+    },
+    Refuted {
+        command: &["prove"],
+        words: &["b.p", "--tptp=LIB"],
+        files: &[("b.p", GROUP), ("LIB/Axioms/grp.ax", GROUP_AXIOMS)],
+        word: "Theorem",
+    },
+    Refuted {
+        command: &["prove", "--workers=4"],
         words: &["b.p", "--tptp=LIB"],
         files: &[("b.p", GROUP), ("LIB/Axioms/grp.ax", GROUP_AXIOMS)],
         word: "Theorem",

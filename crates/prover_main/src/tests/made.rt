@@ -9,6 +9,7 @@ ghost use Rattle.prover_main.specs.Examples.{formula_in, made_formulas};
 use super::*;
 use crate::problem::FormedProblem;
 use crate::prove::formed_report;
+use crate::words::{DEFAULT_WORKERS, ProveOptions};
 use clausal_form::clausal;
 use literal_selection::Selection;
 use plain_types::{DEFAULT_INFERENCES, Text};
@@ -60,14 +61,26 @@ fn options() -> Options
 }
 
 /// The status and the report of the problem that is made. It has a clausal form, or memory is out.
-fn made_outcome<R: Wait>(rt: &R, alloc: Global) -> Mem<(u8, Text)> {
+fn made_outcome<R: Threads + Wait + Sync>(rt: &R, alloc: Global) -> Mem<(u8, Text)> {
     let problem = made_problem(alloc)?;
     made_is_admissible(&problem);
     let Ok(form) = clausal(alloc, &problem) else {
         return Err(NoMemory);
     };
     let formed = FormedProblem { problem, form };
-    let report = formed_report(rt, alloc, "made", &formed, options())?;
+    let proving = ProveOptions {
+        pool: options(),
+        axioms: None,
+    };
+    let report = formed_report(
+        rt,
+        alloc,
+        "made",
+        &formed,
+        proving,
+        DEFAULT_WORKERS,
+        &NoGate,
+    )?;
     Ok((report.status, report.text))
 }
 
@@ -75,7 +88,14 @@ fn made_outcome<R: Wait>(rt: &R, alloc: Global) -> Mem<(u8, Text)> {
 fn made_problems_are_refuted(rt: HostRuntime) {
     let problem = made_problem(rt.alloc()).expect(&rt, "memory");
     made_is_admissible(&problem);
-    let proved = prove_problem(&rt, rt.alloc(), &problem, options());
+    let proved = prove_problem(
+        &rt,
+        rt.alloc(),
+        &problem,
+        options(),
+        DEFAULT_WORKERS,
+        &NoGate,
+    );
     let proved = proved.ok().expect(&rt, "a pool");
     assert!(rt; matches!(proved.outcome, Outcome::Refuted));
 }

@@ -18,6 +18,10 @@ returns c = record {
   lost_under_a_name_of_other_bytes = refl;
   typed = refl;
   refused = refl;
+  unknown = refl;
   counter_satisfiable = refl;
   satisfiable = refl;
+  model = refl;
+  no_model = refl;
+  too_large = refl;
 }

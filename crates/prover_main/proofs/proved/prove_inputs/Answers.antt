@@ -1,9 +1,7 @@
-use Rattle.std.proofs.Common.{ap, sym, subst}
-use Rattle.signature.specs.Form.{ClausalForm}
-use Rattle.pool_history.specs.Inputs.{AreInputs}
-use Rattle.prover_main.proofs.AboutOutcomes.FormInputs.{form-inputs}
+use Rattle.std.proofs.Common.{map}
+use Rattle.fol_base.specs.Literal.{clause_of}
+use Rattle.prover_main.proofs.AboutOutcomes.InputLemmas.{are-inputs}
 use Rattle.prover_main.proofs.proved.prove_inputs.Goals as goal
 
 pub returns : goal.returns
-returns c =
-    subst AreInputs (sym (ap (λ (f : ClausalForm). f.clauses) c.requires.form)) (form-inputs c.args.problem.now.formulas c.requires.within)
+returns c = are-inputs c.args.problem.now.formulas (map clause_of c.args.inputs.now) c.requires.inputs c.requires.within

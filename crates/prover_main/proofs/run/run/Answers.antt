@@ -1,5 +1,6 @@
 use Rattle.prover_main.proofs.AboutRuns.CheckRowLemmas.{checked-row}
-use Rattle.prover_main.proofs.AboutRuns.ProveRowLemmas.{printed-row, saturated-row, gave-up-row}
+use Rattle.prover_main.proofs.AboutRuns.ModelRowLemmas.{model-row}
+use Rattle.prover_main.proofs.AboutRuns.ProveRowLemmas.{printed-row, saturated-row, part-saturated-row, gave-up-row}
 use Rattle.prover_main.proofs.AboutRuns.RowLemmas.{theorem-row, form-fault-row, load-fault-row, lost-output-row, usage-row, memory-out-row, read-fault-row, complete-row}
 use Rattle.prover_main.proofs.run.run.Goals as goal
 
@@ -11,8 +12,10 @@ returns g c =
       theorem = theorem-row _ _ _ _ is;
       printed = printed-row _ _ _ _ is;
       saturated = saturated-row _ _ _ _ is;
+      part_saturated = part-saturated-row _ _ _ _ is;
       gave_up = gave-up-row _ _ _ _ is;
       checked = checked-row _ _ _ _ is one;
+      model = model-row _ _ _ _ is one;
       form_fault = form-fault-row _ _ _ _ is one;
       load_fault = load-fault-row _ _ _ _ is;
       lost_output = lost-output-row _ _ _ _ is;

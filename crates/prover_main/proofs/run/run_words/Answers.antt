@@ -19,4 +19,7 @@ returns-in-Err g c =
     (inr (refl, ap memory_out_report c.file_of.ensures)) c.report_memory_out.ensures
 
 pub report_to-requires : goal.report_to-requires
-report_to-requires g c = record { fit = commands-fit c.args.words.now (command_meant c.in-Some.command) c.in-Some.ensures }
+report_to-requires g c = (
+  c.type_bounds.sync-R,
+  (record { shared = c.type_bounds.sync-G.shared }, commands-fit c.args.words.now (command_meant c.in-Some.command) c.in-Some.ensures),
+)
