@@ -3,3 +3,5 @@
 mod InputLemmas
 -- ResolvingLemmas: the batches of the tests by which a literal t != t goes are right.
 mod ResolvingLemmas
+-- SplittingLemmas: the solver's answers of the tests are right.
+mod SplittingLemmas

@@ -2,25 +2,34 @@
 
 ghost use Rattle.std.specs.Prelude.{◌≡◌, ◌++◌, [], ◌∷◌, suc};
 ghost use Rattle.term_bank.specs.Bank.{identity};
-ghost use Rattle.pool_history.specs.Answers.{IsAnswerToReturn};
+ghost use Rattle.pool_history.specs.Answers.{IsAnswerToClaim, IsAnswerToReturn};
 ghost use Rattle.pool_history.specs.Inputs.{IsRightBatch};
 ghost use Rattle.pool_history.specs.Replay.{replay};
 ghost use Rattle.pool_history.specs.declared.event.Event.TheVariants.{Claim, Return};
 
-use pool_core::{Back, Batch, Claimed, Pool};
+use pool_core::{Back, Batch, Claimed, Pool, Ticket};
 use std::alloc::Global;
 use std::process::Abort;
 use std::sync::Wait;
 use term_bank::Bank;
 
+/// The answer to the next claim of a caller that was told nothing yet.
+pub(crate) fn claim(rt: &impl Abort, alloc: Global, pool: &mut Pool) -> Claimed
+    ensures bank { pool.new.bank ≡ pool.old.bank }
+    ensures origin { pool.new.origin ≡ pool.old.origin }
+    ensures answer { IsAnswerToClaim pool.old.origin pool.old.history 0 result pool.new.history }
+{
+    pool.claim(alloc, 0).expect(rt, "memory")
+}
+
 /// The next claim, which gives a clause.
-pub(crate) fn give(rt: &impl Abort, alloc: Global, pool: &mut Pool)
+pub(crate) fn give(rt: &impl Abort, alloc: Global, pool: &mut Pool) -> Ticket
     ensures bank { pool.new.bank ≡ pool.old.bank }
     ensures origin { pool.new.origin ≡ pool.old.origin }
     ensures history { pool.new.history ≡ pool.old.history ++ Claim (suc (replay pool.old.origin pool.old.history).jobs) ∷ [] }
 {
-    match pool.claim(alloc, 0).expect(rt, "memory") {
-        Claimed::Given(_) => {}
+    match claim(rt, alloc, pool) {
+        Claimed::Given(ticket) => ticket,
         _ => panic!(rt; "no clause is given"),
     }
 }

@@ -40,7 +40,13 @@ fn implication(rt: &impl Abort, alloc: Global, condition: Term, conclusion: Term
 }
 
 /// The list of three clauses.
-fn listed(rt: &impl Abort, alloc: Global, first: Clause, second: Clause, third: Clause) -> Clauses
+pub(crate) fn listed(
+    rt: &impl Abort,
+    alloc: Global,
+    first: Clause,
+    second: Clause,
+    third: Clause,
+) -> Clauses
     ensures { map clause_of result ≡ clause_of first ∷ clause_of second ∷ clause_of third ∷ [] }
 {
     let mut clauses = Clauses::new(alloc);

@@ -12,3 +12,5 @@ mod claiming;
 mod inputs;
 #[cfg(test)]
 mod returning;
+#[cfg(test)]
+mod splitting;
