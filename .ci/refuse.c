@@ -5,6 +5,8 @@
 #include <errno.h>
 #include <stdio.h>
 #include <stdlib.h>
+#include <sys/syscall.h>
+#include <unistd.h>
 
 static unsigned long asked, first, last;
 static void *(*real_malloc)(size_t), *(*real_realloc)(void *, size_t), *(*real_calloc)(size_t, size_t);
@@ -21,7 +23,7 @@ __attribute__((constructor)) static void begin(void) {
     asked = 0;
 }
 
-__attribute__((destructor)) static void end(void) {
+static void tell_count(void) {
     const char *name = getenv("REFUSE_COUNT");
     unsigned long count = asked;
     FILE *file = name ? fopen(name, "w") : NULL;
@@ -31,9 +33,21 @@ __attribute__((destructor)) static void end(void) {
     }
 }
 
+__attribute__((destructor)) static void end(void) {
+    tell_count();
+}
+
+/* (A program with threads ends by this call, without destructors.) */
+void _exit(int status) {
+    tell_count();
+    syscall(SYS_exit_group, status);
+    __builtin_unreachable();
+}
+
 static int is_refused(void) {
-    asked += 1;
-    return first <= asked && asked <= last;
+    /* (Several threads may ask.) */
+    unsigned long number = __atomic_add_fetch(&asked, 1, __ATOMIC_SEQ_CST);
+    return first <= number && number <= last;
 }
 
 void *malloc(size_t size) {

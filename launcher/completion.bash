@@ -3,7 +3,7 @@
 # Commands first, then the options of the command and files. Exit statuses are told by `./telmukhai help` and by the manual page docs/telmukhai.1.
 
 _telmukhai() {
-  local word=${COMP_WORDS[COMP_CWORD]} before=${COMP_WORDS[COMP_CWORD - 1]} options of_prove="--inferences= --tptp= --select= --split="
+  local word=${COMP_WORDS[COMP_CWORD]} before=${COMP_WORDS[COMP_CWORD - 1]} options of_prove="--workers= --inferences= --tptp= --select= --split= --tolerance= --depth="
   COMPREPLY=()
   # Bash splits `--select=none` at its sign, so the value is a word of its own, or the sign itself.
   if [ "$word" = "=" ]; then
@@ -12,12 +12,13 @@ _telmukhai() {
     before=${COMP_WORDS[COMP_CWORD - 2]}
   fi
   if [ "$COMP_CWORD" -eq 1 ]; then
-    mapfile -t COMPREPLY < <(compgen -W "prove check try build batch draw explain help" -- "$word")
+    mapfile -t COMPREPLY < <(compgen -W "prove check model try build batch draw explain help" -- "$word")
     return
   fi
   case "${COMP_WORDS[1]}" in
     prove | try) options=$of_prove ;;
     check) options="--tptp=" ;;
+    model) options="--size= --tptp=" ;;
     batch) options="--timeout= --memory= --jobs= --results= --proofs= --hosts= --resume --help $of_prove" ;;
     draw) options="--format= --every-line --help" ;;
     explain) options="--every-line --tptp= --help" ;;
@@ -33,7 +34,7 @@ _telmukhai() {
     --format) mapfile -t COMPREPLY < <(compgen -W "svg dot" -- "$word") ;;
     --tptp | --proofs) compopt -o filenames && mapfile -t COMPREPLY < <(compgen -d -- "$word") ;;
     --results | --hosts) compopt -o filenames && mapfile -t COMPREPLY < <(compgen -f -- "$word") ;;
-    --inferences | --timeout | --memory | --jobs) ;;
+    --workers | --inferences | --tolerance | --depth | --size | --timeout | --memory | --jobs) ;;
     *)
       case "$word" in
         -*)
