@@ -4,7 +4,7 @@
     docs/statement.py           writes the lists into the document
     docs/statement.py --check   prints what differs from the document; its status is 1 where anything does
 
-Each list has what its roots rest on: the definitions in `specs/` that are reached from a root through names in scope (a file's own and those of its
+Each list has the names of what its roots rest on: the definitions in `specs/` that are reached from a root through names in scope (a file's own and those of its
 `use` lines), and the types and constants of the sources that these speak of. A definition that an earlier list has isn't repeated. The files of a list
 stand in reading order, each after those that it uses, and a file's definitions in the order of the file. The toolchain's own library isn't followed.
 """
@@ -22,6 +22,8 @@ LISTS = [
     ("herbrand", ["IsHerbrandRefuted"]),
     ("accepted", ["IsAcceptedDerivation"]),
     ("saturated", ["IsSaturated"]),
+    ("selection", ["kept_places", "part_clauses"]),
+    ("model", ["IsProblemModel", "HasNoModelBelow", "model_text", "form_measure"]),
 ]
 
 WORD = r"[^\s(){}\[\],;]+"
@@ -34,8 +36,8 @@ class Fault(Exception):
 class Item:
     """A definition: a group of names that are defined together."""
 
-    def __init__(self, path, place, names, comment, body, constructors=()):
-        self.path, self.place, self.names, self.comment, self.body = path, place, names, comment, body
+    def __init__(self, path, place, names, body, constructors=()):
+        self.path, self.place, self.names, self.body = path, place, names, body
         self.constructors = set(constructors)
 
 
@@ -81,11 +83,11 @@ class Spec:
             if line.startswith(("abbrev mutual", "mutual")):
                 while end < len(lines) and (not lines[end].strip() or lines[end].startswith((" ", "--  "))):
                     end += 1
-            self.add(lines[at:end], at, " ".join(comment))
+            self.add(lines[at:end], at)
             comment = []
             at = end
 
-    def add(self, lines, at, comment):
+    def add(self, lines, at):
         names, constructors = [], []
         is_data = False
         for line in lines:
@@ -106,7 +108,7 @@ class Spec:
                 constructors.append(line.split()[0])
         if not names:
             return
-        item = Item(self.path, at, names, comment, "\n".join(lines), constructors)
+        item = Item(self.path, at, names, "\n".join(lines), constructors)
         for name in names + constructors:
             self.items[name] = item
 
@@ -198,11 +200,7 @@ class Sources:
             lines = file.read().split("\n")
         for at, line in enumerate(lines):
             if re.match(rf"\s*pub(?:\([^)]*\))? (?:struct|enum|const|type) {name}\b", line):
-                begin = at
-                while begin and re.match(r"\s*(///|#\[)", lines[begin - 1]):
-                    begin -= 1
-                comment = " ".join(it.strip()[3:].strip() for it in lines[begin:at] if it.strip().startswith("///"))
-                self.declared[path, name] = Item(path, at, [name], comment, "")
+                self.declared[path, name] = Item(path, at, [name], "")
                 return self.declared[path, name]
         return None
 
@@ -313,31 +311,17 @@ def sentence(comment):
     return comment
 
 
-def bullet(names):
-    """One bullet for definitions that have no comment."""
-    return [f"- {', '.join(names)}"] if names else []
-
-
 def printed(sources, items, roots):
-    lines = []
+    """A bullet for each file, in reading order: its head, and its definitions by name."""
+    bullets = []
     count = 0
     for path, of_file in in_reading_order(sources, items, roots):
         head = sources.spec(path).head if path.endswith(".antt") else ""
         crate, rest = path.split("/")[1], "/".join(path.split("/")[2:])
-        lines.append(f"\n[`{crate}/{rest}`](../{path}){': ' + sentence(head) if head else ''}\n")
-        bare = []
-        for item in of_file:
-            names = [f"**`{name}`**" if item in roots else f"`{name}`" for name in item.names]
-            count += len(names)
-            comment = sentence(item.comment)
-            if comment:
-                lines.extend(bullet(bare))
-                bare = []
-                lines.append(f"- {', '.join(names)}: {comment}")
-            else:
-                bare.extend(names)
-        lines.extend(bullet(bare))
-    return count, "\n".join(lines).strip("\n")
+        names = [f"**`{name}`**" if item in roots else f"`{name}`" for item in of_file for name in item.names]
+        count += len(names)
+        bullets.append(f"- [`{crate}/{rest}`](../{path}){': ' + sentence(head) if head else ''}\n  {', '.join(names)}")
+    return count, "\n".join(bullets)
 
 
 def lists(sources):

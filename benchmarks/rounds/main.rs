@@ -10,13 +10,13 @@ use given_work::{Index, work};
 use literal_selection::Selection;
 use plain_types::{Mem, Names, NoMemory};
 use pool_core::{Back, Claimed, Options, Pool, Ticket};
-use proving::{LastModel, solve_ticket};
 use std::alloc::Global;
 use std::env;
 use std::process::ExitCode;
 use std::sync::Wait;
 use std::time::Instant;
 use term_bank::Bank;
+use worker_team::{LastModel, solve_ticket};
 
 const RULES: u32 = 33;
 const UNITS: u32 = 300;
