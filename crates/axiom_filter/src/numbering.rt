@@ -8,9 +8,9 @@ ghost use Rattle.signature.specs.Symbol.{with_symbol};
 ghost use Rattle.signature.specs.Occurrences.{terms_count, term_symbols, terms_symbols, formula_symbols, formulas_symbols, annotated_symbols};
 ghost use Rattle.axiom_filter.specs.Numbering.{met_numbers, formula_rows};
 
-use indexmap::IndexSet;
+use name_hash::NameHash;
 use plain_types::{Mem, Numbers, Sequence, Text};
-use signature::{Symbol, SymbolKind, arity_of};
+use signature::{Symbol, SymbolKind, SymbolSet, arity_of};
 use std::alloc::Global;
 use tptp_tree::{Annotated, Formula, TreeTerm};
 
@@ -29,7 +29,7 @@ pub(crate) fn numbered(alloc: Global, formulas: &[Annotated]) -> Mem<Rows>
     ensures rows { IfOk result (λ numbered. numbered.rows.items ≡ formula_rows [] formulas.now) }
     ensures symbols { IfOk result (λ numbered. numbered.symbols ≡ length (fold with_symbol [] (flat_map annotated_symbols formulas.now))) }
 {
-    let mut known = IndexSet::new(alloc);
+    let mut known = SymbolSet::with_hasher(alloc, NameHash::new());
     let mut rows = Vec::with_capacity(alloc, formulas.len())?;
     for annotated in formulas {
         let row = formula_row(alloc, &annotated.formula, &mut known)?;
@@ -40,7 +40,7 @@ pub(crate) fn numbered(alloc: Global, formulas: &[Annotated]) -> Mem<Rows>
 }
 
 /// The numbers of a formula's symbols; new ones become known.
-fn formula_row(alloc: Global, formula: &Formula, known: &mut IndexSet<Symbol>) -> Mem<Numbers>
+fn formula_row(alloc: Global, formula: &Formula, known: &mut SymbolSet) -> Mem<Numbers>
     ensures row { IfOk result (λ row. row ≡ met_numbers known.old.keys (formula_symbols (formula_of formula.now))) }
     ensures known { IfOk result (λ _. known.new.keys ≡ fold with_symbol known.old.keys (formula_symbols (formula_of formula.now))) }
 {
@@ -51,7 +51,7 @@ fn formula_row(alloc: Global, formula: &Formula, known: &mut IndexSet<Symbol>) -
 }
 
 /// The numbers of symbols; new ones become known.
-fn numbers_of(alloc: Global, symbols: Vec<Symbol>, known: &mut IndexSet<Symbol>) -> Mem<Numbers>
+fn numbers_of(alloc: Global, symbols: Vec<Symbol>, known: &mut SymbolSet) -> Mem<Numbers>
     ensures row { IfOk result (λ row. row ≡ met_numbers known.old.keys symbols.items) }
     ensures known { IfOk result (λ _. known.new.keys ≡ fold with_symbol known.old.keys symbols.items) }
 {

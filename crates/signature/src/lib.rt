@@ -7,7 +7,8 @@
 //! **The definition.** `specs/` says what the clausal form of a problem is: negation normal form, Skolem terms, named products, clauses in
 //! order; and what truth of a formula is. `formula_nnf`, `skolem` and `clausal_form` compute it; this crate has no code of theirs.
 //!
-//! **Cost.** One look-up for each occurrence of a symbol. The table's hash is fixed, so names that are made to collide cost quadratic time.
+//! **Cost.** One look-up for each occurrence of a symbol, in the time of reading its name, also where names were made to collide under std's hasher
+//! (`name_hash`).
 #![tactic(auto)]
 
 pub mod laws;
@@ -18,4 +19,4 @@ mod symbol;
 
 pub use prefix::fresh_prefix;
 pub use signature::Signature;
-pub use symbol::{Symbol, SymbolKind, SymbolRef, arity_of};
+pub use symbol::{Symbol, SymbolKind, SymbolRef, SymbolSet, arity_of};

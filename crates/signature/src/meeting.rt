@@ -9,19 +9,19 @@ ghost use Rattle.signature.specs.Symbol.{with_symbol, symbol_of, IsSignature};
 ghost use Rattle.signature.specs.Occurrences.{terms_count, term_symbols, terms_symbols, formula_symbols, formulas_symbols, problem_symbols};
 ghost use Rattle.tptp_tree.specs.ProblemSize.{occurrences, all_occurrences, HasProblemSize};
 
-use crate::symbol::{Symbol, SymbolKind, SymbolRef, TRUE};
-use indexmap::IndexSet;
+use crate::symbol::{SymbolKind, SymbolRef, SymbolSet, TRUE};
+use name_hash::NameHash;
 use plain_types::Mem;
 use std::alloc::Global;
 use tptp_tree::{Formula, Problem, TreeTerm};
 
 /// The symbols of a problem: `$true`, and the others by first occurrence.
-pub(crate) fn meet_problem(alloc: Global, problem: &Problem) -> Mem<IndexSet<Symbol>>
+pub(crate) fn meet_problem(alloc: Global, problem: &Problem) -> Mem<SymbolSet>
     requires { HasProblemSize problem.now.formulas }
     ensures symbols { IfOk result (λ known. known.keys ≡ problem_symbols problem.now.formulas) }
     ensures signature { IfOk result (λ known. IsSignature known.keys) }
 {
-    let mut known = IndexSet::new(alloc);
+    let mut known = SymbolSet::with_hasher(alloc, NameHash::new());
     known.insert_full(TRUE.copy(alloc)?)?;
     for annotated in problem.formulas.as_slice() {
         meet_formula(alloc, &mut known, &annotated.formula)?;
@@ -30,7 +30,7 @@ pub(crate) fn meet_problem(alloc: Global, problem: &Problem) -> Mem<IndexSet<Sym
 }
 
 /// Adds a symbol that is met for the first time.
-fn meet(alloc: Global, known: &mut IndexSet<Symbol>, symbol: SymbolRef<'_>) -> Mem<()>
+fn meet(alloc: Global, known: &mut SymbolSet, symbol: SymbolRef<'_>) -> Mem<()>
     ensures { IfOk result (λ _. known.new.keys ≡ with_symbol known.old.keys (symbol_of symbol.entry)) }
 {
     if !known.contains(symbol) {
@@ -43,7 +43,7 @@ fn meet(alloc: Global, known: &mut IndexSet<Symbol>, symbol: SymbolRef<'_>) -> M
 #[tactic(auto, using(crate::proofs::OccurrenceLemmas::count_length))]
 fn meet_head(
     alloc: Global,
-    known: &mut IndexSet<Symbol>,
+    known: &mut SymbolSet,
     kind: SymbolKind,
     name: &[u8],
     arguments: &[TreeTerm],
@@ -58,7 +58,7 @@ fn meet_head(
 
 /// Adds the symbols of a term, its head before its arguments.
 #[cycle(meet_term)]
-fn meet_term(alloc: Global, known: &mut IndexSet<Symbol>, term: &TreeTerm) -> Mem<()>
+fn meet_term(alloc: Global, known: &mut SymbolSet, term: &TreeTerm) -> Mem<()>
     requires { term_size (term_of term.now) ≤ MOST_PROBLEM_SIZE }
     ensures { IfOk result (λ _. known.new.keys ≡ fold with_symbol known.old.keys (term_symbols (term_of term.now))) }
 {
@@ -79,7 +79,7 @@ fn meet_term(alloc: Global, known: &mut IndexSet<Symbol>, term: &TreeTerm) -> Me
 
 /// Adds the symbols of terms.
 #[cycle(meet_term)]
-fn meet_terms(alloc: Global, known: &mut IndexSet<Symbol>, terms: &[TreeTerm]) -> Mem<()>
+fn meet_terms(alloc: Global, known: &mut SymbolSet, terms: &[TreeTerm]) -> Mem<()>
     requires { terms_size (terms_of (map term_of terms.now)) ≤ MOST_PROBLEM_SIZE }
     ensures { IfOk result (λ _.
         known.new.keys ≡ fold with_symbol known.old.keys (terms_symbols (terms_of (map term_of terms.now)))) }
@@ -92,7 +92,7 @@ fn meet_terms(alloc: Global, known: &mut IndexSet<Symbol>, terms: &[TreeTerm]) -
 
 /// Adds the symbols of a formula.
 #[cycle(meet_formula)]
-fn meet_formula(alloc: Global, known: &mut IndexSet<Symbol>, formula: &Formula) -> Mem<()>
+fn meet_formula(alloc: Global, known: &mut SymbolSet, formula: &Formula) -> Mem<()>
     requires { occurrences (formula_of formula.now) ≤ MOST_PROBLEM_SIZE }
     ensures { IfOk result (λ _. known.new.keys ≡ fold with_symbol known.old.keys (formula_symbols (formula_of formula.now))) }
 {
@@ -136,7 +136,7 @@ fn meet_formula(alloc: Global, known: &mut IndexSet<Symbol>, formula: &Formula) 
 
 /// Adds the symbols of formulas.
 #[cycle(meet_formula)]
-fn meet_formulas(alloc: Global, known: &mut IndexSet<Symbol>, formulas: &[Formula]) -> Mem<()>
+fn meet_formulas(alloc: Global, known: &mut SymbolSet, formulas: &[Formula]) -> Mem<()>
     requires { all_occurrences (formulas_of (map formula_of formulas.now)) ≤ MOST_PROBLEM_SIZE }
     ensures { IfOk result (λ _.
         known.new.keys ≡ fold with_symbol known.old.keys (formulas_symbols (formulas_of (map formula_of formulas.now)))) }

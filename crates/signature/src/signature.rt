@@ -8,8 +8,8 @@ ghost use Rattle.signature.specs.Occurrences.{problem_symbols};
 ghost use Rattle.tptp_tree.specs.ProblemSize.{HasProblemSize};
 
 use crate::meeting::meet_problem;
-use crate::symbol::{Symbol, SymbolKind, SymbolRef};
-use indexmap::IndexSet;
+use crate::symbol::{Symbol, SymbolKind, SymbolRef, SymbolSet};
+use name_hash::NameHash;
 use plain_types::{Mem, NoMemory, Text};
 use std::alloc::Global;
 use std::marker::Model;
@@ -18,7 +18,7 @@ use tptp_tree::Problem;
 /// Different symbols, which contracts see as their list: the number of a symbol is its place. The first is `$true`.
 #[derive(Drop)]
 pub struct Signature {
-    symbols: IndexSet<Symbol>,
+    symbols: SymbolSet,
 }
 
 impl Model for Signature {
@@ -49,7 +49,8 @@ impl Signature {
     pub fn copy(&self, alloc: Global) -> Mem<Signature>
         ensures { IfOk result (λ copy. copy ≡ self.now) }
     {
-        let mut symbols = IndexSet::with_capacity(alloc, self.symbols.len())?;
+        let count = self.symbols.len();
+        let mut symbols = SymbolSet::with_capacity_and_hasher(alloc, count, NameHash::new())?;
         for symbol in self.symbols.as_slice() {
             symbols.insert_full(symbol.lend().copy(alloc)?)?;
         }

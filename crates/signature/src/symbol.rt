@@ -7,7 +7,8 @@ ghost use Rattle.std.specs.Ordering.{on};
 ghost use Rattle.signature.specs.Symbol.{same_symbol, symbol_of};
 ghost use Rattle.signature.specs.SymbolLaws.{same_symbols, same_symbols_hash_alike};
 
-use indexmap::Equivalent;
+use indexmap::{Equivalent, IndexSet};
+use name_hash::NameHash;
 use plain_types::{Mem, NoMemory, Text};
 use std::alloc::Global;
 use std::hash::{Hash, Hasher};
@@ -35,6 +36,9 @@ pub struct SymbolRef<'a> {
     pub name: &'a [u8],
     pub arity: u32,
 }
+
+/// Different symbols, in the order in which they were added, found in the time of reading the name.
+pub type SymbolSet = IndexSet<Symbol, NameHash>;
 
 /// `$true`.
 pub(crate) const TRUE: SymbolRef<'static> = SymbolRef {

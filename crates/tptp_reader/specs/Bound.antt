@@ -4,7 +4,7 @@ use Rattle.std.specs.Cmp.{IsEquivalence, decided, on_equiv}
 use Rattle.std.specs.Ordering.{on}
 use Rattle.std.specs.Map.{count_at}
 use Rattle.std.specs.HashMap.{HashMap, get}
-use Rattle.std.specs.declared.hash.FoldHasher.{FoldHasher}
+use Rattle.std.specs.declared.hash.DefaultHasher.{DefaultHasher}
 use Rattle.std.specs.declared.hash.BuildHasherDefault.{BuildHasherDefault}
 use Rattle.std.proofs.Common.{ap}
 use Rattle.std.proofs.lemmas.Slice.Eq.{bytes_eq-Decides}
@@ -27,5 +27,5 @@ pub same_names_hash_alike : (m n : Name) → IsTrue (same_name m n) → bytes_of
 same_names_hash_alike m n h = ap (λ (x : List ℕ). x ∷ []) ((bytes_eq-Decides (bytes_of m) (bytes_of n)).0 h)
 
 -- The table counts how often each name stands after the first `SCANNED` names.
-abbrev pub IsCounted : List Name → HashMap Name ℕ (BuildHasherDefault FoldHasher) → Type 0
+abbrev pub IsCounted : List Name → HashMap Name ℕ (BuildHasherDefault DefaultHasher) → Type 0
 IsCounted names behind = (x : Name) → count_at (get same_name behind) x ≡ count_by (same_name x) (drop SCANNED names)

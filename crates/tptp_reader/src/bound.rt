@@ -1,12 +1,13 @@
 // The variables that are bound where the reading stands.
 
-ghost use Rattle.std.specs.Prelude.{◌≡◌, ◌<◌, ◌-◌, ◌++◌, [], ◌∷◌, length, take, drop, count_by, IfOk};
+ghost use Rattle.std.specs.Prelude.{◌≡◌, ◌<◌, ◌-◌, ◌++◌, [], ◌∷◌, length, take, drop, count_by, IfOk, OnErr};
 ghost use Rattle.std.specs.Map.{count_at};
 ghost use Rattle.std.specs.HashMap.{get};
 ghost use Rattle.tptp_reader.specs.Bound.{same_name};
 ghost use Rattle.tptp_reader.specs.Telling.{is_among as among};
 
 use crate::source::Name;
+use name_hash::NameHash;
 use plain_types::Mem;
 use std::alloc::Global;
 use std::collections::HashMap;
@@ -16,12 +17,12 @@ use std::marker::Model;
 const SCANNED: usize = 16;
 
 /// The variables that are bound, which contracts see as the list of their names, the innermost last. Whether a name is one of
-/// them is found in the time of reading it, however many there are, but for names made to collide in the table.
+/// them is found in the time of reading it, however many there are.
 #[derive(Drop)]
 pub struct Bound<'a> {
     names: Vec<Name<'a>>,
     /// For each name, how often it stands after the first `SCANNED` names.
-    behind: HashMap<Name<'a>, usize>,
+    behind: HashMap<Name<'a>, usize, NameHash>,
 }
 
 impl<'a> Model for Bound<'a> {
@@ -43,7 +44,7 @@ impl<'a> Bound<'a> {
     {
         Bound {
             names: Vec::new(alloc),
-            behind: HashMap::new(alloc),
+            behind: HashMap::with_hasher(alloc, NameHash::new()),
         }
     }
 
@@ -68,9 +69,10 @@ impl<'a> Bound<'a> {
         self.names.len() > SCANNED && count_of(&self.behind, Name { bytes }) > 0
     }
 
-    /// Binds a variable, the innermost.
+    /// Binds a variable, the innermost. When out of memory none is bound.
     pub fn push(&mut self, name: Name<'a>) -> Mem<()>
-        ensures { IfOk result (λ _. self.new ≡ self.old ++ name.entry ∷ []) }
+        ensures pushed { IfOk result (λ _. self.new ≡ self.old ++ name.entry ∷ []) }
+        ensures unchanged { OnErr result (self.new ≡ self.old) }
     {
         if self.names.len() < SCANNED {
             self.names.push(name)?;
@@ -114,7 +116,7 @@ fn is_among_first(names: &[Name<'_>], bytes: &[u8]) -> bool
 }
 
 /// How often a table counts a name.
-fn count_of<'a>(counts: &HashMap<Name<'a>, usize>, name: Name<'a>) -> usize
+fn count_of<'a>(counts: &HashMap<Name<'a>, usize, NameHash>, name: Name<'a>) -> usize
     ensures { result ≡ count_at (get same_name counts.now) name.entry }
 {
     match counts.get(&name) {

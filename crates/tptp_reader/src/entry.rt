@@ -33,10 +33,10 @@ pub struct Read {
 
 /// The end of an entry: the range of its notes, and the token after its full stop.
 #[derive(Clone, Copy)]
-struct Ending {
-    start: usize,
-    end: usize,
-    next: usize,
+pub struct Ending {
+    pub start: usize,
+    pub end: usize,
+    pub next: usize,
 }
 
 /// Reads the annotated formula that begins at a token, with at most `levels` levels of nesting. A level is begun by `~`, by
@@ -94,7 +94,7 @@ fn fault_of(alloc: Global, bytes: &[u8], lexed: &Lexed, halt: Halt) -> ReadFault
     }
 }
 
-fn cause_of(refusal: Refusal) -> ReadCause
+pub fn cause_of(refusal: Refusal) -> ReadCause
     ensures { result ≡ cause_told refusal }
 {
     match refusal {
@@ -140,7 +140,7 @@ impl<'a> Reader<'a> {
     }
 
     /// Where a token begins in the text; 0 after the last token.
-    fn place_of(&self, at: usize) -> u32
+    pub fn place_of(&self, at: usize) -> u32
         ensures { IfSome (slice_get self.now.tokens.now at) (λ t. result ≡ t.start) }
     {
         match self.tokens.get(at) {
@@ -150,7 +150,7 @@ impl<'a> Reader<'a> {
     }
 
     /// Whether an entry's first word is `cnf`, and not `fof`.
-    fn language(&self, at: usize) -> Result<bool, Halt>
+    pub fn language(&self, at: usize) -> Result<bool, Halt>
         ensures read { IfOk result (ReadsLanguage self.now at) }
         ensures fits { IfOk result (λ _. at + 1 < 2 ^ 64) }
         ensures halted { IfErr result (λ halt. Ends self.now (an_annotated self.now.limit ∷ []) at halt) }
@@ -172,7 +172,7 @@ impl<'a> Reader<'a> {
     }
 
     /// Reads a formula's name: a word or a number of digits.
-    fn name(&self, alloc: Global, at: usize) -> Result<Text, Halt>
+    pub fn name(&self, alloc: Global, at: usize) -> Result<Text, Halt>
         ensures read { IfOk result (ReadsName self.now at) }
         ensures fits { IfOk result (λ _. at + 1 < 2 ^ 64) }
         ensures halted { IfErr result (λ halt. Ends self.now (a_name ∷ []) at halt) }
@@ -222,7 +222,7 @@ impl<'a> Reader<'a> {
     }
 
     /// Reads notes after a comma, or none, and the bracket and the full stop that close the entry.
-    fn ending(&self, alloc: Global, at: usize) -> Result<Ending, Halt>
+    pub fn ending(&self, alloc: Global, at: usize) -> Result<Ending, Halt>
         ensures read { IfOk result (λ ending. ReadsEnding self.now at ending.start ending.end ending.next) }
         ensures close { IfOk result (λ ending. ending.end + 2 ≡ ending.next) }
         ensures within { IfOk result (λ ending. ending.next ≤ length self.now.tokens.now) }
@@ -261,7 +261,7 @@ fn is_typed(word: &[u8]) -> bool
 }
 
 /// Why a role that isn't taken is refused.
-fn untaken_role(word: &[u8]) -> Refusal
+pub fn untaken_role(word: &[u8]) -> Refusal
     ensures { Some (refusal_of result) ≡ untaken_role_cause None word.now }
 {
     if is_role_form(word) {

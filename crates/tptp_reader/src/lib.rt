@@ -28,6 +28,7 @@ mod notes;
 mod source;
 mod terms;
 
-pub use cause::{Form, ReadCause, ReadFault, fault_at_end};
-pub use entry::{Read, annotated};
-pub use source::Name;
+pub use bound::Bound;
+pub use cause::{Form, Halt, ReadCause, ReadFault, Refusal, fault_at_end};
+pub use entry::{Ending, Read, annotated, cause_of, untaken_role};
+pub use source::{Binary, Name, Reader, binary_connective, is_quantifier};

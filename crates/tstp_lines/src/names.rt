@@ -6,6 +6,7 @@ ghost use Rattle.clausal_form.specs.DerivationClause.{name_number};
 ghost use Rattle.tstp_lines.specs.Tables.{with_name, place_of_name};
 
 use indexmap::IndexSet;
+use name_hash::NameHash;
 use plain_types::{Mem, NoMemory};
 use std::alloc::Global;
 use std::marker::Model;
@@ -16,7 +17,7 @@ const MOST_NAMES: usize = 1 << 32;
 /// Names, which contracts see as their list: the number of a name is its place.
 #[derive(Drop)]
 pub struct NameTable {
-    names: IndexSet<Vec<u8>>,
+    names: IndexSet<Vec<u8>, NameHash>,
 }
 
 impl Model for NameTable {
@@ -36,7 +37,7 @@ impl NameTable {
         ensures { result ≡ [] }
     {
         NameTable {
-            names: IndexSet::new(alloc),
+            names: IndexSet::with_hasher(alloc, NameHash::new()),
         }
     }
 

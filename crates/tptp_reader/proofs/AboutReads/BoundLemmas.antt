@@ -4,7 +4,7 @@ use Rattle.std.specs.Prelude.{count_by, nat_lt, bytes_eq}
 use Rattle.std.specs.List.{list_any}
 use Rattle.std.specs.Map.{count_at}
 use Rattle.std.specs.HashMap.{HashMap, get, Updates}
-use Rattle.std.specs.declared.hash.FoldHasher.{FoldHasher}
+use Rattle.std.specs.declared.hash.DefaultHasher.{DefaultHasher}
 use Rattle.std.specs.declared.hash.BuildHasherDefault.{BuildHasherDefault}
 use Rattle.std.proofs.lemmas.List.{take-append-drop, drop_all, drop-append-le}
 use Rattle.std.proofs.lemmas.List.Sums.{sum_by-cons, sum_by_push}
@@ -18,7 +18,7 @@ use Rattle.tptp_reader.specs.declared.bound.TheConstants.{SCANNED}
 use Rattle.tptp_reader.specs.Bound.{bytes_of, same_name, IsCounted}
 
 abbrev Counts : Type 0
-Counts = HashMap Name ℕ (BuildHasherDefault FoldHasher)
+Counts = HashMap Name ℕ (BuildHasherDefault DefaultHasher)
 
 -- ---- whether and how often
 
