@@ -1,4 +1,5 @@
 -- Reading on from file to file, and how it ends.
+pub mod AnnotatedLemmas
 pub mod AwaitLemmas
 pub mod IncludeTokens
 pub mod ClosedLemmas

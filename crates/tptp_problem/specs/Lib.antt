@@ -1,5 +1,8 @@
 pub mod Files
 pub mod Includes
+pub mod Languages
+pub mod Faults
+pub mod Entries
 pub mod Formulas
 pub mod NameSets
 pub mod Problem

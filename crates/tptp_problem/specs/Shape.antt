@@ -9,6 +9,7 @@ use Rattle.tptp_reader.specs.declared.cause.ReadCause.TheVariants.{Load}
 use Rattle.tptp_problem.specs.declared.selection.Selection.{Selection}
 use Rattle.tptp_problem.specs.declared.source.Source.{Source}
 use Rattle.tptp_problem.specs.declared.reading.Reading.{Reading}
+use Rattle.tptp_problem.specs.Languages.{Language}
 use Rattle.tptp_problem.specs.Problem.{LoadedFile, Progress}
 
 -- the names of each selection
@@ -34,3 +35,8 @@ progress_of r = record { loaded = r.loaded; met = r.met }
 -- where it tells.
 abbrev pub IsLoadTold : ℕ → ℕ → Option (List ℕ) → ReadCause → List ℕ → ℕ → Type 0
 IsLoadTold before after failed cause file place = cause ≡ Load → Rose before after × IfSome failed (λ name. name ≡ file)
+
+-- the same of a cause in a language
+abbrev pub IsLoadToldIn : {Tree Cause : Type 0} → Language Tree Cause → ℕ → ℕ → Option (List ℕ) → Cause → List ℕ → ℕ → Type 0
+IsLoadToldIn language before after failed cause file place =
+    cause ≡ language.cause Load → Rose before after × IfSome failed (λ name. name ≡ file)

@@ -6,7 +6,8 @@ use Rattle.outside.specs.Library.{Holdings, HoldsExactly}
 use Rattle.tptp_tree.specs.Entries.{AnnotatedTree, EntryTree, annotated_tree, include_tree, SpellsEntries}
 use Rattle.tptp_problem.specs.declared.limits.TheConstants.{MOST_INCLUDES}
 use Rattle.tptp_problem.specs.Files.{base_of, loaded_name}
-use Rattle.tptp_problem.specs.Formulas.{Placed, selects}
+use Rattle.tptp_problem.specs.Formulas.{Placed}
+use Rattle.tptp_problem.specs.Languages.{selects}
 
 -- an annotated formula, and the name of its file
 pub record FromFile : Type 0 where

@@ -6,6 +6,10 @@
 //! The name under which an included file is loaded comes from the first file's folder or from `--tptp` (`name.rt`), also for includes within
 //! includes.
 //!
+//! All this is said once for every language of annotated formulas: `read_entries` reads the entries of a file by the trait `Entry`
+//! (`entry.rt`), which `Annotated` implements for `fof` and `cnf` (`annotated.rt`). The faults of a whole file are told in the causes of the
+//! language (`fault.rt`).
+//!
 //! **Limits** (`limits.rt`): 64 MiB a file, 256 MiB together, 16 levels of includes.
 //!
 //! **What is proved.** Over a library that tells its texts, an answer is exactly the problem that the texts spell, or the first fault with its
@@ -14,6 +18,9 @@
 //! **Cost.** Linear in the bytes loaded; a formula is moved at most once for each level of includes.
 #![tactic(auto)]
 
+mod annotated;
+mod entry;
+mod fault;
 mod include;
 pub mod laws;
 mod limits;
@@ -25,5 +32,7 @@ mod selection;
 mod source;
 mod taking;
 
+pub use entry::Entry;
+pub use fault::FileFault;
 pub use limits::{MOST_INCLUDES, MOST_PROBLEM_BYTES};
-pub use problem::read_problem;
+pub use problem::{read_entries, read_problem};

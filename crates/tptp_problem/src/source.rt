@@ -3,19 +3,19 @@
 ghost use Rattle.std.specs.Prelude.{◌≡◌, ◌+◌, ◌<◌, ◌≤◌, ◌^◌, ◌&&◌, [], ◌∷◌, length, drop, true, IfOk, IsSome, MatchOption, slice_get, option_map};
 ghost use Rattle.tptp_token.specs.Words.{token_name};
 ghost use Rattle.tptp_token.specs.TextTokens.{lexeme_of};
-ghost use Rattle.tptp_tree.specs.Entries.{is_conjecture as conjecture_is};
 ghost use Rattle.tptp_reader.specs.Faults.{IsFaultWhere, IsEndFault};
-ghost use Rattle.tptp_problem.specs.Formulas.{counts as counts_within, conjecture_begun, begun_counts};
+ghost use Rattle.tptp_problem.specs.Languages.{counts as counts_within, conjecture_begun, begun_counts};
 ghost use Rattle.tptp_problem.specs.Includes.{is_include as include_is};
 ghost use Rattle.tptp_problem.specs.Problem.{start_of};
 ghost use Rattle.tptp_problem.specs.Shape.{lexemes_told, selections};
 
+use crate::entry::Entry;
 use crate::selection::Selection;
 use plain_types::Mem;
 use std::alloc::Global;
 use tptp_reader::{ReadCause, ReadFault, fault_at_end};
 use tptp_token::{Kind, Lexed, MOST_TEXT_BYTES, TextToken};
-use tptp_tree::{Annotated, FileName, Role};
+use tptp_tree::{FileName, Role};
 
 /// A file that was loaded, by its name, bytes and tokens, with the selections around it, the outermost first.
 #[derive(Clone, Copy)]
@@ -47,13 +47,14 @@ impl<'a> Source<'a> {
         }
     }
 
-    /// Whether a conjecture begins at a token, up to its role word, that each selection around it selects.
-    pub fn begins_conjecture(&self, alloc: Global, first: usize) -> Mem<bool>
+    /// Whether a conjecture of a language with that first word begins at a token, up to its role word, that each selection
+    /// around it selects.
+    pub fn begins_conjecture(&self, alloc: Global, language: &[u8], first: usize) -> Mem<bool>
         ensures begins { IfOk result (λ begins. begins
-            ≡ begun_counts (selections self.now.around.now) (conjecture_begun (drop first (lexemes_told self.now)))) }
+            ≡ begun_counts (selections self.now.around.now) (conjecture_begun language.now (drop first (lexemes_told self.now)))) }
         ensures fits { IfOk result (λ begins. begins ≡ true → first + 4 < 2 ^ 64) }
     {
-        match self.conjecture_name(first) {
+        match self.conjecture_name(language, first) {
             Some(token) => {
                 let name = token.name(alloc)?;
                 Ok(self.counts(name.as_slice()))
@@ -75,15 +76,17 @@ impl<'a> Source<'a> {
     }
 
     /// Whether a formula of the file is a conjecture that each selection around the file selects.
-    pub fn counts_as_conjecture(&self, formula: &Annotated) -> bool
-        ensures { result ≡ (conjecture_is formula.now.role && counts_within (selections self.now.around.now) formula.now.name) }
+    pub fn counts_as_conjecture<E: Entry>(&self, formula: &E) -> bool
+        ensures { result ≡ (E.language.is_conjecture (E.placed formula.now).tree
+            && counts_within (selections self.now.around.now) (E.language.name (E.placed formula.now).tree)) }
     {
-        formula.role.is_conjecture() && self.counts(formula.name.as_slice())
+        formula.is_conjecture() && self.counts(formula.name())
     }
 
-    /// The name in `fof ( NAME , conjecture`, where these tokens begin at one.
-    fn conjecture_name(&self, first: usize) -> Option<TextToken<'a>>
-        ensures name { option_map (λ t. token_name t.kind t.bytes.now) result ≡ conjecture_begun (drop first (lexemes_told self.now)) }
+    /// The name in `fof ( NAME , conjecture`, where these tokens begin at one, with the first word of a language.
+    fn conjecture_name(&self, language: &[u8], first: usize) -> Option<TextToken<'a>>
+        ensures name { option_map (λ t. token_name t.kind t.bytes.now) result
+            ≡ conjecture_begun language.now (drop first (lexemes_told self.now)) }
         ensures fits { IsSome result → first + 4 < 2 ^ 64 }
     {
         let word = self.token(first)?;
@@ -92,7 +95,7 @@ impl<'a> Source<'a> {
         let comma = self.token(first + 3)?;
         let role = self.token(first + 4)?;
         let conjecture = Role::Conjecture.word();
-        let heads = word.is_exactly(Kind::Lower, b"fof")
+        let heads = word.is_exactly(Kind::Lower, language)
             && open.is_mark(b"(")
             && name.is_name()
             && comma.is_mark(b",")

@@ -1,14 +1,14 @@
 // The formulas that an include takes. (A file with a ghost field may not name definitions that speak of its struct, so this stands apart.)
 
 ghost use Rattle.std.specs.Prelude.{◌≡◌, ◌++◌, [], ◌∷◌, map, IfOk};
-ghost use Rattle.tptp_problem.specs.Formulas.{placed, selects as selects_name, selected, missing as missing_among};
+ghost use Rattle.tptp_problem.specs.Languages.{selects as selects_name, selected, missing as missing_among};
 ghost use Rattle.tptp_problem.specs.Shape.{selections};
 
+use crate::entry::Entry;
 use crate::name_set::{has_name, set_of, take_out};
 use crate::selection::Selection;
 use plain_types::Mem;
 use std::alloc::Global;
-use tptp_tree::Annotated;
 
 impl<'a, 'k> Selection<'a, 'k> {
     /// Whether it takes the formulas of that name.
@@ -19,8 +19,8 @@ impl<'a, 'k> Selection<'a, 'k> {
     }
 
     /// The index of its first name that none of the formulas has. It takes memory for its own names alone.
-    pub fn missing(&self, alloc: Global, formulas: &[Annotated]) -> Mem<Option<usize>>
-        ensures { IfOk result (λ index. index ≡ missing_among self.now.names.now (map placed formulas.now)) }
+    pub fn missing<E: Entry>(&self, alloc: Global, formulas: &[E]) -> Mem<Option<usize>>
+        ensures { IfOk result (λ index. index ≡ missing_among E.language self.now.names.now (map E.placed formulas.now)) }
     {
         if self.names.is_empty() {
             return Ok(None);
@@ -36,12 +36,12 @@ impl<'a, 'k> Selection<'a, 'k> {
     }
 
     /// Moves the formulas that it takes to the end of a list, in their order.
-    pub fn take(&self, formulas: Vec<Annotated>, list: &mut Vec<Annotated>) -> Mem<()>
-        ensures { IfOk result (λ _. map placed list.new.items
-            ≡ map placed list.old.items ++ selected self.now.names.now (map placed formulas.items)) }
+    pub fn take<E: Entry>(&self, formulas: Vec<E>, list: &mut Vec<E>) -> Mem<()>
+        ensures { IfOk result (λ _. map E.placed list.new.items
+            ≡ map E.placed list.old.items ++ selected E.language self.now.names.now (map E.placed formulas.items)) }
     {
         for formula in formulas {
-            if self.selects(formula.name.as_slice()) {
+            if self.selects(formula.name()) {
                 list.push(formula)?;
             }
         }

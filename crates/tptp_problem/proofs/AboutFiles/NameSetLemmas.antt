@@ -2,23 +2,22 @@
 use Rattle.std.proofs.Common.{◌≡◌, ◌≤◌, ◌<◌, ℕ, zero, suc, ◌+◌, Bool, true, false, ◌||◌, ◌&&◌, not, cond, Some, List, [], ◌∷◌, ◌++◌, length, take, drop, get_or, map, refl, ap, ap₂, sym, ◌∙◌, subst, arith, bytes_eq}
 use Rattle.std.specs.Prelude.{if◌then◌else◌}
 use Rattle.std.specs.HashSet.{HashSet, contains}
-use Rattle.std.specs.declared.hash.FoldHasher.{FoldHasher}
+use Rattle.std.specs.declared.hash.DefaultHasher.{DefaultHasher}
 use Rattle.std.specs.declared.hash.BuildHasherDefault.{BuildHasherDefault}
 use Rattle.std.proofs.lemmas.List.{take_more, take_all, drop_more, length-map}
 use Rattle.std.specs.List.{list_any}
 use Rattle.std.proofs.lemmas.List.Folds.{list_any-append}
 use Rattle.std.proofs.lemmas.Slice.Eq.{bytes_eq-Decides}
 use Rattle.tptp_token.specs.Spelling.{is_one_of}
-use Rattle.tptp_tree.specs.declared.problem.Annotated.{Annotated}
 use Rattle.tptp_reader.specs.declared.source.Name.{Name}
 use Rattle.tptp_reader.specs.Bound.{bytes_of, same_name}
-use Rattle.tptp_problem.specs.Formulas.{Placed, placed, is_named, missing_from}
+use Rattle.tptp_problem.specs.Languages.{PlacedTree, Language, is_named, missing_from}
 use Rattle.tptp_problem.specs.NameSets.{HasNames, names_among}
 use Rattle.list_lemmas.proofs.Bools.{or-false, and-true, and-false, or-first}
 use Rattle.list_lemmas.proofs.Lists.{bytes-turned}
 
 abbrev Names : Type 0
-Names = HashSet Name (BuildHasherDefault FoldHasher)
+Names = HashSet Name (BuildHasherDefault DefaultHasher)
 
 or-right : (b : Bool) → (b || true) ≡ true
 or-right true = refl
@@ -56,17 +55,17 @@ pub has-all : (names : List (List ℕ)) (i : ℕ) (set : Names) → length names
 has-all names i set l h = subst (λ ns. HasNames ns set) (take_all i names l) h
 
 -- the name of one formula of a list
-pub name-among : (fs : List Annotated) (i : ℕ) (a : Annotated) → i < length fs → a ≡ get_or fs i a → a.name ≡ get_or (names_among fs) i a.name
-name-among [] i a l e = refl
-name-among (f ∷ fs) zero a l e = ap (λ (b : Annotated). b.name) e
-name-among (f ∷ fs) (suc i) a l e = name-among fs i a (omega (arith, l)) e
+pub name-among :
+    {Tree Cause A : Type 0} (language : Language Tree Cause) (says : A → PlacedTree Tree) (fs : List A) (i : ℕ) (a : A)
+    → i < length fs → a ≡ get_or fs i a → language.name (says a).tree ≡ get_or (names_among language (map says fs)) i (language.name (says a).tree)
+name-among language says [] i a l e = refl
+name-among language says (f ∷ fs) zero a l e = ap (λ b. language.name (says b).tree) e
+name-among language says (f ∷ fs) (suc i) a l e = name-among language says fs i a (omega (arith, l)) e
 
-pub names-length : (fs : List Annotated) → length (names_among fs) ≡ length fs
-names-length fs = length-map fs (λ (a : Annotated). a.name)
-
-pub named-among : (fs : List Annotated) (x : List ℕ) → is_one_of (names_among fs) x ≡ is_named (map placed fs) x
-named-among [] x = refl
-named-among (f ∷ fs) x = ap₂ (λ a b. a || b) (bytes-turned x f.name) (named-among fs x)
+pub names-length :
+    {Tree Cause A : Type 0} (language : Language Tree Cause) (says : A → PlacedTree Tree) (fs : List A)
+    → length (names_among language (map says fs)) ≡ length fs
+names-length language says fs = length-map (map says fs) (λ f. language.name f.tree) ∙ length-map fs says
 
 -- ---- names that are taken out
 
@@ -115,16 +114,6 @@ one-of-at [] i x l e = absurd (omega (arith, l))
 one-of-at (n ∷ ns) zero x l e = or-first (bytes_eq x n) (is_one_of ns x) ((bytes_eq-Decides x n).1 e)
 one-of-at (n ∷ ns) (suc i) x l e = ap (λ b. bytes_eq x n || b) (one-of-at ns i x (omega (arith, l)) e) ∙ or-right (bytes_eq x n)
 
--- A listed name is left in the set where no formula has it.
-left-is :
-    (names : List (List ℕ)) (fs : List Annotated) (i : ℕ) (x : List ℕ) (set absent : Names) (n : Name) (b : Bool)
-    → i < length names → x ≡ get_or names i x → bytes_of n ≡ x → HasNames names set → IsWithout (names_among fs) set absent
-    → b ≡ contains same_name absent n → b ≡ not (is_named (map placed fs) x)
-left-is names fs i x set absent n b l g e h w k =
-    k ∙ w n
-    ∙ ap (λ t. t && not (is_one_of (names_among fs) (bytes_of n))) (h n ∙ ap (is_one_of names) e ∙ one-of-at names i x l g)
-    ∙ ap (λ y. not (is_one_of (names_among fs) y)) e ∙ ap not (named-among fs x)
-
 named-by : (b : Bool) → true ≡ not b → b ≡ false
 named-by false h = refl
 named-by true h = h
@@ -133,29 +122,46 @@ named-unless : (b : Bool) → false ≡ not b → b ≡ true
 named-unless true h = refl
 named-unless false h = h
 
-missing-at :
-    (names : List (List ℕ)) (fs : List Placed) (i : ℕ) (x : List ℕ) → i < length names → x ≡ get_or names i x
-    → missing_from i (drop i names) fs ≡ (if is_named fs x then missing_from (i + 1) (drop (i + 1) names) fs else Some i)
-missing-at names fs i x l e =
-    ap (λ ns. missing_from i ns fs) (drop_more names i x l)
-    ∙ ap (λ y. if is_named fs y then missing_from (i + 1) (drop (i + 1) names) fs else Some i) (sym e)
+pub named-among :
+    {Tree Cause : Type 0} (language : Language Tree Cause) (fs : List (PlacedTree Tree)) (x : List ℕ)
+    → is_one_of (names_among language fs) x ≡ is_named language fs x
+named-among language [] x = refl
+named-among language (f ∷ fs) x = ap₂ (λ a b. a || b) (bytes-turned x (language.name f.tree)) (named-among language fs x)
 
-pub missing-here :
-    (names : List (List ℕ)) (fs : List Annotated) (i : ℕ) (x : List ℕ) (set absent : Names) (n : Name) (b : Bool)
-    → i < length names → x ≡ get_or names i x → bytes_of n ≡ x → HasNames names set → IsWithout (names_among fs) set absent
-    → b ≡ contains same_name absent n → missing_from 0 names (map placed fs) ≡ missing_from i (drop i names) (map placed fs)
-    → b ≡ true → Some i ≡ missing_from 0 names (map placed fs)
-missing-here names fs i x set absent n b l g e h w k m t =
-    sym (m ∙ missing-at names (map placed fs) i x l g
-    ∙ ap (λ c. if c then missing_from (i + 1) (drop (i + 1) names) (map placed fs) else Some i)
-    (named-by (is_named (map placed fs) x) (sym t ∙ left-is names fs i x set absent n b l g e h w k)))
+module _ {Tree Cause : Type 0} (language : Language Tree Cause) where
+  -- A listed name is left in the set where no formula has it.
+  left-is :
+      (names : List (List ℕ)) (fs : List (PlacedTree Tree)) (i : ℕ) (x : List ℕ) (set absent : Names) (n : Name) (b : Bool)
+      → i < length names → x ≡ get_or names i x → bytes_of n ≡ x → HasNames names set → IsWithout (names_among language fs) set absent
+      → b ≡ contains same_name absent n → b ≡ not (is_named language fs x)
+  left-is names fs i x set absent n b l g e h w k =
+      k ∙ w n
+      ∙ ap (λ t. t && not (is_one_of (names_among language fs) (bytes_of n))) (h n ∙ ap (is_one_of names) e ∙ one-of-at names i x l g)
+      ∙ ap (λ y. not (is_one_of (names_among language fs) y)) e ∙ ap not (named-among language fs x)
 
-pub missing-next :
-    (names : List (List ℕ)) (fs : List Annotated) (i : ℕ) (x : List ℕ) (set absent : Names) (n : Name) (b : Bool)
-    → i < length names → x ≡ get_or names i x → bytes_of n ≡ x → HasNames names set → IsWithout (names_among fs) set absent
-    → b ≡ contains same_name absent n → missing_from 0 names (map placed fs) ≡ missing_from i (drop i names) (map placed fs)
-    → b ≡ false → missing_from 0 names (map placed fs) ≡ missing_from (i + 1) (drop (i + 1) names) (map placed fs)
-missing-next names fs i x set absent n b l g e h w k m t =
-    m ∙ missing-at names (map placed fs) i x l g
-    ∙ ap (λ c. if c then missing_from (i + 1) (drop (i + 1) names) (map placed fs) else Some i)
-    (named-unless (is_named (map placed fs) x) (sym t ∙ left-is names fs i x set absent n b l g e h w k))
+  missing-at :
+      (names : List (List ℕ)) (fs : List (PlacedTree Tree)) (i : ℕ) (x : List ℕ) → i < length names → x ≡ get_or names i x
+      → missing_from language i (drop i names) fs ≡ (if is_named language fs x then missing_from language (i + 1) (drop (i + 1) names) fs else Some i)
+  missing-at names fs i x l e =
+      ap (λ ns. missing_from language i ns fs) (drop_more names i x l)
+      ∙ ap (λ y. if is_named language fs y then missing_from language (i + 1) (drop (i + 1) names) fs else Some i) (sym e)
+
+  pub missing-here :
+      (names : List (List ℕ)) (fs : List (PlacedTree Tree)) (i : ℕ) (x : List ℕ) (set absent : Names) (n : Name) (b : Bool)
+      → i < length names → x ≡ get_or names i x → bytes_of n ≡ x → HasNames names set → IsWithout (names_among language fs) set absent
+      → b ≡ contains same_name absent n → missing_from language 0 names fs ≡ missing_from language i (drop i names) fs
+      → b ≡ true → Some i ≡ missing_from language 0 names fs
+  missing-here names fs i x set absent n b l g e h w k m t =
+      sym (m ∙ missing-at names fs i x l g
+      ∙ ap (λ c. if c then missing_from language (i + 1) (drop (i + 1) names) fs else Some i)
+      (named-by (is_named language fs x) (sym t ∙ left-is names fs i x set absent n b l g e h w k)))
+
+  pub missing-next :
+      (names : List (List ℕ)) (fs : List (PlacedTree Tree)) (i : ℕ) (x : List ℕ) (set absent : Names) (n : Name) (b : Bool)
+      → i < length names → x ≡ get_or names i x → bytes_of n ≡ x → HasNames names set → IsWithout (names_among language fs) set absent
+      → b ≡ contains same_name absent n → missing_from language 0 names fs ≡ missing_from language i (drop i names) fs
+      → b ≡ false → missing_from language 0 names fs ≡ missing_from language (i + 1) (drop (i + 1) names) fs
+  missing-next names fs i x set absent n b l g e h w k m t =
+      m ∙ missing-at names fs i x l g
+      ∙ ap (λ c. if c then missing_from language (i + 1) (drop (i + 1) names) fs else Some i)
+      (named-unless (is_named language fs x) (sym t ∙ left-is names fs i x set absent n b l g e h w k))

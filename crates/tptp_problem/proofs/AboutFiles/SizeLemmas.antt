@@ -1,6 +1,6 @@
 -- A problem has at most as many formulas, occurrences and quantified variables as bytes were loaded for it: each is spelled by
 -- a token of its own, and tokens have at least one byte each.
-use Rattle.std.proofs.Common.{◌≡◌, ℕ, zero, suc, ◌+◌, ◌-◌, ◌≤◌, Bool, true, false, cond, Option, List, [], ◌∷◌, ◌++◌, codes, map, drop, length, refl, ap, sym, ◌∙◌, subst, arith, length-append, length-drop}
+use Rattle.std.proofs.Common.{◌≡◌, ℕ, zero, suc, ◌+◌, ◌-◌, ◌≤◌, Bool, true, false, cond, Option, List, [], ◌∷◌, ◌++◌, codes, map, drop, length, refl, ap, sym, ◌∙◌, arith, length-append, length-drop}
 use Rattle.std.proofs.lemmas.List.{length-map}
 use Rattle.tptp_problem.specs.declared.limits.TheConstants.{MOST_INCLUDES, MOST_PROBLEM_BYTES}
 use Rattle.outside.specs.Library.{Holdings}
@@ -17,9 +17,10 @@ use Rattle.tptp_tree.specs.ProblemSize.{occurrences, all_occurrences, problem_si
 use Rattle.tptp_tree.specs.Spelling.{TermPhrase, variable_word, word_with, TermPhrases, no_phrases, phrase_then, term_lexemes, arguments_lexemes, more_arguments_lexemes, term_meant, terms_meant, Atom, true_atom, false_atom, predicate_atom, equation_atom, equals_lexeme, atom_lexemes, atom_meant, UnitPhrase, negated, bound, in_brackets, atomic, UnitPhrases, no_units, unit_then, Phrase, alone, all_of, some_of, joined_by, connective_lexeme, more_variables_lexemes, unit_lexemes, units_lexemes, phrase_lexemes, unit_meant, units_meant, meant}
 use Rattle.tptp_tree.specs.Entries.{atom_of, LiteralPhrase, positive_literal, negated_literal, negated_in_brackets, ClausePhrase, literals, clause_in_brackets, literal_lexemes, more_literals_lexemes, clause_lexemes, literal_meant, literals_meant, clause_meant, Body, formula_body, clause_body, body_lexemes, body_meant, AnnotatedPhrase, notes_lexemes, annotated_lexemes, names_meant}
 use Rattle.tptp_problem.specs.Files.{base_of}
-use Rattle.tptp_problem.specs.Formulas.{Placed, placed_in, placed, selects, selected}
+use Rattle.tptp_problem.specs.Languages.{PlacedTree, Language, selects, selected}
+use Rattle.tptp_problem.specs.Formulas.{Placed, placed, annotated_formulas}
 use Rattle.tptp_problem.specs.Includes.{is_include}
-use Rattle.tptp_problem.specs.Problem.{LoadedFile, Progress, Step, Reads, tokens_of, lexemes, with_file, IsStepBy, IsIncludeStep, IsFormulaStep, AreSteps, next_behind, progress_behind, formulas_along, ReadsText, ReadsNamed, IsProblem}
+use Rattle.tptp_problem.specs.Problem.{LoadedFile, Progress, Step, Reads, tokens_of, lexemes, with_file, IsStepBy, IsIncludeStep, IsFormulaStep, AreSteps, next_behind, progress_behind, formulas_along, ReadsText, ReadsNamed, IsWhole, IsProblem}
 use Rattle.tptp_problem.proofs.AboutReading.AwaitLemmas.{include-length}
 use Rattle.tptp_problem.proofs.AboutReading.IncludeTokens.{width}
 
@@ -38,7 +39,7 @@ mutual
   more-arguments-long no_phrases rest = omega arith
   more-arguments-long (phrase_then t ts) rest = omega (arith, term-long t (more_arguments_lexemes ts rest), more-arguments-long ts rest)
 
-atom-long : (a : Atom) (rest : List Lexeme) → occurrences (atom_meant a) + length rest ≤ length (atom_lexemes a rest)
+pub atom-long : (a : Atom) (rest : List Lexeme) → occurrences (atom_meant a) + length rest ≤ length (atom_lexemes a rest)
 atom-long true_atom rest = omega arith
 atom-long false_atom rest = omega arith
 atom-long (predicate_atom w ts) rest = omega (arith, arguments-long ts rest)
@@ -93,7 +94,7 @@ body-long : (b : Body) (rest : List Lexeme) → occurrences (body_meant b) + len
 body-long (formula_body p) rest = phrase-long p rest
 body-long (clause_body c) rest = clause-long c rest
 
-notes-long : (ns rest : List Lexeme) → length rest ≤ length (notes_lexemes ns rest)
+pub notes-long : (ns rest : List Lexeme) → length rest ≤ length (notes_lexemes ns rest)
 notes-long [] rest = omega arith
 notes-long (n ∷ ns) rest = omega (arith, length-append ns rest)
 
@@ -125,137 +126,158 @@ tokens-short : (bytes : List ℕ) → length (lexed_of bytes).tokens ≤ length 
 unfolding lexed_of
 tokens-short bytes = tokens-from-short 0 0 bytes
 
--- ---- formulas
+-- Each formula of a language has a token more than it weighs, and ends within the tokens.
+abbrev pub AreShort : {Tree Cause : Type 0} → Language Tree Cause → (Tree → ℕ) → Type 0
+AreShort {Tree} language weight =
+    (file bytes : List ℕ) (first : ℕ) (f : PlacedTree Tree) (n : ℕ) → language.IsRead file bytes first f n
+    → (1 + weight f.tree + first ≤ n) × (n ≤ length (lexed_of bytes).tokens)
 
-abbrev size : List Placed → ℕ
-size [] = 0
-size (f ∷ fs) = 1 + occurrences f.tree.formula + size fs
+module _ {Tree Cause : Type 0} (language : Language Tree Cause) (weight : Tree → ℕ) (short : AreShort language weight) where
+  -- ---- formulas
 
-size-joined : (fs gs : List Placed) → size (fs ++ gs) ≡ size fs + size gs
-size-joined [] gs = omega arith
-size-joined (f ∷ fs) gs = omega (arith, size-joined fs gs)
+  abbrev size : List (PlacedTree Tree) → ℕ
+  size [] = 0
+  size (f ∷ fs) = 1 + weight f.tree + size fs
 
-size-selected : (names : List (List ℕ)) (fs : List Placed) → size (selected names fs) ≤ size fs
-size-selected names [] = omega arith
-size-selected names (f ∷ fs) = by (selects names f.tree.name) (size-selected names fs)
-  where
-    by : (b : Bool) → size (selected names fs) ≤ size fs → size (cond b (f ∷ selected names fs) (selected names fs)) ≤ size (f ∷ fs)
-    by true more = omega (arith, more)
-    by false more = omega (arith, more)
+  size-joined : (fs gs : List (PlacedTree Tree)) → size (fs ++ gs) ≡ size fs + size gs
+  size-joined [] gs = omega arith
+  size-joined (f ∷ fs) gs = omega (arith, size-joined fs gs)
 
-size-of-problem : (fs : List Annotated) → problem_size fs ≡ size (map placed fs)
+  size-selected : (names : List (List ℕ)) (fs : List (PlacedTree Tree)) → size (selected language names fs) ≤ size fs
+  size-selected names [] = omega arith
+  size-selected names (f ∷ fs) = by (selects names (language.name f.tree)) (size-selected names fs)
+    where
+      by : (b : Bool) → size (selected language names fs) ≤ size fs → size (cond b (f ∷ selected language names fs) (selected language names fs)) ≤ size (f ∷ fs)
+      by true more = omega (arith, more)
+      by false more = omega (arith, more)
+
+  -- ---- entries: their formulas have at most as many as the tokens and the bytes that were loaded
+
+  -- a file and its includes: what they add to the bytes, and that these stay within the limit
+  pub record IsWithin (start : Progress) (fs : List (PlacedTree Tree)) (now : Progress) : Type 0 where
+    pub sized : size fs + start.loaded ≤ now.loaded
+    pub limited : now.loaded ≤ MOST_PROBLEM_BYTES
+
+  pub record AllWithin (reads : Reads language) : Type 0 where
+    pub all :
+        (name : List ℕ) (around : List (List (List ℕ))) (start now : Progress) (fs : List (PlacedTree Tree)) → start.loaded ≤ MOST_PROBLEM_BYTES
+        → reads name around start fs now → IsWithin start fs now
+
+  -- from a token up to another
+  pub record IsStretch (tokens : ℕ) (first : ℕ) (start : Progress) (fs : List (PlacedTree Tree)) (now : Progress) (next : ℕ) : Type 0 where
+    pub sized : size fs + start.loaded + first ≤ now.loaded + next
+    pub limited : now.loaded ≤ MOST_PROBLEM_BYTES
+    pub within : next ≤ tokens
+
+  lexemes-long : (file : LoadedFile) → length (lexemes file) ≡ length (tokens_of file)
+  lexemes-long file = length-map (tokens_of file) (lexeme_at file.bytes)
+
+  formula-stretch :
+      (file : LoadedFile) (first : ℕ) (start : Progress) (s : Step language) → start.loaded ≤ MOST_PROBLEM_BYTES
+      → IsFormulaStep language file first start s → IsStretch (length (tokens_of file)) first start s.formulas s.progress s.next
+  formula-stretch file first start s room h =
+      let long = short file.name file.bytes first h.formula s.next h.read in
+      let sizes : size s.formulas ≡ 1 + weight h.formula.tree + 0 = ap size h.formulas_are in
+      let loaded : s.progress.loaded ≡ start.loaded = ap (λ (q : Progress). q.loaded) h.progress_is in
+      record {
+        sized = omega (arith, sizes, loaded, long.0);
+        limited = omega (arith, loaded, room);
+        within = long.1;
+      }
+
+  include-stretch :
+      (base : List ℕ) (reads : Reads language) (file : LoadedFile) (first : ℕ) (start : Progress) (s : Step language) → first ≤ length (tokens_of file)
+      → start.loaded ≤ MOST_PROBLEM_BYTES → AllWithin reads → IsIncludeStep language base reads file first start s
+      → IsStretch (length (tokens_of file)) first start s.formulas s.progress s.next
+  include-stretch base reads file first start s small room inner h =
+      let within = inner.all _ _ start s.progress h.formulas room h.read in
+      let from : length (lexemes file) - first ≡ width h.names + length (drop s.next (lexemes file)) =
+      sym (length-drop first (lexemes file)) ∙ ap length h.spelled.spelled ∙ include-length h.file h.names (drop s.next (lexemes file)) in
+      let far = length-drop s.next (lexemes file) in
+      let fewer = size-selected (names_meant h.names) h.formulas in
+      let taken : size s.formulas ≡ size (selected language (names_meant h.names) h.formulas) = ap size h.taken in
+      record {
+        sized = omega (arith, within.sized, fewer, taken, from, far, lexemes-long file, small, h.spelled.within);
+        limited = within.limited;
+        within = omega (arith, h.spelled.within, lexemes-long file);
+      }
+
+  step-stretch :
+      (base : List ℕ) (reads : Reads language) (file : LoadedFile) (b : Bool) (first : ℕ) (start : Progress) (s : Step language) → first ≤ length (tokens_of file)
+      → start.loaded ≤ MOST_PROBLEM_BYTES → AllWithin reads → IsStepBy language base reads file b first start s
+      → IsStretch (length (tokens_of file)) first start s.formulas s.progress s.next
+  step-stretch base reads file true first start s small room inner h = include-stretch base reads file first start s small room inner h
+  step-stretch base reads file false first start s small room inner h = formula-stretch file first start s room h
+
+  steps-stretch :
+      (base : List ℕ) (reads : Reads language) (file : LoadedFile) (first : ℕ) (start : Progress) (ss : List (Step language)) → first ≤ length (tokens_of file)
+      → start.loaded ≤ MOST_PROBLEM_BYTES → AllWithin reads → AreSteps language base reads file first start ss
+      → IsStretch (length (tokens_of file)) first start (formulas_along language ss) (progress_behind language start ss) (next_behind language first ss)
+  steps-stretch base reads file first start [] small room inner h = record { sized = omega arith; limited = room; within = small }
+  steps-stretch base reads file first start (s ∷ ss) small room inner h =
+      let here = step-stretch base reads file (is_include (drop first (lexemes file))) first start s small room inner h.0.1 in
+      let more = steps-stretch base reads file s.next s.progress ss here.within here.limited inner h.1 in
+      record {
+        sized = omega (arith, here.sized, more.sized, size-joined s.formulas (formulas_along language ss));
+        limited = more.limited;
+        within = more.within;
+      }
+
+  -- ---- files
+
+  text-within :
+      (base : List ℕ) (reads : Reads language) (file : LoadedFile) (start : Progress) (fs : List (PlacedTree Tree)) (now : Progress)
+      → start.loaded + length file.bytes ≤ MOST_PROBLEM_BYTES → AllWithin reads → ReadsText language base reads file (with_file file.bytes start) fs now
+      → IsWithin start fs now
+  text-within base reads file start fs now room inner h =
+      let along = steps-stretch base reads file 0 (with_file file.bytes start) h.steps (omega arith) room inner h.are in
+      let same : size fs ≡ size (formulas_along language h.steps) = ap size h.formulas_are in
+      let loaded : now.loaded ≡ (progress_behind language (with_file file.bytes start) h.steps).loaded = ap (λ (q : Progress). q.loaded) h.progress_is in
+      record {
+        sized = omega (arith, along.sized, along.within, same, loaded, tokens-short file.bytes);
+        limited = omega (arith, along.limited, loaded);
+      }
+
+  named-within : (told : Option Holdings) (base : List ℕ) (depth : ℕ) → AllWithin (ReadsNamed language told base depth)
+  named-within told base zero = record { all = λ name around start now fs room h. absurd h }
+  named-within told base (suc depth) =
+      record {
+        all =
+            λ name around start now fs room h.
+            let more : start.loaded + length h.bytes ≤ MOST_PROBLEM_BYTES = omega (arith, room, h.given.within) in
+            text-within base (ReadsNamed language told base depth) (record { name = name; bytes = h.bytes; around = around }) start fs now more
+            (named-within told base depth) h.text;
+      }
+
+  pub whole-within :
+      (told : Option Holdings) (file : List ℕ) (root : Option (List ℕ)) (fs : List (PlacedTree Tree)) (h : IsWhole language told file root fs)
+      → IsWithin (record { loaded = 0; met = false }) fs h.0
+  whole-within told file root fs h =
+      (named-within told (base_of root file) (suc MOST_INCLUDES)).all file [] (record { loaded = 0; met = false }) h.0 fs (omega arith) h.1
+
+-- ---- problems
+
+annotated-short : AreShort annotated_formulas (λ tree. occurrences tree.formula)
+annotated-short file bytes first f n h =
+    let p = h.reading.phrase in
+    let source : LoadedFile = record { name = file; bytes = bytes; around = [] } in
+    let said : occurrences f.tree.formula ≡ occurrences (body_meant p.body) =
+    ap (λ (g : Placed). occurrences g.tree.formula) h.formula_is ∙ ap occurrences h.reading.meant.formula in
+    let from : length (lexemes source) - first ≡ length (annotated_lexemes p (drop h.read.next (lexemes source))) =
+    sym (length-drop first (lexemes source)) ∙ ap length h.reading.spelled.spelled in
+    let long = annotated-long p (drop h.read.next (lexemes source)) in
+    let far = length-drop h.read.next (lexemes source) in
+    let tokens : length (lexemes source) ≡ length (lexed_of bytes).tokens = length-map (lexed_of bytes).tokens (lexeme_at bytes) in
+    (omega (arith, said, from, long, far, tokens, h.next_is, h.reading.within), omega (arith, h.next_is, h.reading.within))
+
+size-of-problem : (fs : List Annotated) → problem_size fs ≡ size annotated_formulas (λ tree. occurrences tree.formula) annotated-short (map placed fs)
 size-of-problem [] = refl
 size-of-problem (f ∷ fs) = omega (arith, size-of-problem fs)
 
--- ---- entries: their formulas have at most as many as the tokens and the bytes that were loaded
-
--- a file and its includes: what they add to the bytes, and that these stay within the limit
-pub record IsWithin (start : Progress) (fs : List Placed) (now : Progress) : Type 0 where
-  pub sized : size fs + start.loaded ≤ now.loaded
-  pub limited : now.loaded ≤ MOST_PROBLEM_BYTES
-
-pub record AllWithin (reads : Reads) : Type 0 where
-  pub all :
-      (name : List ℕ) (around : List (List (List ℕ))) (start now : Progress) (fs : List Placed) → start.loaded ≤ MOST_PROBLEM_BYTES
-      → reads name around start fs now → IsWithin start fs now
-
--- from a token up to another
-pub record IsStretch (tokens : ℕ) (first : ℕ) (start : Progress) (fs : List Placed) (now : Progress) (next : ℕ) : Type 0 where
-  pub sized : size fs + start.loaded + first ≤ now.loaded + next
-  pub limited : now.loaded ≤ MOST_PROBLEM_BYTES
-  pub within : next ≤ tokens
-
-lexemes-long : (file : LoadedFile) → length (lexemes file) ≡ length (tokens_of file)
-lexemes-long file = length-map (tokens_of file) (lexeme_at file.bytes)
-
-formula-stretch :
-    (file : LoadedFile) (first : ℕ) (start : Progress) (s : Step) → first ≤ length (tokens_of file) → start.loaded ≤ MOST_PROBLEM_BYTES
-    → IsFormulaStep file first start s → IsStretch (length (tokens_of file)) first start s.formulas s.progress s.next
-formula-stretch file first start s small room h =
-    let read = h.read in
-    let p = h.reading.phrase in
-    let said : occurrences (placed_in file.name read.annotated).tree.formula ≡ occurrences (body_meant p.body) = ap occurrences h.reading.meant.formula in
-    let from : length (lexemes file) - first ≡ length (annotated_lexemes p (drop read.next (lexemes file))) =
-    sym (length-drop first (lexemes file)) ∙ ap length h.reading.spelled.spelled in
-    let long = annotated-long p (drop read.next (lexemes file)) in
-    let far = length-drop read.next (lexemes file) in
-    let sizes : size s.formulas ≡ 1 + occurrences (body_meant p.body) + 0 = ap size h.formulas_are ∙ ap (λ n. 1 + n + 0) said in
-    let loaded : s.progress.loaded ≡ start.loaded = ap (λ (q : Progress). q.loaded) h.progress_is in
-    record {
-      sized = omega (arith, sizes, loaded, from, long, far, lexemes-long file, small, h.next_is, h.reading.within);
-      limited = omega (arith, loaded, room);
-      within = omega (arith, h.next_is, h.reading.within);
-    }
-
-include-stretch :
-    (base : List ℕ) (reads : Reads) (file : LoadedFile) (first : ℕ) (start : Progress) (s : Step) → first ≤ length (tokens_of file)
-    → start.loaded ≤ MOST_PROBLEM_BYTES → AllWithin reads → IsIncludeStep base reads file first start s
-    → IsStretch (length (tokens_of file)) first start s.formulas s.progress s.next
-include-stretch base reads file first start s small room inner h =
-    let within = inner.all _ _ start s.progress h.formulas room h.read in
-    let from : length (lexemes file) - first ≡ width h.names + length (drop s.next (lexemes file)) =
-    sym (length-drop first (lexemes file)) ∙ ap length h.spelled.spelled ∙ include-length h.file h.names (drop s.next (lexemes file)) in
-    let far = length-drop s.next (lexemes file) in
-    let fewer = size-selected (names_meant h.names) h.formulas in
-    let taken : size s.formulas ≡ size (selected (names_meant h.names) h.formulas) = ap size h.taken in
-    record {
-      sized = omega (arith, within.sized, fewer, taken, from, far, lexemes-long file, small, h.spelled.within);
-      limited = within.limited;
-      within = omega (arith, h.spelled.within, lexemes-long file);
-    }
-
-step-stretch :
-    (base : List ℕ) (reads : Reads) (file : LoadedFile) (b : Bool) (first : ℕ) (start : Progress) (s : Step) → first ≤ length (tokens_of file)
-    → start.loaded ≤ MOST_PROBLEM_BYTES → AllWithin reads → IsStepBy base reads file b first start s
-    → IsStretch (length (tokens_of file)) first start s.formulas s.progress s.next
-step-stretch base reads file true first start s small room inner h = include-stretch base reads file first start s small room inner h
-step-stretch base reads file false first start s small room inner h = formula-stretch file first start s small room h
-
-steps-stretch :
-    (base : List ℕ) (reads : Reads) (file : LoadedFile) (first : ℕ) (start : Progress) (ss : List Step) → first ≤ length (tokens_of file)
-    → start.loaded ≤ MOST_PROBLEM_BYTES → AllWithin reads → AreSteps base reads file first start ss
-    → IsStretch (length (tokens_of file)) first start (formulas_along ss) (progress_behind start ss) (next_behind first ss)
-steps-stretch base reads file first start [] small room inner h = record { sized = omega arith; limited = room; within = small }
-steps-stretch base reads file first start (s ∷ ss) small room inner h =
-    let here = step-stretch base reads file (is_include (drop first (lexemes file))) first start s small room inner h.0.1 in
-    let more = steps-stretch base reads file s.next s.progress ss here.within here.limited inner h.1 in
-    record {
-      sized = omega (arith, here.sized, more.sized, size-joined s.formulas (formulas_along ss));
-      limited = more.limited;
-      within = more.within;
-    }
-
--- ---- files
-
-text-within :
-    (base : List ℕ) (reads : Reads) (file : LoadedFile) (start : Progress) (fs : List Placed) (now : Progress)
-    → start.loaded + length file.bytes ≤ MOST_PROBLEM_BYTES → AllWithin reads → ReadsText base reads file (with_file file.bytes start) fs now
-    → IsWithin start fs now
-text-within base reads file start fs now room inner h =
-    let along = steps-stretch base reads file 0 (with_file file.bytes start) h.steps (omega arith) room inner h.are in
-    let same : size fs ≡ size (formulas_along h.steps) = ap size h.formulas_are in
-    let loaded : now.loaded ≡ (progress_behind (with_file file.bytes start) h.steps).loaded = ap (λ (q : Progress). q.loaded) h.progress_is in
-    record {
-      sized = omega (arith, along.sized, along.within, same, loaded, tokens-short file.bytes);
-      limited = omega (arith, along.limited, loaded);
-    }
-
-named-within : (told : Option Holdings) (base : List ℕ) (depth : ℕ) → AllWithin (ReadsNamed told base depth)
-named-within told base zero = record { all = λ name around start now fs room h. absurd h }
-named-within told base (suc depth) =
-    record {
-      all =
-          λ name around start now fs room h.
-          let more : start.loaded + length h.bytes ≤ MOST_PROBLEM_BYTES = omega (arith, room, h.given.within) in
-          text-within base (ReadsNamed told base depth) (record { name = name; bytes = h.bytes; around = around }) start fs now more
-          (named-within told base depth) h.text;
-    }
-
 problem-within :
     (told : Option Holdings) (file : List ℕ) (root : Option (List ℕ)) (fs : List Placed) (h : IsProblem told file root fs)
-    → IsWithin (record { loaded = 0; met = false }) fs h.0
-problem-within told file root fs h =
-    (named-within told (base_of root file) (suc MOST_INCLUDES)).all file [] (record { loaded = 0; met = false }) h.0 fs (omega arith) h.1
+    → IsWithin annotated_formulas (λ tree. occurrences tree.formula) annotated-short (record { loaded = 0; met = false }) fs h.0
+problem-within told file root fs h = whole-within annotated_formulas (λ tree. occurrences tree.formula) annotated-short told file root fs h
 
 pub size-loaded :
     (told : Option Holdings) (file : List ℕ) (root : Option (List ℕ)) (fs : List Annotated) (h : IsProblem told file root (map placed fs))
@@ -270,11 +292,3 @@ loaded-limited told file root fs h = (problem-within told file root fs h).limite
 pub size-limited :
     (told : Option Holdings) (file : List ℕ) (root : Option (List ℕ)) (fs : List Annotated) → IsProblem told file root (map placed fs) → HasProblemSize fs
 size-limited told file root fs h = omega (arith, size-loaded told file root fs h, loaded-limited told file root (map placed fs) h)
-
--- the same of a file that was read, by what stands before the names of its includes
-pub size-read :
-    (told : Option Holdings) (base file : List ℕ) (root : Option (List ℕ)) (fs : List Annotated) (now : Progress) → base ≡ base_of root file
-    → ReadsNamed told base (suc MOST_INCLUDES) file [] (record { loaded = 0; met = false }) (map placed fs) now → HasProblemSize fs
-size-read told base file root fs now e h =
-    size-limited told file root fs
-    (now, subst (λ b. ReadsNamed told b (suc MOST_INCLUDES) file [] (record { loaded = 0; met = false }) (map placed fs) now) e h)

@@ -50,7 +50,7 @@ mutual
       let more = more-bound s xs ts rest e first.1 in
       (both-true (term_within xs (term_meant t)) (terms_within xs (terms_meant ts)) first.0 more.0, more.1)
 
-atom-bound :
+pub atom-bound :
     (s : Surroundings) (xs : List (List ℕ)) (a : Atom) (rest : List (Option Refusal)) → s.scope ≡ bound_ones xs
     → AreFaultless (atom_causes s a rest) → (closed_within xs (atom_meant a) ≡ true) × AreFaultless rest
 atom-bound s xs true_atom rest e h = (refl, h.1)

@@ -1,34 +1,34 @@
 -- Faults that are told, by what the functions below say of tokens.
-use Rattle.std.proofs.Common.{◌≡◌, inl, inr, ℕ, ◌+◌, ◌-◌, ◌*◌, ◌≤◌, Bool, true, false, ◌&&◌, ◌||◌, ◌++◌, List, [], ◌∷◌, map, drop, length, codes, refl, ap, ap₂, sym, ◌∙◌, subst, arith}
+use Rattle.std.proofs.Common.{◌≡◌, inl, inr, None, Some, Option, ℕ, ◌+◌, ◌-◌, ◌*◌, ◌≤◌, Bool, true, false, ◌&&◌, ◌||◌, List, [], ◌∷◌, map, drop, length, codes, refl, ap, ap₂, sym, ◌∙◌, subst, arith}
 use Rattle.std.specs.Prelude.{slice_get}
 use Rattle.std.proofs.Math.Seq.{drop-drop}
-use Rattle.std.proofs.lemmas.List.{length-map, map-append}
+use Rattle.std.proofs.lemmas.List.{length-map}
 use Rattle.std.specs.Str.{IsAscii}
-use Rattle.tptp_tree.specs.declared.limits.TheConstants.{MOST_NESTING}
 use Rattle.tptp_token.specs.Lexemes.{Lexeme, lexeme_at, lexeme, word_lexeme}
 use Rattle.tptp_token.specs.Lexing.{lexed_of}
 use Rattle.tptp_token.specs.declared.token.Lexed.{Lexed}
 use Rattle.tptp_token.specs.declared.token.Kind.TheVariants.{Lower, Mark}
 use Rattle.tptp_token.specs.Words.{name_of}
-use Rattle.tptp_tree.specs.Entries.{NamePhrase, names_meant, is_conjecture}
-use Rattle.tptp_reader.specs.Annotating.{IsReading, IsFaultAt}
-use Rattle.tptp_tree.specs.declared.problem.Annotated.{Annotated}
-use Rattle.tptp_tree.specs.Shape.{entry_of}
-use Rattle.tptp_reader.specs.declared.entry.Read.{Read}
+use Rattle.tptp_tree.specs.Entries.{NamePhrase, names_meant}
 use Rattle.tptp_reader.specs.Faults.{IsEndFault, IsFaultWhere}
 use Rattle.tptp_reader.specs.declared.cause.ReadCause.{ReadCause}
-use Rattle.tptp_reader.specs.declared.cause.ReadCause.TheVariants.{Syntax, SecondConjecture}
+use Rattle.tptp_reader.specs.declared.cause.ReadCause.TheVariants.{BadByte, Unclosed, Syntax, SecondConjecture, Load}
 use Rattle.tptp_reader.specs.declared.cause.ReadFault.{ReadFault}
 use Rattle.tptp_reader.specs.declared.cause.ReadFault.TheVariants.{NoMemory, At}
 use Rattle.tptp_problem.specs.declared.include.Awaited.TheVariants.{Keyword}
 use Rattle.tptp_problem.specs.declared.include.Ending.TheVariants.{Whole, Stopped, Cut}
 use Rattle.tptp_problem.specs.declared.source.Source.{Source}
 use Rattle.tptp_problem.specs.Awaiting.{ending_from, AreNamesAt}
-use Rattle.tptp_problem.specs.Formulas.{placed, placed_in, counts, conjecture_begun, begun_counts}
+use Rattle.tptp_problem.specs.declared.fault.FileFault.{FileFault}
+use Rattle.tptp_problem.specs.declared.fault.FileFault.TheVariants.{NoMemory as FileNoMemory, At as FileAt}
+use Rattle.tptp_problem.specs.Languages.{PlacedTree, Language, counts, conjecture_begun, begun_counts}
+use Rattle.tptp_problem.specs.Faults.{IsFileFault, IsToldFault, IsReadFault}
 use Rattle.tptp_problem.specs.IncludeReads.{IsIncludeRead, ReadsNames, IsNameAt}
 use Rattle.tptp_problem.specs.Includes.{StopsInclude, CutsInclude}
-use Rattle.tptp_problem.specs.Problem.{Progress, tokens_of, lexemes, start_of, place_of, is_second, with_formula, IsFormulaStep, IsFormulaFault, IsIncludeSyntaxFault}
-use Rattle.tptp_problem.specs.Shape.{IsLexed, file_of, lexemes_told, selections}
+use Rattle.tptp_token.specs.declared.token.LexFault.{LexFault}
+use Rattle.tptp_token.specs.declared.token.LexFault.TheVariants.{BadByte as BadByteAt, Unclosed as UnclosedAt}
+use Rattle.tptp_problem.specs.Problem.{LoadedFile, Progress, tokens_of, lexemes, start_of, place_of, is_second, with_formula, IsFormulaStep, InLanguage, IsFormulaFault, IsIncludeSyntaxFault}
+use Rattle.tptp_problem.specs.Shape.{IsLoadTold, IsLoadToldIn, IsLexed, file_of, lexemes_told, selections}
 use Rattle.tptp_problem.proofs.AboutFiles.AsciiLemmas.{word-there}
 use Rattle.tptp_problem.proofs.AboutReading.AwaitLemmas.{WholeThere, whole-there, stopped-there, cut-there}
 use Rattle.tptp_problem.proofs.AboutReading.IncludeTokens.{include-tail, tail_lexemes, width}
@@ -133,93 +133,160 @@ whole-wide s first next e =
     let w = whole-there (lexemes_told s) first next (sym e) in
     (omega (arith, w.next_is, (wide w.names).0), (let l = w.spelled.within in omega (arith, l, length-map s.lexed.now.tokens (lexeme_at s.bytes.now))))
 
--- ---- formulas
+-- ---- faults that are no loads
 
-pub second : (s : Source) (first : ℕ) (progress : Progress) (b : Bool) → IsLexed s
-    → b ≡ begun_counts (selections s.around.now) (conjecture_begun (drop first (lexemes_told s)))
-    → is_second (file_of s) first progress ≡ (progress.met && b)
-second s first progress b h e =
-    ap (λ x. progress.met && x)
-    (ap (λ ls. begun_counts (selections s.around.now) (conjecture_begun (drop first ls))) (sym (lexemes-same s h)) ∙ sym e)
+pub end-no-load : (fault : Option LexFault) (end : ℕ) (c : ReadCause) (p : ℕ) → IsEndFault fault end c p → c ≡ Load → ⊥
+end-no-load None end c p h e = let same : Syntax ≡ Load = sym h.0 ∙ e in cc
+end-no-load (Some (BadByteAt n)) end c p h e = let same : BadByte ≡ Load = sym h.0 ∙ e in cc
+end-no-load (Some (UnclosedAt n)) end c p h e = let same : Unclosed ≡ Load = sym h.0 ∙ e in cc
 
-pub second-true :
-    (s : Source) (first : ℕ) (progress : Progress) (b : Bool) → IsLexed s
-    → b ≡ begun_counts (selections s.around.now) (conjecture_begun (drop first (lexemes_told s))) → progress.met ≡ true → b ≡ true
-    → is_second (file_of s) first progress ≡ true
-second-true s first progress b h e m k = second s first progress b h e ∙ both-true progress.met b m k
+pub syntax-no-load :
+    (s : LoadedFile) (first : ℕ) (c : ReadCause) (f : List ℕ) (p : ℕ) → IsIncludeSyntaxFault s first c f p → c ≡ Load → ⊥
+syntax-no-load s first c f p (e, inl h) k = let same : Syntax ≡ Load = sym h.2 ∙ k in cc
+syntax-no-load s first c f p (e, inr h) k = end-no-load (lexed_of s.bytes).fault (length s.bytes) c p h.1 k
 
-pub second-none :
-    (s : Source) (first : ℕ) (progress : Progress) (b : Bool) → IsLexed s
-    → b ≡ begun_counts (selections s.around.now) (conjecture_begun (drop first (lexemes_told s))) → b ≡ false
-    → is_second (file_of s) first progress ≡ false
-second-none s first progress b h e k = second s first progress b h e ∙ ap (λ x. progress.met && x) k ∙ and-false progress.met
+pub other-no-load : (c other : ReadCause) → (other ≡ Load → ⊥) → c ≡ other → c ≡ Load → ⊥
+other-no-load c other never e k = never (sym e ∙ k)
 
-pub second-clear : (s : Source) (first : ℕ) (progress : Progress) → progress.met ≡ false → is_second (file_of s) first progress ≡ false
-second-clear s first progress m =
-    ap (λ x. x && begun_counts (selections s.around.now) (conjecture_begun (drop first (lexemes (file_of s))))) m
+-- ---- faults in a language
 
-pub second-fault :
-    (s : Source) (first : ℕ) (progress : Progress) → IsLexed s → is_second (file_of s) first progress ≡ true
-    → (c : ReadCause) (f : List ℕ) (p : ℕ)
-    → (c ≡ SecondConjecture) × (f ≡ s.name.now) × (p ≡ start_of (slice_get s.lexed.now.tokens (first + 4)))
-    → IsFormulaFault (file_of s) (is_second (file_of s) first progress) first progress c f p
-second-fault s first progress h e c f p k =
-    subst (λ b. IsFormulaFault (file_of s) b first progress c f p) (sym e) (k.0, k.1, k.2 ∙ place-same s (first + 4) h)
+module _ {Tree Cause : Type 0} (language : Language Tree Cause) where
+  pub file-fault-then :
+      (P Q : Cause → List ℕ → ℕ → Type 0) (fault : FileFault Cause) → ((c : Cause) (f : List ℕ) (p : ℕ) → P c f p → Q c f p)
+      → IsFileFault P fault → IsFileFault Q fault
+  file-fault-then P Q FileNoMemory f h = tt
+  file-fault-then P Q (FileAt c f p) g h = g c f p h
 
-pub formula-fault :
-    (s : Source) (first : ℕ) (progress : Progress) (cause : ReadCause) (place : ℕ) → IsLexed s → is_second (file_of s) first progress ≡ false
-    → IsFaultAt MOST_NESTING s.bytes.now s.lexed.now first cause place
-    → (c : ReadCause) (f : List ℕ) (p : ℕ) → (c ≡ cause) × (f ≡ s.name.now) × (p ≡ place)
-    → IsFormulaFault (file_of s) (is_second (file_of s) first progress) first progress c f p
-formula-fault s first progress cause place h e k c f p l =
-    let here : IsFaultAt MOST_NESTING s.bytes.now (lexed_of s.bytes.now) first cause place = subst (λ x. IsFaultAt MOST_NESTING s.bytes.now x first cause place) h.lexed_is k in
-    let there : IsFaultAt MOST_NESTING s.bytes.now (lexed_of s.bytes.now) first c p =
-    subst (λ x. IsFaultAt MOST_NESTING s.bytes.now (lexed_of s.bytes.now) first x p) (sym l.0)
-    (subst (λ n. IsFaultAt MOST_NESTING s.bytes.now (lexed_of s.bytes.now) first cause n) (sym l.2) here) in
-    subst (λ b. IsFormulaFault (file_of s) b first progress c f p) (sym e) (l.1, there)
+  -- what is known of a fault that is told
+  pub told-then :
+      (P : ReadCause → List ℕ → ℕ → Type 0) (Q : Cause → List ℕ → ℕ → Type 0) (fault : ReadFault) (result : FileFault Cause)
+      → ((c : ReadCause) (f : List ℕ) (p : ℕ) → P c f p → Q (language.cause c) f p)
+      → IsFaultWhere P fault → IsToldFault language fault result → IsFileFault Q result
+  told-then P Q NoMemory FileNoMemory g h k = tt
+  told-then P Q NoMemory (FileAt d e q) g h k = absurd k
+  told-then P Q (At c f p) FileNoMemory g h k = tt
+  told-then P Q (At c f p) (FileAt d e q) g h k =
+      subst (λ x. Q x e q) (sym k.0)
+      (subst (λ x. Q (language.cause c) x q) (sym k.1) (subst (λ x. Q (language.cause c) f x) (sym k.2) (g c f p h)))
 
--- ---- a formula that is read
+  pub told-here :
+      (P : ReadCause → List ℕ → ℕ → Type 0) (fault : ReadFault) (result : FileFault Cause)
+      → IsFaultWhere P fault → IsToldFault language fault result → IsFileFault (InLanguage language P) result
+  told-here P fault result h k = told-then P (InLanguage language P) fault result (λ c f p x. (c, refl, x)) h k
 
-pub formula-added :
-    (old new : List Annotated) (a x : Annotated) (name : List ℕ) → new ≡ old ++ x ∷ [] → entry_of x ≡ entry_of a → x.file ≡ name → x.place ≡ a.place
-    → map placed new ≡ map placed old ++ placed_in name a ∷ []
-formula-added old new a x name e t f p =
-    let made : placed x ≡ placed_in name a = cc in
-    ap (map placed) e ∙ map-append placed old (x ∷ []) ∙ ap (λ y. map placed old ++ y ∷ []) made
+  -- ---- loads
 
-pub formula-step :
-    (s : Source) (first : ℕ) (start progress : Progress) (read : Read) → IsLexed s → is_second (file_of s) first start ≡ false
-    → IsReading MOST_NESTING s.bytes.now s.lexed.now.tokens first read
-    → progress ≡ with_formula (selections s.around.now) (placed_in s.name.now read.annotated) start
-    → IsFormulaStep (file_of s) first start
-    (record { formulas = placed_in s.name.now read.annotated ∷ []; progress = progress; next = read.next })
-formula-step s first start progress read h single reading e =
-    record {
-      single = single;
-      read = read;
-      reading = subst (λ ts. IsReading MOST_NESTING s.bytes.now ts first read) (tokens-same s h) reading;
-      formulas_are = refl;
-      progress_is = e;
-      next_is = refl;
-    }
+  -- A load is told of a fault in the language as of the fault itself, where no other cause is told as `Load`.
+  pub told-load :
+      ((known : ReadCause) → language.cause known ≡ language.cause Load → known ≡ Load)
+      → (before after : ℕ) (failed : Option (List ℕ)) (fault : ReadFault) (result : FileFault Cause)
+      → IsFaultWhere (IsLoadTold before after failed) fault → IsToldFault language fault result
+      → IsFileFault (IsLoadToldIn language before after failed) result
+  told-load alone before after failed fault result h k =
+      told-then (IsLoadTold before after failed) (IsLoadToldIn language before after failed) fault result
+      (λ c f p told e. told (alone c e)) h k
 
-pub met-then :
-    (around : List (List (List ℕ))) (a : Annotated) (name : List ℕ) (start now : Progress) (b : Bool)
-    → b ≡ (is_conjecture a.role && counts around a.name) → now.loaded ≡ start.loaded
-    → (b ≡ true → now.met ≡ true) → (b ≡ false → now.met ≡ start.met)
-    → now ≡ with_formula around (placed_in name a) start
-met-then around a name start now b e l then_met else_met =
-    let met : now.met ≡ (start.met || (is_conjecture a.role && counts around a.name)) = by b refl ∙ ap (λ x. start.met || x) e in
-    ap₂ (λ (n : ℕ) (m : Bool). let p : Progress = record { loaded = n; met = m } in p) l met
-  where
-    always : (m : Bool) → true ≡ (m || true)
-    always true = refl
-    always false = refl
+  pub told-no-load :
+      ((known : ReadCause) → language.cause known ≡ language.cause Load → known ≡ Load)
+      → (P : ReadCause → List ℕ → ℕ → Type 0) → ((c : ReadCause) (f : List ℕ) (p : ℕ) → P c f p → c ≡ Load → ⊥)
+      → (fault : ReadFault) (result : FileFault Cause) → IsFaultWhere P fault → IsToldFault language fault result
+      → IsFileFault (λ c f p. c ≡ language.cause Load → ⊥) result
+  told-no-load alone P never fault result h k =
+      told-then P (λ c f p. c ≡ language.cause Load → ⊥) fault result (λ c f p x e. never c f p x (alone c e)) h k
 
-    same : (m : Bool) → m ≡ (m || false)
-    same true = refl
-    same false = refl
+  pub unloaded :
+      (before after : ℕ) (failed : Option (List ℕ)) (result : FileFault Cause) → IsFileFault (λ c f p. c ≡ language.cause Load → ⊥) result
+      → IsFileFault (IsLoadToldIn language before after failed) result
+  unloaded before after failed result h =
+      file-fault-then (λ c f p. c ≡ language.cause Load → ⊥) (IsLoadToldIn language before after failed) result (λ c f p x e. absurd (x e)) h
 
-    by : (x : Bool) → b ≡ x → now.met ≡ (start.met || b)
-    by true h = then_met h ∙ always start.met ∙ ap (λ x. start.met || x) (sym h)
-    by false h = else_met h ∙ same start.met ∙ ap (λ x. start.met || x) (sym h)
+  -- ---- formulas
+
+  pub second : (s : Source) (first : ℕ) (progress : Progress) (b : Bool) → IsLexed s
+      → b ≡ begun_counts (selections s.around.now) (conjecture_begun language.word (drop first (lexemes_told s)))
+      → is_second language (file_of s) first progress ≡ (progress.met && b)
+  second s first progress b h e =
+      ap (λ x. progress.met && x)
+      (ap (λ ls. begun_counts (selections s.around.now) (conjecture_begun language.word (drop first ls))) (sym (lexemes-same s h)) ∙ sym e)
+
+  -- a conjecture that begins with the language's word
+  pub conjecture-word :
+      (s : Source) (first : ℕ) (word : List ℕ) (b : Bool) → word ≡ language.word
+      → b ≡ begun_counts (selections s.around.now) (conjecture_begun word (drop first (lexemes_told s)))
+      → b ≡ begun_counts (selections s.around.now) (conjecture_begun language.word (drop first (lexemes_told s)))
+  conjecture-word s first word b w e =
+      e ∙ ap (λ x. begun_counts (selections s.around.now) (conjecture_begun x (drop first (lexemes_told s)))) w
+
+  pub second-true :
+      (s : Source) (first : ℕ) (progress : Progress) (b : Bool) → IsLexed s
+      → b ≡ begun_counts (selections s.around.now) (conjecture_begun language.word (drop first (lexemes_told s))) → progress.met ≡ true → b ≡ true
+      → is_second language (file_of s) first progress ≡ true
+  second-true s first progress b h e m k = second s first progress b h e ∙ both-true progress.met b m k
+
+  pub second-none :
+      (s : Source) (first : ℕ) (progress : Progress) (b : Bool) → IsLexed s
+      → b ≡ begun_counts (selections s.around.now) (conjecture_begun language.word (drop first (lexemes_told s))) → b ≡ false
+      → is_second language (file_of s) first progress ≡ false
+  second-none s first progress b h e k = second s first progress b h e ∙ ap (λ x. progress.met && x) k ∙ and-false progress.met
+
+  pub second-clear : (s : Source) (first : ℕ) (progress : Progress) → progress.met ≡ false → is_second language (file_of s) first progress ≡ false
+  second-clear s first progress m =
+      ap (λ x. x && begun_counts (selections s.around.now) (conjecture_begun language.word (drop first (lexemes (file_of s))))) m
+
+  pub second-fault :
+      (s : Source) (first : ℕ) (progress : Progress) → IsLexed s → is_second language (file_of s) first progress ≡ true
+      → (c : ReadCause) (f : List ℕ) (p : ℕ)
+      → (c ≡ SecondConjecture) × (f ≡ s.name.now) × (p ≡ start_of (slice_get s.lexed.now.tokens (first + 4)))
+      → IsFormulaFault language (file_of s) (is_second language (file_of s) first progress) first progress (language.cause c) f p
+  second-fault s first progress h e c f p k =
+      subst (λ b. IsFormulaFault language (file_of s) b first progress (language.cause c) f p) (sym e)
+      (ap language.cause k.0, k.1, k.2 ∙ place-same s (first + 4) h)
+
+  pub formula-fault :
+      (s : Source) (first : ℕ) (progress : Progress) → is_second language (file_of s) first progress ≡ false
+      → (c : Cause) (f : List ℕ) (p : ℕ) → (f ≡ s.name.now) × language.IsFault s.bytes.now first c p
+      → IsFormulaFault language (file_of s) (is_second language (file_of s) first progress) first progress c f p
+  formula-fault s first progress e c f p k =
+      subst (λ b. IsFormulaFault language (file_of s) b first progress c f p) (sym e) k
+
+  -- ---- a formula that is read
+
+  pub formula-step :
+      (s : Source) (first : ℕ) (start progress : Progress) (f : PlacedTree Tree) (next : ℕ) → is_second language (file_of s) first start ≡ false
+      → language.IsRead s.name.now s.bytes.now first f next → progress ≡ with_formula language (selections s.around.now) f start
+      → IsFormulaStep language (file_of s) first start (record { formulas = f ∷ []; progress = progress; next = next })
+  formula-step s first start progress f next single read e =
+      record { single = single; formula = f; read = read; formulas_are = refl; progress_is = e }
+
+  pub met-then :
+      (around : List (List (List ℕ))) (f : PlacedTree Tree) (start now : Progress) (b : Bool)
+      → b ≡ (language.is_conjecture f.tree && counts around (language.name f.tree)) → now.loaded ≡ start.loaded
+      → (b ≡ true → now.met ≡ true) → (b ≡ false → now.met ≡ start.met)
+      → now ≡ with_formula language around f start
+  met-then around f start now b e l then_met else_met =
+      let met : now.met ≡ (start.met || (language.is_conjecture f.tree && counts around (language.name f.tree))) =
+      by b refl ∙ ap (λ x. start.met || x) e in
+      ap₂ (λ (n : ℕ) (m : Bool). let p : Progress = record { loaded = n; met = m } in p) l met
+    where
+      always : (m : Bool) → true ≡ (m || true)
+      always true = refl
+      always false = refl
+
+      same : (m : Bool) → m ≡ (m || false)
+      same true = refl
+      same false = refl
+
+      by : (x : Bool) → b ≡ x → now.met ≡ (start.met || b)
+      by true h = then_met h ∙ always start.met ∙ ap (λ x. start.met || x) (sym h)
+      by false h = else_met h ∙ same start.met ∙ ap (λ x. start.met || x) (sym h)
+
+-- ---- problems
+
+pub read-fault-where :
+    (P : ReadCause → List ℕ → ℕ → Type 0) (fault : FileFault ReadCause) (result : ReadFault)
+    → IsFileFault P fault → IsReadFault fault result → IsFaultWhere P result
+read-fault-where P FileNoMemory NoMemory h k = tt
+read-fault-where P FileNoMemory (At c f p) h k = absurd k
+read-fault-where P (FileAt d e q) NoMemory h k = tt
+read-fault-where P (FileAt d e q) (At c f p) h k =
+    subst (λ x. P x f p) (sym k.0) (subst (λ x. P d x p) (sym k.1) (subst (λ x. P d e x) (sym k.2) h))

@@ -12,25 +12,26 @@ use Rattle.tptp_tree.proofs.AboutPrinting.AgainLemmas.{one_entries}
 use Rattle.tptp_tree.specs.Shape.{entry_of}
 use Rattle.tptp_problem.specs.declared.limits.TheConstants.{MOST_INCLUDES}
 use Rattle.tptp_problem.specs.Files.{base_of, loaded_name}
-use Rattle.tptp_problem.specs.Formulas.{Placed, selects, selected}
+use Rattle.tptp_problem.specs.Languages.{selects, selected}
+use Rattle.tptp_problem.specs.Formulas.{Placed, annotated_formulas}
 use Rattle.tptp_problem.specs.Includes.{is_include, include_phrase}
 use Rattle.tptp_problem.specs.Problem.{LoadedFile, Progress, Step, Reads, tokens_of, lexemes, with_file, IsStepBy, IsIncludeStep, IsFormulaStep, AreSteps, next_behind, formulas_along, ReadsNamed, IsProblem}
 use Rattle.tptp_problem.specs.Spelled.{FromFile, from_file, Gives, taken, EntryGives, EntriesGive, NamedGives, SpellsProblem}
 
 -- ---- selections
 
-selected-from : (names : List (List ℕ)) (fs : List Placed) → map from_file (selected names fs) ≡ filter (λ (f : FromFile). selects names f.tree.name) (map from_file fs)
+selected-from : (names : List (List ℕ)) (fs : List Placed) → map from_file (selected annotated_formulas names fs) ≡ filter (λ (f : FromFile). selects names f.tree.name) (map from_file fs)
 selected-from names [] = refl
 selected-from names (f ∷ fs) = by (selects names f.tree.name) (selected-from names fs)
   where
     by :
-        (b : Bool) → map from_file (selected names fs) ≡ filter (λ (g : FromFile). selects names g.tree.name) (map from_file fs)
-        → map from_file (if b then f ∷ selected names fs else selected names fs)
+        (b : Bool) → map from_file (selected annotated_formulas names fs) ≡ filter (λ (g : FromFile). selects names g.tree.name) (map from_file fs)
+        → map from_file (if b then f ∷ selected annotated_formulas names fs else selected annotated_formulas names fs)
         ≡ (if b then from_file f ∷ filter (λ (g : FromFile). selects names g.tree.name) (map from_file fs) else filter (λ (g : FromFile). selects names g.tree.name) (map from_file fs))
     by true h = ap (λ gs. from_file f ∷ gs) h
     by false h = h
 
-all-selected : (fs : List Placed) → map from_file (selected [] fs) ≡ map from_file fs
+all-selected : (fs : List Placed) → map from_file (selected annotated_formulas [] fs) ≡ map from_file fs
 all-selected [] = refl
 all-selected (f ∷ fs) = ap (λ gs. from_file f ∷ gs) (all-selected fs)
 
@@ -46,21 +47,23 @@ record Spelled (base : List ℕ) (gives : Gives) (file : LoadedFile) (first next
   given : EntryGives base gives file.name entry (map from_file formulas)
 
 -- what is read is given
-record AreGiven (reads : Reads) (gives : Gives) : Type 0 where
+record AreGiven (reads : Reads annotated_formulas) (gives : Gives) : Type 0 where
   by :
       (name : List ℕ) (around : List (List (List ℕ))) (start now : Progress) (fs : List Placed)
       → reads name around start fs now → gives name (map from_file fs)
 
 formula-spelled :
-    (base : List ℕ) (gives : Gives) (file : LoadedFile) (first : ℕ) (progress : Progress) (s : Step)
-    → IsFormulaStep file first progress s → Spelled base gives file first s.next s.formulas
+    (base : List ℕ) (gives : Gives) (file : LoadedFile) (first : ℕ) (progress : Progress) (s : Step annotated_formulas)
+    → IsFormulaStep annotated_formulas file first progress s → Spelled base gives file first s.next s.formulas
 formula-spelled base gives file first progress s h = record {
-  phrase = annotated_entry h.reading.phrase;
-  right = h.reading.spelled.right;
-  spelled = h.reading.spelled.spelled ∙ ap (λ n. entry_lexemes (annotated_entry h.reading.phrase) (drop n (lexemes file))) (sym h.next_is);
-  entry = annotated_tree (entry_of h.read.annotated);
-  says = (entry_of h.read.annotated, h.reading.meant, refl);
-  given = ap (map from_file) h.formulas_are;
+  phrase = annotated_entry h.read.reading.phrase;
+  right = h.read.reading.spelled.right;
+  spelled =
+      h.read.reading.spelled.spelled
+      ∙ ap (λ n. entry_lexemes (annotated_entry h.read.reading.phrase) (drop n (lexemes file))) (sym h.read.next_is);
+  entry = annotated_tree (entry_of h.read.read.annotated);
+  says = (entry_of h.read.read.annotated, h.read.reading.meant, refl);
+  given = ap (map from_file) h.formulas_are ∙ ap (λ (f : Placed). from_file f ∷ []) h.read.formula_is;
 }
 
 abbrev include-entry : Word → List NamePhrase → EntryTree
@@ -73,14 +76,14 @@ include-says file (n ∷ ns) = refl
 
 include-gives :
     (base : List ℕ) (gives : Gives) (name : List ℕ) (file : Word) (names : List NamePhrase) (all fs : List Placed)
-    → gives (loaded_name base (name_of file)) (map from_file all) → fs ≡ selected (names_meant names) all
+    → gives (loaded_name base (name_of file)) (map from_file all) → fs ≡ selected annotated_formulas (names_meant names) all
     → EntryGives base gives name (include-entry file names) (map from_file fs)
 include-gives base gives name file [] all fs g e = (map from_file all, g, ap (map from_file) e ∙ all-selected all)
 include-gives base gives name file (n ∷ ns) all fs g e = (map from_file all, g, ap (map from_file) e ∙ selected-from (names_meant (n ∷ ns)) all)
 
 include-spelled :
-    (base : List ℕ) (reads : Reads) (gives : Gives) (file : LoadedFile) (first : ℕ) (progress : Progress) (s : Step)
-    → AreGiven reads gives → IsIncludeStep base reads file first progress s → Spelled base gives file first s.next s.formulas
+    (base : List ℕ) (reads : Reads annotated_formulas) (gives : Gives) (file : LoadedFile) (first : ℕ) (progress : Progress) (s : Step annotated_formulas)
+    → AreGiven reads gives → IsIncludeStep annotated_formulas base reads file first progress s → Spelled base gives file first s.next s.formulas
 include-spelled base reads gives file first progress s each h = record {
   phrase = include_phrase h.file h.names;
   right = h.spelled.right;
@@ -91,8 +94,8 @@ include-spelled base reads gives file first progress s each h = record {
 }
 
 step-spelled :
-    (base : List ℕ) (reads : Reads) (gives : Gives) (file : LoadedFile) (first : ℕ) (progress : Progress) (s : Step) (b : Bool)
-    → AreGiven reads gives → IsStepBy base reads file b first progress s → Spelled base gives file first s.next s.formulas
+    (base : List ℕ) (reads : Reads annotated_formulas) (gives : Gives) (file : LoadedFile) (first : ℕ) (progress : Progress) (s : Step annotated_formulas) (b : Bool)
+    → AreGiven reads gives → IsStepBy annotated_formulas base reads file b first progress s → Spelled base gives file first s.next s.formulas
 step-spelled base reads gives file first progress s true each h = include-spelled base reads gives file first progress s each h
 step-spelled base reads gives file first progress s false each h = formula-spelled base gives file first progress s h
 
@@ -110,9 +113,9 @@ none-left : (file : LoadedFile) (first : ℕ) → length (tokens_of file) ≤ fi
 none-left file first h = drop_all first (lexemes file) (subst (λ n. n ≤ first) (sym (length-map (tokens_of file) (lexeme_at file.bytes))) h)
 
 steps-spelled :
-    (base : List ℕ) (reads : Reads) (gives : Gives) (file : LoadedFile) (first : ℕ) (progress : Progress) (ss : List Step)
-    → AreGiven reads gives → AreSteps base reads file first progress ss → length (tokens_of file) ≤ next_behind first ss
-    → AllSpelled base gives file first (formulas_along ss)
+    (base : List ℕ) (reads : Reads annotated_formulas) (gives : Gives) (file : LoadedFile) (first : ℕ) (progress : Progress) (ss : List (Step annotated_formulas))
+    → AreGiven reads gives → AreSteps annotated_formulas base reads file first progress ss → length (tokens_of file) ≤ next_behind annotated_formulas first ss
+    → AllSpelled base gives file first (formulas_along annotated_formulas ss)
 steps-spelled base reads gives file first progress [] each are end =
     record { phrases = []; right = refl; spelled = none-left file first end; entries = []; says = tt; given = refl }
 steps-spelled base reads gives file first progress (s ∷ ss) each are end =
@@ -126,20 +129,20 @@ steps-spelled base reads gives file first progress (s ∷ ss) each are end =
       says = (one.says, more.says);
       given = (
         map from_file s.formulas,
-        map from_file (formulas_along ss),
+        map from_file (formulas_along annotated_formulas ss),
         one.given,
         more.given,
-        map-append from_file s.formulas (formulas_along ss),
+        map-append from_file s.formulas (formulas_along annotated_formulas ss),
       );
     }
 
-named-given : (told : Option Holdings) (base : List ℕ) (depth : ℕ) → AreGiven (ReadsNamed told base depth) (NamedGives told base depth)
+named-given : (told : Option Holdings) (base : List ℕ) (depth : ℕ) → AreGiven (ReadsNamed annotated_formulas told base depth) (NamedGives told base depth)
 named-given told base zero = record { by = λ name around start now fs h. h }
 named-given told base (suc depth) = record {
   by = λ name around start now fs h.
       let file : LoadedFile = record { name = name; bytes = h.bytes; around = around } in
       let all =
-      steps-spelled base (ReadsNamed told base depth) (NamedGives told base depth) file 0 (with_file h.bytes start) h.text.steps
+      steps-spelled base (ReadsNamed annotated_formulas told base depth) (NamedGives told base depth) file 0 (with_file h.bytes start) h.text.steps
       (named-given told base depth) h.text.are h.text.ended in
       record {
         bytes = h.bytes;

@@ -14,11 +14,12 @@ use Rattle.tptp_tree.specs.Term.{no_terms}
 use Rattle.tptp_tree.specs.Formula.{predicate}
 use Rattle.tptp_tree.specs.Spelling.{no_phrases, predicate_atom, atomic, alone}
 use Rattle.tptp_tree.specs.Entries.{word_name, formula_body, AnnotatedPhrase, AnnotatedTree}
-use Rattle.tptp_reader.specs.declared.cause.ReadCause.TheVariants.{IncludeDepth}
+use Rattle.tptp_reader.specs.declared.cause.ReadCause.TheVariants.{Unclosed, Syntax, IncludeDepth, TooLong}
 use Rattle.tptp_reader.specs.declared.entry.Read.{Read}
 use Rattle.outside.specs.Library.{Holdings}
 use Rattle.tptp_problem.specs.Includes.{HasNoInclude}
 use Rattle.tptp_problem.specs.Files.{room_after}
+use Rattle.tptp_problem.specs.Formulas.{annotated_formulas}
 use Rattle.tptp_problem.specs.Problem.{LoadedFile, lexemes, Step, IsFormulaStep, FaultsNamed}
 use Rattle.tptp_problem.specs.SpelledExamples.{holding}
 use Rattle.tptp_problem.proofs.laws.fault_examples.Goals as goal
@@ -47,32 +48,37 @@ reading = record {
   next = 9;
 }
 
-first : Step
+first : Step annotated_formulas
 first = record {
   formulas = record { tree = tree; file = codes "a"; place = 0 } ∷ [];
   progress = record { loaded = 40; met = true };
   next = 9;
 }
 
-first-step : IsFormulaStep two_conjectures 0 (record { loaded = 40; met = false }) first
+first-step : IsFormulaStep annotated_formulas two_conjectures 0 (record { loaded = 40; met = false }) first
 unfolding two_conjectures conjecture tree reading first longest is_token kind_of line_length block_end fills piece_of lexed_from lexed_of
 first-step = record {
   single = refl;
-  read = reading;
-  reading =
+  formula = record { tree = tree; file = codes "a"; place = 0 };
+  read =
       record {
-        phrase = conjecture;
-        spelled = record { right = refl; spelled = refl; faultless = (refl, (refl, (refl, (refl, (refl, (refl, (refl, (refl, (refl, tt))))))))) };
-        meant = record { name = refl; role = refl; is_clause = refl; formula = refl };
-        within = omega arith;
-        notes = refl;
-        close = refl;
-        place = refl;
-        file = refl;
+        read = reading;
+        reading =
+            record {
+              phrase = conjecture;
+              spelled = record { right = refl; spelled = refl; faultless = (refl, (refl, (refl, (refl, (refl, (refl, (refl, (refl, (refl, tt))))))))) };
+              meant = record { name = refl; role = refl; is_clause = refl; formula = refl };
+              within = omega arith;
+              notes = refl;
+              close = refl;
+              place = refl;
+              file = refl;
+            };
+        formula_is = refl;
+        next_is = refl;
       };
   formulas_are = refl;
   progress_is = refl;
-  next_is = refl;
 }
 
 -- ---- a file that includes itself
@@ -86,7 +92,7 @@ room loaded small = le-min (omega arith) (omega (arith, small))
 
 deep :
     (depth : ℕ) (around : List (List (List ℕ))) (loaded : ℕ) → loaded + 11 * depth ≤ 1000
-    → FaultsNamed (Some itself) [] 0 (suc depth) (codes "a") around (record { loaded = loaded; met = false }) IncludeDepth (codes "a") 0
+    → FaultsNamed annotated_formulas (Some itself) [] 0 (suc depth) (codes "a") around (record { loaded = loaded; met = false }) IncludeDepth (codes "a") 0
 unfolding longest is_token kind_of line_length block_end fills piece_of lexed_from lexed_of
 deep zero around loaded small =
     inr (record {
@@ -141,7 +147,7 @@ returns c = record {
             };
       });
   includes_itself = deep 16 [] 0 (omega arith);
-  too_many_bytes = inl (refl, refl, inl (refl, omega arith));
+  too_many_bytes = inl (TooLong, refl, (refl, refl, inl (refl, omega arith)));
   include_cut_off =
       inr (record {
         bytes = codes "include(f";
@@ -154,20 +160,24 @@ returns c = record {
                   inl (
                     omega arith,
                     inl (
+                      Syntax,
                       refl,
-                      inr (
-                        record {
-                          before =
-                              record {
-                                file = bare (codes "f");
-                                names = [];
-                                more = lexeme Mark (codes ")") ∷ lexeme Mark (codes ".") ∷ [];
-                                right = refl;
-                                continued = refl;
-                              };
-                          none = none;
-                        },
-                        (refl, refl),
+                      (
+                        refl,
+                        inr (
+                          record {
+                            before =
+                                record {
+                                  file = bare (codes "f");
+                                  names = [];
+                                  more = lexeme Mark (codes ")") ∷ lexeme Mark (codes ".") ∷ [];
+                                  right = refl;
+                                  continued = refl;
+                                };
+                            none = none;
+                          },
+                          (refl, refl),
+                        ),
                       ),
                     ),
                   );
@@ -181,7 +191,7 @@ returns c = record {
             record {
               steps = [];
               are = tt;
-              why = inr (record { ended = omega arith; fault = UnclosedAt 1; found = refl; told = (refl, refl); file_is = refl });
+              why = inr (Unclosed, refl, record { ended = omega arith; fault = UnclosedAt 1; found = refl; told = (refl, refl); file_is = refl });
             };
       });
 }

@@ -11,6 +11,7 @@ use Rattle.tptp_tree.specs.Spelling.{no_phrases, predicate_atom}
 use Rattle.tptp_tree.specs.Entries.{word_name, positive_literal, literals, clause_body, AnnotatedPhrase, annotated_entry, whole_include, selected_include, annotated_tree, include_tree, IsAnnotatedOf, annotated_lexemes, SpellsEntries}
 use Rattle.tptp_reader.specs.declared.entry.Read.{Read}
 use Rattle.tptp_problem.specs.Spelled.{FromFile}
+use Rattle.tptp_problem.specs.Formulas.{annotated_formulas}
 use Rattle.tptp_problem.specs.Problem.{LoadedFile, tokens_of, lexemes, Step, Reads, IsFormulaStep, ReadsText}
 use Rattle.tptp_problem.specs.SpelledExamples.{clause_named, two_clauses, placed_clause}
 use Rattle.tptp_problem.proofs.laws.problem_examples.Goals as goal
@@ -78,7 +79,7 @@ read_at name symbol first place = record {
 }
 
 -- behind it nothing but the place has changed
-abbrev step_at : List ℕ → List ℕ → LoadedFile → ℕ → ℕ → ℕ → Step
+abbrev step_at : List ℕ → List ℕ → LoadedFile → ℕ → ℕ → ℕ → Step annotated_formulas
 step_at name symbol file first place loaded = record {
   formulas = placed_clause name symbol file.name place ∷ [];
   progress = record { loaded = loaded; met = false };
@@ -89,30 +90,35 @@ clause-step :
     (name symbol : List ℕ) (file : LoadedFile) (first place loaded : ℕ)
     → drop first (lexemes file) ≡ annotated_lexemes (phrase name symbol) (drop (first + 9) (lexemes file)) → first + 9 ≤ length (tokens_of file)
     → IfSome (slice_get (tokens_of file) first) (λ t. place ≡ t.start)
-    → IsFormulaStep file first (record { loaded = loaded; met = false }) (step_at name symbol file first place loaded)
+    → IsFormulaStep annotated_formulas file first (record { loaded = loaded; met = false }) (step_at name symbol file first place loaded)
 clause-step name symbol file first place loaded e l p = record {
   single = refl;
-  read = read_at name symbol first place;
-  reading =
+  formula = placed_clause name symbol file.name place;
+  read =
       record {
-        phrase = phrase name symbol;
-        spelled = record { right = refl; spelled = e; faultless = (refl, (refl, (refl, (refl, (refl, (refl, (refl, (refl, (refl, tt))))))))) };
-        meant = says name symbol;
-        within = l;
-        notes = refl;
-        close = omega arith;
-        place = p;
-        file = refl;
+        read = read_at name symbol first place;
+        reading =
+            record {
+              phrase = phrase name symbol;
+              spelled = record { right = refl; spelled = e; faultless = (refl, (refl, (refl, (refl, (refl, (refl, (refl, (refl, (refl, tt))))))))) };
+              meant = says name symbol;
+              within = l;
+              notes = refl;
+              close = omega arith;
+              place = p;
+              file = refl;
+            };
+        formula_is = refl;
+        next_is = refl;
       };
   formulas_are = refl;
   progress_is = refl;
-  next_is = refl;
 }
 
 -- the file of two clauses
 two-read :
-    (base : List ℕ) (reads : Reads) (name : List ℕ) (around : List (List (List ℕ))) (loaded : ℕ)
-    → ReadsText base reads (record { name = name; bytes = two_clauses; around = around }) (record { loaded = loaded; met = false })
+    (base : List ℕ) (reads : Reads annotated_formulas) (name : List ℕ) (around : List (List (List ℕ))) (loaded : ℕ)
+    → ReadsText annotated_formulas base reads (record { name = name; bytes = two_clauses; around = around }) (record { loaded = loaded; met = false })
     (placed_clause (codes "b") (codes "q") name 0 ∷ placed_clause (codes "c") (codes "r") name 15 ∷ []) (record { loaded = loaded; met = false })
 unfolding longest is_token kind_of line_length block_end fills piece_of lexed_from lexed_of
 two-read base reads name around loaded =

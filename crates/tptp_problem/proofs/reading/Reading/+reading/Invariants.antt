@@ -1,5 +1,4 @@
 use Rattle.std.proofs.Common.{◌≡◌, ◌≤◌, ◌+◌, ◌-◌, ◌*◌, length, map}
-use Rattle.tptp_problem.specs.Formulas.{placed}
 use Rattle.tptp_problem.specs.Problem.{ReadsNamed}
 use Rattle.tptp_problem.specs.Shape.{file_of, progress_of}
 use Rattle.tptp_problem.proofs.AboutReading.ReadLemmas.{ReadsUpTo}
@@ -17,7 +16,9 @@ decreases-text g l = 4 * l.depth + 2
 abbrev pub invariant-text-loop-next : goal.invariant-text-loop-next
 invariant-text-loop-next g l =
     record {
-      read : ReadsUpTo l.fn.self.base.now (ReadsNamed (g.L.Library.told l.fn.library) l.fn.self.base.now l.depth) (file_of l.source) (progress_of l.fn.self) l.next (map placed l.formulas.items) (progress_of l.self);
+      read :
+          ReadsUpTo g.E.Entry.language l.fn.self.base.now (ReadsNamed g.E.Entry.language (g.L.Library.told l.fn.library) l.fn.self.base.now l.depth)
+          (file_of l.source) (progress_of l.fn.self) l.next (map g.E.Entry.placed l.formulas.items) (progress_of l.self);
       told : g.L.Library.told l.library ≡ g.L.Library.told l.fn.library;
       later : g.L.Library.faults l.fn.library ≤ g.L.Library.faults l.library;
       base : l.self.base ≡ l.fn.self.base;

@@ -1,5 +1,5 @@
 use Rattle.std.proofs.Common.{◌≡◌, drop}
-use Rattle.tptp_problem.specs.Formulas.{counts}
+use Rattle.tptp_problem.specs.Languages.{counts}
 use Rattle.tptp_problem.specs.Shape.{selections}
 use Rattle.tptp_problem.proofs.source.Source.counts.Given as goal
 

@@ -1,0 +1,10 @@
+pub mod Sorts
+pub mod TypedFormula
+pub mod Codes
+pub mod Shape
+pub mod Falls
+pub mod TypedSpelling
+pub mod TypedEntries
+pub mod TypedCauses
+pub mod TypedAnswers
+pub mod Examples
