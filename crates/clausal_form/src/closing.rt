@@ -12,6 +12,7 @@ ghost use Rattle.formula_nnf.specs.Shape.{nnf_tree};
 
 use formula_nnf::{Nnf, NnfBox, nnf, quantified_form};
 use indexmap::IndexSet;
+use name_hash::NameHash;
 use plain_types::{Mem, Text, Texts};
 use skolem::VariableRef;
 use std::alloc::Global;
@@ -60,7 +61,7 @@ pub(crate) fn different_free_names(alloc: Global, formula: &Formula) -> Mem<Text
 fn different(alloc: Global, names: &[Text]) -> Mem<Texts>
     ensures { IfOk result (λ found. found ≡ different_names names.now) }
 {
-    let mut met = IndexSet::new(alloc);
+    let mut met = IndexSet::with_hasher(alloc, NameHash::new());
     let mut found = Texts::new(alloc);
     for name in names {
         let key = VariableRef {

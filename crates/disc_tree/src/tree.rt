@@ -114,20 +114,22 @@ impl DiscTree {
         Ok(Numbers::from_vec(found))
     }
 
-    /// Adds what `unifiable` answers to a list of the caller's. After an out-of-memory error only some of it may be there, after the numbers that the list had.
+    /// Adds what `unifiable` answers to a list of the caller's. After an out-of-memory error the list is as before.
     pub fn push_unifiable(&self, query: &Term, found: &mut Vec<u64>) -> Mem<()>
         ensures found { IfOk result (λ _. found.new.items
             ≡ found.old.items ++ numbers_where (λ term. compatible term (tree_of query.now)) self.now) }
         ensures kept { IsBeginning found.old.items found.new.items }
+        ensures err { OnErr result (found.new.items ≡ found.old.items) }
     {
         self.push_uncounted(query, Varying::BOTH, found)
     }
 
-    /// Adds what `generalisations` answers to a list of the caller's. After an out-of-memory error only some of it may be there, after the numbers that the list had.
+    /// Adds what `generalisations` answers to a list of the caller's. After an out-of-memory error the list is as before.
     pub fn push_generalisations(&self, query: &Term, found: &mut Vec<u64>) -> Mem<()>
         ensures found { IfOk result (λ _. found.new.items
             ≡ found.old.items ++ numbers_where (λ term. compatible_generalisation term (tree_of query.now)) self.now) }
         ensures kept { IsBeginning found.old.items found.new.items }
+        ensures err { OnErr result (found.new.items ≡ found.old.items) }
     {
         self.push_uncounted(query, Varying::ENTRIES, found)
     }
@@ -165,11 +167,12 @@ impl DiscTree {
         first_in(&self.root, &rest, &Stars::Nothing, test, &mut steps)
     }
 
-    /// Adds what `instances` answers to a list of the caller's. After an out-of-memory error only some of it may be there, after the numbers that the list had.
+    /// Adds what `instances` answers to a list of the caller's. After an out-of-memory error the list is as before.
     pub fn push_instances(&self, query: &Term, found: &mut Vec<u64>) -> Mem<()>
         ensures found { IfOk result (λ _. found.new.items
             ≡ found.old.items ++ numbers_where (λ term. compatible_instance term (tree_of query.now)) self.now) }
         ensures kept { IsBeginning found.old.items found.new.items }
+        ensures err { OnErr result (found.new.items ≡ found.old.items) }
     {
         self.push_uncounted(query, Varying::QUERIES, found)
     }
@@ -241,16 +244,24 @@ impl DiscTree {
         collect(&self.root, &Skipped::Closed, &rest, varying, found, steps)
     }
 
-    /// Adds these numbers for a caller that counts nothing.
+    /// Adds these numbers for a caller that counts nothing; after an out-of-memory error none is added.
     fn push_uncounted(&self, query: &Term, varying: Varying, found: &mut Vec<u64>) -> Mem<()>
         ensures found { IfOk result (λ _. found.new.items ≡ found.old.items
             ++ numbers_where (λ term. compatible_by varying.entry varying.query term (tree_of query.now)) self.now) }
         ensures kept { IsBeginning found.old.items found.new.items }
+        ensures err { OnErr result (found.new.items ≡ found.old.items) }
     {
-        self.push_from::<Brand>(query, varying, found, Blank::new(1))
+        let before = found.len();
+        match self.push_from::<Brand>(query, varying, found, Blank::new(1)) {
+            Ok(()) => Ok(()),
+            Err(refused) => {
+                found.truncate(before);
+                Err(refused)
+            }
+        }
     }
 
-    /// The counted call on a new ledger, which nobody reads.
+    /// The counted call on a new ledger, which nobody reads. After an out-of-memory error some numbers may have been added.
     fn push_from<L: Ledger>(
         &self,
         query: &Term,

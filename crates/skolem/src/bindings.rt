@@ -12,6 +12,7 @@ ghost use Rattle.skolem.specs.Progress.{environment_of, place_variables};
 use crate::bound_term::BoundTerm;
 use crate::name::{VariableName, VariableRef};
 use indexmap::IndexMap;
+use name_hash::NameHash;
 use plain_types::{Mem, Text};
 use std::alloc::Global;
 use std::marker::Model;
@@ -41,7 +42,7 @@ pub(crate) struct Entry {
 pub(crate) struct Bindings {
     entries: Vec<Entry>,
     /// One more than the place of the innermost binding of each name that was bound, or 0 where it isn't now.
-    innermost: IndexMap<VariableName, usize>,
+    innermost: IndexMap<VariableName, usize, NameHash>,
 }
 
 impl Model for Bindings {
@@ -68,7 +69,7 @@ impl Bindings {
     {
         Bindings {
             entries: Vec::new(alloc),
-            innermost: IndexMap::new(alloc),
+            innermost: IndexMap::with_hasher(alloc, NameHash::new()),
         }
     }
 
@@ -243,7 +244,7 @@ fn covers_at(entries: &[Entry], place: usize) -> usize
 }
 
 /// One more than the place of a name, or 0.
-fn place_of(innermost: &IndexMap<VariableName, usize>, name: &Text) -> usize
+fn place_of(innermost: &IndexMap<VariableName, usize, NameHash>, name: &Text) -> usize
     ensures { result ≡ place_in innermost.now.entries name.now }
 {
     let key = VariableRef {

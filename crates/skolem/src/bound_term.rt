@@ -1,6 +1,6 @@
 // The terms to which the variables in force are bound.
 
-ghost use Rattle.std.specs.Prelude.{◌≡◌, ◌++◌, ◌-◌, ◌^◌, min, IfOk};
+ghost use Rattle.std.specs.Prelude.{◌≡◌, ◌++◌, ◌-◌, ◌^◌, min, IfOk, OnErr};
 ghost use Rattle.fol_base.specs.Tree.{tree_size, tree_variables};
 ghost use Rattle.fol_base.specs.Term.{tree_of};
 ghost use Rattle.skolem.specs.BoundTerm.{bound_tree};
@@ -66,9 +66,10 @@ impl BoundTerm {
         }
     }
 
-    /// Adds the term's variables.
+    /// Adds the term's variables; after an out-of-memory error none is added.
     pub(crate) fn push_variables(&self, found: &mut Vec<u32>) -> Mem<()>
-        ensures { IfOk result (λ _. found.new.items ≡ found.old.items ++ tree_variables (bound_tree self.now)) }
+        ensures added { IfOk result (λ _. found.new.items ≡ found.old.items ++ tree_variables (bound_tree self.now)) }
+        ensures unchanged { OnErr result (found.new.items ≡ found.old.items) }
     {
         match self {
             BoundTerm::Var(number) => Ok(found.push(*number)?),

@@ -1,7 +1,7 @@
 // Literals of a matrix. Their sizes and variables are known before their terms are made, which is when they are written into a clause: a
 // formula that passes a limit is refused before any of its terms is made.
 
-ghost use Rattle.std.specs.Prelude.{◌≡◌, ◌-◌, ◌^◌, ◌∷◌, ◌++◌, min, map, flat_map, IfOk};
+ghost use Rattle.std.specs.Prelude.{◌≡◌, ◌-◌, ◌^◌, ◌∷◌, ◌++◌, min, map, flat_map, IfOk, OnErr};
 ghost use Rattle.tptp_tree.specs.Term.{terms_of};
 ghost use Rattle.fol_base.specs.Tree.{application, tree_variables};
 ghost use Rattle.fol_base.specs.Term.{tree_of};
@@ -119,9 +119,10 @@ impl<'a> MatrixLiteral<'a> {
         }
     }
 
-    /// Adds the numbers of the literal's variables at the end, with repetitions, from left to right.
+    /// Adds the numbers of the literal's variables at the end, with repetitions, from left to right; after an out-of-memory error none is added.
     pub fn push_variables(&self, found: &mut Vec<u32>) -> Mem<()>
-        ensures { IfOk result (λ _. found.new.items ≡ found.old.items ++ literal_variables self.now) }
+        ensures added { IfOk result (λ _. found.new.items ≡ found.old.items ++ literal_variables self.now) }
+        ensures unchanged { OnErr result (found.new.items ≡ found.old.items) }
     {
         match &self.source {
             Source::Bound(literal) => push_bound_variables(literal.terms.as_slice(), found),
@@ -217,12 +218,17 @@ fn bound_terms(alloc: Global, bindings: &Bindings, atom: Atom<'_>) -> Mem<BoundT
     Ok(bound)
 }
 
-/// Adds the variables of terms.
+/// Adds the variables of terms; after an out-of-memory error none is added.
 fn push_bound_variables(terms: &[BoundTerm], found: &mut Vec<u32>) -> Mem<()>
-    ensures { IfOk result (λ _. found.new.items ≡ found.old.items ++ flat_map tree_variables (map bound_tree terms.now)) }
+    ensures added { IfOk result (λ _. found.new.items ≡ found.old.items ++ flat_map tree_variables (map bound_tree terms.now)) }
+    ensures unchanged { OnErr result (found.new.items ≡ found.old.items) }
 {
+    let before = found.len();
     for term in terms {
-        term.push_variables(found)?;
+        if let Err(error) = term.push_variables(found) {
+            found.truncate(before);
+            return Err(error);
+        }
     }
     Ok(())
 }

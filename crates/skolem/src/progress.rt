@@ -2,7 +2,7 @@
 
 ghost use Rattle.std.specs.Prelude.{◌≡◌, ◌+◌, ◌∷◌, [], ◌++◌, nat_lt, IfOk};
 ghost use Rattle.std.specs.List.{list_all};
-ghost use Rattle.std.specs.List.Sorted.{IsNonDecreasingBy};
+ghost use Rattle.std.specs.List.Sorted.{IsNonDecreasingBy, IsPermutation};
 ghost use Rattle.signature.specs.Environment.{free_names, without_names};
 ghost use Rattle.signature.specs.Clausal.{skolem_arguments, made_in_order};
 ghost use Rattle.signature.specs.Form.{nothing_made};
@@ -123,9 +123,10 @@ fn are_below(number: u32, variables: &[u32]) -> bool
 }
 
 /// The variables below that number that occur, in their order, each once. The list is sorted for it, by the sort that merges what is in order
-/// already, since such lists are mostly put together from lists that are.
+/// already, since such lists are mostly put together from lists that are. Out of memory, too, it has the numbers that it had, perhaps in that order.
 pub fn made_in_order(alloc: Global, variables: u32, occurring: &mut Vec<u32>) -> Mem<Vec<u32>>
-    ensures { IfOk result (λ found. found.items ≡ made_in_order variables occurring.old.items) }
+    ensures found { IfOk result (λ found. found.items ≡ made_in_order variables occurring.old.items) }
+    ensures kept { IsPermutation occurring.old.items occurring.new.items }
 {
     occurring.sort()?;
     once_each(alloc, variables, occurring.as_slice())

@@ -1,7 +1,8 @@
 // Variables that occur in clauses, in a list whose repetitions are dropped as it grows: literals share the arguments of a Skolem term, so there can be
 // very many occurrences of few variables.
 
-ghost use Rattle.std.specs.Prelude.{◌≡◌, [], IfOk};
+ghost use Rattle.std.specs.Prelude.{◌≡◌, [], IfOk, OnErr};
+ghost use Rattle.std.specs.List.Sorted.{IsPermutation};
 ghost use Rattle.skolem.specs.Outline.{AreSame};
 
 use crate::progress::made_in_order;
@@ -33,9 +34,11 @@ impl VariableList {
     }
 
     /// Drops the repetitions where the list is longer than its room, and gives it room for twice what is left: so a list is at most about twice as long
-    /// as there are variables in it, and each is sorted a few times.
+    /// as there are variables in it, and each is sorted a few times. After an out-of-memory error the list has all that it had, perhaps in another order.
     pub fn shorten(&mut self, alloc: Global) -> Mem<()>
-        ensures { IfOk result (λ _. AreSame self.new.variables.items self.old.variables.items) }
+        ensures same { IfOk result (λ _. AreSame self.new.variables.items self.old.variables.items) }
+        ensures kept { OnErr result (IsPermutation self.old.variables.items self.new.variables.items) }
+        ensures room { OnErr result (self.new.room ≡ self.old.room) }
     {
         if self.variables.len() <= self.room {
             return Ok(());

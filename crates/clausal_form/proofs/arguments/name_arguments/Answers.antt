@@ -9,4 +9,4 @@ returns c =
     ok-then c.made_in_order.result
     (λ _ h. arguments-made c.args.made (matrix_tree c.args.matrix.now) _ _ _ (omega (arith, c.ranges.made.fits)) c.new-found.ensures
     c.in_ok-push_matrix_variables.ensures.added h)
-    c.made_in_order.ensures
+    c.made_in_order.ensures.found

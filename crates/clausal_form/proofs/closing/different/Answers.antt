@@ -3,7 +3,7 @@ use Rattle.clausal_form.proofs.AboutNaming.NameLemmas.{met-begin, met-again, met
 use Rattle.clausal_form.proofs.closing.different.Goals as goal
 
 pub loop-name-init : goal.loop-name-init
-loop-name-init c = met-begin _ _ _ c.new-found.ensures c.new-met.ensures.empty
+loop-name-init c = met-begin _ _ _ c.new-found.ensures c.with_hasher-met.ensures.empty
 
 pub loop-name-preserved-then-not-is_new : goal.loop-name-preserved-then-not-is_new
 loop-name-preserved-then-not-is_new c =

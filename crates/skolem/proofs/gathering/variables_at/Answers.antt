@@ -9,4 +9,4 @@ returns-clause-found c v =
     let first : c.loop-index.index ≡ 0 = omega (arith, c.loop-index-test.false) in
     c.loop-index.invariant.0 v
     ∙ ap (λ i. list_any (λ w. v == w) (variables_at c.args.bindings.now (drop i c.in_ok-different.different.items))) first
-    ∙ each-once c.args.bindings.now _ c.args.places.now.items _ v c.in_ok-place_count.ensures c.in_ok-different.ensures
+    ∙ each-once c.args.bindings.now _ c.args.places.now.items _ v c.in_ok-place_count.ensures c.in_ok-different.ensures.found

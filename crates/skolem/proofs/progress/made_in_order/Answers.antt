@@ -14,8 +14,8 @@ once_each-requires c =
           (IsNonDecreasingBy-from_sort (λ v. v) c.sort.new.self.items c.in_ok-sort.ensures.sorted);
     }
 
-pub returns : goal.returns
-returns c =
+pub returns-clause-found : goal.returns-clause-found
+returns-clause-found c =
     ok-then c.once_each.result _ _
     (λ found h. order-of-sorted c.args.variables c.args.occurring.now.items c.sort.new.self.items found.items c.sort.ensures.permutation
     (h ∙ ap (made_in_order c.args.variables) c.as_slice.ensures.value)) c.once_each.ensures

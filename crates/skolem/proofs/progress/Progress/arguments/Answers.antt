@@ -16,7 +16,7 @@ pub returns-clause-found : goal.returns-clause-found
 returns-clause-found c =
     arguments-found c.args.names.now c.args.body.now (environment_of c.args.self.now.bindings) (made_of c.args.self.now) _ _
     (λ v. c.in_ok-occurring.ensures.found v ∙ ap (list_any (λ w. v == w)) (whole-walk _ _ _ _ _ _ c.len-outer.ensures
-    c.in_ok-push_occurring_under.ensures.bindings c.new-places.ensures.items c.in_ok-push_occurring_under.ensures.found)) c.in_ok-variables.ensures
+    c.in_ok-push_occurring_under.ensures.bindings c.new-places.ensures.items c.in_ok-push_occurring_under.ensures.found)) c.in_ok-variables.ensures.found
 
 pub returns-clause-covers : goal.returns-clause-covers
 returns-clause-covers c =
@@ -27,7 +27,7 @@ returns-clause-covers c =
           ap (list_all (λ v. nat_lt v c.args.self.now.variables)) (sym c.as_slice.ensures.value) ∙ sym c.are_below-are_made.ensures ∙ yes in
           subst (λ p. Covers c.args.self.now.bindings p c.in_ok-variables.variables.items) (sym w.result-is)
           (made-covers c.args.self.now.bindings c.in_ok-occurring.occurring.covers c.args.self.now.variables c.in_ok-occurring.occurring.variables.items
-          c.in_ok-variables.variables.items all c.in_ok-variables.ensures
+          c.in_ok-variables.variables.items all c.in_ok-variables.ensures.found
           (subst (λ bs. Covers bs c.in_ok-occurring.occurring.covers c.in_ok-occurring.occurring.variables.items)
           c.in_ok-push_occurring_under.ensures.bindings c.in_ok-occurring.ensures.covers))
       | else-are_made w ↦
