@@ -2,7 +2,9 @@
 pub mod BindingLemmas
 pub mod ConclusionLemmas
 pub mod InferenceLists
+pub mod KeptLemmas
 pub mod MadeLemmas
+pub mod OutsizeLemmas
 pub mod PremiseLemmas
 pub mod RenumberedLemmas
 pub mod SideLemmas

@@ -4,3 +4,4 @@ pub mod FactorRefused
 pub mod FactorStepLemmas
 pub mod FactoringLemmas
 pub mod FactoringLists
+pub mod SizedLemmas

@@ -1,6 +1,6 @@
 -- Inferences of clauses by their names, each with what becomes of it: which are made, which are set aside for their size, and lists of
 -- exactly those of some names (Bachmair and Ganzinger 1994).
-use Rattle.std.specs.Prelude.{◌≡◌, ◌⊎◌, ℕ, Bool, true, false, ◌==◌, List, [], ◌++◌, All, Contains, slice_get, Option, None, Some, IsTrue, if◌then◌else◌}
+use Rattle.std.specs.Prelude.{◌≡◌, ◌⊎◌, ℕ, Bool, true, false, ◌==◌, nat_le, List, [], ◌++◌, length, All, Contains, slice_get, Option, None, Some, IsTrue, if◌then◌else◌}
 use Rattle.fol_base.specs.Tree.{Tree, trees_of, trees_variables}
 use Rattle.fol_base.specs.Clause.{TreeClause, clause_variables}
 use Rattle.fol_base.specs.Kind.{is_function_term}
@@ -74,6 +74,18 @@ pub record AreInferences
   pub once :
       (m n : ℕ) (d e : Inference) → slice_get found m ≡ Some d → slice_get found n ≡ Some e → d.key ≡ e.key → m ≡ n
 
+-- Inferences whose names pass a test, each once, and perhaps not all of them.
+pub record AreSomeInferences
+    (is_predicate : ℕ → Bool) (mode : SelectionMode) (clauses : ℕ → Option TreeClause) (passes : Key → Bool) (found : List Inference) : Type 0 where
+  pub made : All (λ (e : Inference). IsTrue (passes e.key) × IsMade is_predicate mode clauses e.key e.result) found
+  pub once :
+      (m n : ℕ) (d e : Inference) → slice_get found m ≡ Some d → slice_get found n ≡ Some e → d.key ≡ e.key → m ≡ n
+
+-- a count is enough, where a number is asked for
+abbrev pub is_enough : Option ℕ → ℕ → Bool
+is_enough None count = false
+is_enough (Some most) count = nat_le most count
+
 -- the clause of a member, by its number
 abbrev pub alone : Member → ℕ → Option TreeClause
 alone m n = if n == m.number then Some (clause_at m.clause) else None
@@ -83,6 +95,16 @@ abbrev pub AreInferencesOf : SelectionMode → Member → (Key → Bool) → Lis
 AreInferencesOf mode m passes found =
     (usage : SymbolUse) → IsTrue (are_literals_of usage (clause_at m.clause).literals)
     → AreInferences usage.is_predicate mode (alone m) passes found
+
+abbrev pub AreSomeInferencesOf : SelectionMode → Member → (Key → Bool) → List Inference → Type 0
+AreSomeInferencesOf mode m passes found =
+    (usage : SymbolUse) → IsTrue (are_literals_of usage (clause_at m.clause).literals)
+    → AreSomeInferences usage.is_predicate mode (alone m) passes found
+
+-- all of them, or some that are enough
+abbrev pub AreInferencesUpTo : Option ℕ → SelectionMode → Member → (Key → Bool) → List Inference → Type 0
+AreInferencesUpTo most mode m passes found =
+    AreInferencesOf mode m passes found ⊎ (IsTrue (is_enough most (length found)) × AreSomeInferencesOf mode m passes found)
 
 abbrev pub is_resolution : Key → Bool
 is_resolution (Refl clause literal) = true

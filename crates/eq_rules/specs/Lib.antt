@@ -3,6 +3,7 @@ pub mod Inferences
 pub mod Concluding
 pub mod Unified
 pub mod Steps
+pub mod Outsizing
 pub mod Trying
 pub mod Factoring
 pub mod Examples

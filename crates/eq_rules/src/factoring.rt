@@ -1,20 +1,33 @@
 // Equality factoring: of two positive literals with sides that unify, the first becomes the disequation of their other sides.
 
-ghost use Rattle.std.specs.Prelude.{◌≡◌, ◌+◌, ◌*◌, ◌<◌, None, length, IfOk};
+ghost use Rattle.std.specs.Prelude.{◌≡◌, ◌+◌, ◌*◌, ◌<◌, None, true, length, IfOk, IfSome};
 ghost use Rattle.fol_base.specs.Clause.{literal_instance, literal_size};
 ghost use Rattle.fol_base.specs.Lent.{lent_of};
 ghost use Rattle.fol_base.specs.Selection.{SelectionMode, chosen};
+ghost use Rattle.fol_base.specs.declared.clause.Side.TheVariants.{Left};
 ghost use Rattle.kernel_steps.specs.Inference.{other_side_not_above};
 ghost use Rattle.literal_selection.specs.Mode.{mode_of};
 ghost use Rattle.bank_clause.specs.Clause.{clause_at, IsMemberOf};
-ghost use Rattle.eq_rules.specs.Inferences.{AreInferencesOf, is_factoring};
+ghost use Rattle.unifier.specs.SolvedForm.{substitution_of};
+ghost use Rattle.eq_rules.specs.Inferences.{AreInferencesOf, AreInferencesUpTo, is_factoring};
 ghost use Rattle.eq_rules.specs.Trying.{IsTriedOf};
-ghost use Rattle.eq_rules.specs.Factoring.{AreFactoringsBefore, FactorsBy, are_alike, factor_key, may_become, number_of};
+ghost use Rattle.eq_rules.specs.Factoring.{
+  AreFactoringsBefore,
+  FactorsBy,
+  HasFactoredSide,
+  IsLargest,
+  allows,
+  are_alike,
+  factor_key,
+  may_become,
+  number_of,
+};
 
 use crate::concluding::{FactorPlace, LiteralSide, conclude_factoring};
-use crate::inference::{Inference, Inferences, Made};
+use crate::inference::{Inference, Inferences, Made, is_enough};
+use crate::outsizing::{is_greater_by_size, is_larger_side, outsizes_others};
 use crate::resolving::choice_of;
-use bank_clause::Member;
+use bank_clause::{BankLiterals, Member};
 use fol_base::{
     LendsLiterals, LendsTerms, LiteralRef, MOST_SYMBOLS, SIZE_LIMIT, Side, instance_size,
     same_instance,
@@ -33,30 +46,49 @@ pub fn factorings(alloc: Global, bank: &Bank, given: &Member, mode: Selection) -
     requires { IsMemberOf bank.now given.now }
     ensures { IfOk result (AreInferencesOf (mode_of mode) given.now is_factoring) }
 {
+    factorings_up_to(alloc, bank, given, mode, None)
+}
+
+/// As `factorings`, in the same order, but it stops once as many are there as are enough. So a clause of hundreds of literals, which has
+/// as many factorings as it has pairs of them, doesn't take memory for more than are asked for.
+pub fn factorings_up_to(
+    alloc: Global,
+    bank: &Bank,
+    given: &Member,
+    mode: Selection,
+    most: Option<usize>,
+) -> Mem<Inferences>
+    requires { IsMemberOf bank.now given.now }
+    ensures { IfOk result (AreInferencesUpTo most (mode_of mode) given.now is_factoring) }
+{
     let mut found = Vec::new(alloc);
     if choice_of(bank, given, mode).is_some() {
         return Ok(Inferences::from_vec(found));
     }
     let sides = 2 * given.clause.literals().len();
     for number in 0..sides {
-        factor_side(alloc, bank, given, number, &mut found)?;
+        factor_side(alloc, bank, given, number, most, &mut found)?;
+        if is_enough(most, found.len()) {
+            return Ok(Inferences::from_vec(found));
+        }
     }
     Ok(Inferences::from_vec(found))
 }
 
-/// Adds the factorings by one side of a literal, which becomes a disequation: by its number, as the sides are counted.
+/// Adds the factorings by one side of a literal, which becomes a disequation, until there are enough: by its number, as the sides are counted.
 fn factor_side(
     alloc: Global,
     bank: &Bank,
     given: &Member,
     number: usize,
+    most: Option<usize>,
     found: &mut Vec<Inference>,
 ) -> Mem<()>
     requires member { IsMemberOf bank.now given.now }
     requires inside { number < 2 * length (clause_at given.now.clause).literals }
     ensures { IfOk result (λ _. (mode : SelectionMode) → chosen mode (clause_at given.now.clause).literals ≡ None
         → AreFactoringsBefore mode given.now number 0 found.old.items
-        → AreFactoringsBefore mode given.now (number + 1) 0 found.new.items) }
+        → HasFactoredSide most mode given.now number found.new.items) }
 {
     let becomes = side_at(number);
     if !may_become(bank, given, becomes) {
@@ -69,6 +101,9 @@ fn factor_side(
             other: side_at(other),
         };
         factor_place(alloc, bank, given, place, found)?;
+        if is_enough(most, found.len()) {
+            return Ok(());
+        }
     }
     Ok(())
 }
@@ -183,7 +218,62 @@ fn are_alike(
         && first.other_side(first_side).is_truth() == second.other_side(second_side).is_truth()
 }
 
-/// The result of the factoring by two sides and a unifier of them.
+/// Whether the order allows the factoring by two sides under a unifier of them, as far as sizes tell it. The unified sides cancel out, so of the two
+/// literals the greater other side decides.
+fn allowed_by_sizes(
+    bank: &Bank,
+    given: &Member,
+    place: FactorPlace,
+    unifier: &Bindings,
+) -> Mem<Option<bool>>
+    requires member { IsMemberOf bank.now given.now }
+    requires unified { FactorsBy unifier.now (clause_at given.now.clause) place }
+    ensures { IfOk result (λ told. IfSome told
+        (λ allowed. allows (substitution_of unifier.now Left) (clause_at given.now.clause).literals place ≡ allowed)) }
+{
+    let literals = given.clause.lend(bank);
+    let becomes = literals.literal(place.becomes.literal);
+    let other = literals.literal(place.other.literal);
+    let is_few = u64::from(given.clause.variable_bound()) < SIZE_LIMIT;
+    prove!(is_few);
+    let coming = other.other_side(place.other.side);
+    let staying = becomes.other_side(place.becomes.side);
+    match is_greater_by_size(unifier, Side::Left, coming, staying)? {
+        None => Ok(None),
+        Some(true) => Ok(Some(false)),
+        Some(false) => {
+            let largest = is_surely_largest(unifier, &literals, place)?;
+            if largest { Ok(Some(true)) } else { Ok(None) }
+        }
+    }
+}
+
+/// Whether the side by which a literal becomes a disequation has more symbols under a unifier than its other side, and its literal's larger side more
+/// than those of all literals but the two.
+fn is_surely_largest(
+    unifier: &Bindings,
+    literals: &BankLiterals<'_>,
+    place: FactorPlace,
+) -> Mem<bool>
+    requires { place.becomes.literal < length literals.now }
+    ensures { IfOk result (λ largest. largest ≡ true → IsLargest (substitution_of unifier.now Left) literals.now place) }
+{
+    let becomes = literals.literal(place.becomes.literal);
+    let larger = is_larger_side(unifier, Side::Left, becomes, place.becomes.side)?;
+    if larger {
+        outsizes_others(
+            unifier,
+            Side::Left,
+            literals,
+            place.becomes.literal,
+            place.other.literal,
+        )
+    } else {
+        Ok(false)
+    }
+}
+
+/// The result of the factoring by two sides and a unifier of them. Where sizes tell what the order says, an instance that is too large isn't built.
 fn factoring_by(
     alloc: Global,
     bank: &Bank,
@@ -198,6 +288,14 @@ fn factoring_by(
 {
     let clause = &given.clause;
     let size = unifier.instance_size(bank, Side::Left, clause.literals())?;
+    let is_overweight = size > MOST_SYMBOLS;
+    if is_overweight {
+        match allowed_by_sizes(bank, given, place, unifier)? {
+            Some(true) => return Ok(Some(Made::Heavy)),
+            Some(false) => return Ok(None),
+            None => {}
+        }
+    }
     if size >= SIZE_LIMIT {
         return Err(NoMemory);
     }

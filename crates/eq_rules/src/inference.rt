@@ -1,5 +1,8 @@
 // Inferences by name, with what becomes of each.
 
+ghost use Rattle.std.specs.Prelude.{◌≡◌};
+ghost use Rattle.eq_rules.specs.Inferences.{is_enough};
+
 use fol_base::Clause;
 use kernel_steps::{Key, Step};
 use plain_types::Sequence;
@@ -22,3 +25,13 @@ pub struct Inference {
 
 /// Inferences, in order.
 pub type Inferences = Sequence<Inference>;
+
+/// Whether a count is enough, where a number is asked for. Where none is, no count is.
+pub fn is_enough(most: Option<usize>, count: usize) -> bool
+    ensures { result ≡ is_enough most count }
+{
+    match most {
+        None => false,
+        Some(most) => most <= count,
+    }
+}

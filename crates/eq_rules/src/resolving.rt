@@ -1,17 +1,21 @@
 // Equality resolution: a negative literal whose sides unify is dropped.
 
 ghost use Rattle.std.specs.Prelude.{◌≡◌, ◌<◌, true, false, length, IfOk};
-ghost use Rattle.fol_base.specs.Selection.{SelectionMode, chosen};
+ghost use Rattle.fol_base.specs.Ground.{literals_instance};
+ghost use Rattle.fol_base.specs.Selection.{SelectionMode, chosen, eligible};
+ghost use Rattle.fol_base.specs.declared.clause.Side.TheVariants.{Left};
 ghost use Rattle.kernel_steps.specs.declared.key.Key.TheVariants.{Refl};
 ghost use Rattle.literal_selection.specs.Mode.{mode_of};
 ghost use Rattle.bank_clause.specs.Clause.{clause_at, IsMemberOf};
-ghost use Rattle.eq_rules.specs.Inferences.{AreInferencesOf, is_resolution};
+ghost use Rattle.unifier.specs.SolvedForm.{substitution_of};
+ghost use Rattle.eq_rules.specs.Inferences.{AreInferencesOf, AreInferencesUpTo, is_resolution};
 ghost use Rattle.eq_rules.specs.Concluding.{other_chosen};
 ghost use Rattle.eq_rules.specs.Trying.{IsTriedOf};
 ghost use Rattle.eq_rules.specs.Unified.{ResolvesBy};
 
 use crate::concluding::conclude_resolution;
-use crate::inference::{Inference, Inferences, Made};
+use crate::inference::{Inference, Inferences, Made, is_enough};
+use crate::outsizing::outsizes_others;
 use bank_clause::Member;
 use fol_base::{LendsLiterals, MOST_SYMBOLS, SIZE_LIMIT, Side};
 use kbo_order::COMPARED_SIZE_LIMIT;
@@ -28,10 +32,27 @@ pub fn resolutions(alloc: Global, bank: &Bank, given: &Member, mode: Selection) 
     requires { IsMemberOf bank.now given.now }
     ensures { IfOk result (AreInferencesOf (mode_of mode) given.now is_resolution) }
 {
+    resolutions_up_to(alloc, bank, given, mode, None)
+}
+
+/// As `resolutions`, in the same order, but it stops once as many are there as are enough.
+pub fn resolutions_up_to(
+    alloc: Global,
+    bank: &Bank,
+    given: &Member,
+    mode: Selection,
+    most: Option<usize>,
+) -> Mem<Inferences>
+    requires { IsMemberOf bank.now given.now }
+    ensures { IfOk result (AreInferencesUpTo most (mode_of mode) given.now is_resolution) }
+{
     let choice = choice_of(bank, given, mode);
     let count = given.clause.literals().len();
     let mut found = Vec::new(alloc);
     for index in 0..count {
+        if is_enough(most, found.len()) {
+            return Ok(Inferences::from_vec(found));
+        }
         if let Some(result) = resolution(alloc, bank, given, choice, index)? {
             let key = Key::Refl {
                 clause: given.number,
@@ -80,6 +101,26 @@ fn resolution(
     }
 }
 
+/// Whether a literal is the chosen one, or sizes tell that it is eligible under a unifier.
+fn is_eligible_by_size(
+    bank: &Bank,
+    given: &Member,
+    choice: Option<usize>,
+    index: usize,
+    unifier: &Bindings,
+) -> Mem<bool>
+    requires member { IsMemberOf bank.now given.now }
+    requires inside { index < length (clause_at given.now.clause).literals }
+    requires not_other { other_chosen choice index ≡ false }
+    ensures { IfOk result (λ sure. sure ≡ true
+        → eligible (literals_instance (substitution_of unifier.now Left) (clause_at given.now.clause).literals) index choice false ≡ true) }
+{
+    if choice.is_some() {
+        return Ok(true);
+    }
+    outsizes_others(unifier, Side::Left, &given.clause.lend(bank), index, index)
+}
+
 /// Whether another literal is chosen.
 fn is_other_chosen(choice: Option<usize>, index: usize) -> bool
     ensures { result ≡ other_chosen choice index }
@@ -90,8 +131,8 @@ fn is_other_chosen(choice: Option<usize>, index: usize) -> bool
     }
 }
 
-/// The result of the resolution of a literal by a unifier of its sides. Where the literal is chosen, nothing is compared, so an
-/// instance that is too large isn't built.
+/// The result of the resolution of a literal by a unifier of its sides. Where the literal is chosen, or sizes tell that no other one is
+/// greater, an instance that is too large isn't built.
 fn resolution_by(
     alloc: Global,
     bank: &Bank,
@@ -108,8 +149,11 @@ fn resolution_by(
 {
     let clause = &given.clause;
     let size = unifier.instance_size(bank, Side::Left, clause.literals())?;
-    if choice.is_some() && size > MOST_SYMBOLS {
-        return Ok(Some(Made::Heavy));
+    if size > MOST_SYMBOLS {
+        let sure = is_eligible_by_size(bank, given, choice, index, unifier)?;
+        if sure {
+            return Ok(Some(Made::Heavy));
+        }
     }
     if size >= SIZE_LIMIT {
         return Err(NoMemory);

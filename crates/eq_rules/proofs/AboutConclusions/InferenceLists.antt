@@ -8,7 +8,7 @@ use Rattle.fol_base.specs.Clause.{TreeClause}
 use Rattle.fol_base.specs.Selection.{SelectionMode}
 use Rattle.kernel_steps.specs.Named.{IsInference}
 use Rattle.kernel_steps.specs.declared.key.Key.{Key}
-use Rattle.eq_rules.specs.Inferences.{IsMade, AreInferences}
+use Rattle.eq_rules.specs.Inferences.{IsMade, AreInferences, AreSomeInferences}
 use Rattle.eq_rules.specs.declared.inference.Inference.{Inference}
 use Rattle.list_lemmas.proofs.Places.{get-pushed}
 
@@ -37,6 +37,11 @@ module _ (p : ℕ → Bool) (mode : SelectionMode) (clauses : ℕ → Option Tre
     complete = λ k c passes it. are.complete k c (back k c passes it) it;
     once = are.once;
   }
+
+  -- all of a narrower test are some of a wider one
+  pub inferences-some :
+      (xs : List Inference) → AreInferences p mode clauses P xs → ((k : Key) → P k ≡ true → Q k ≡ true) → AreSomeInferences p mode clauses Q xs
+  inferences-some xs are wider = record { made = widened wider xs are.made; once = are.once }
 
   -- one more
   pub inferences-push :

@@ -1,22 +1,19 @@
 -- From the calls of factoring to the lemmas.
 use Rattle.std.proofs.Common.{◌≡◌, ℕ, ◌+◌, ◌-◌, ◌^◌, ◌<◌, ◌≤◌, min, false, Option, None, Some, List, refl, ap, ap₂, sym, ◌∙◌, arith}
-use Rattle.std.specs.Prelude.{sum_by, slice_get}
+use Rattle.std.specs.Prelude.{slice_get}
 use Rattle.std.specs.Option.{is_some}
 use Rattle.std.proofs.lemmas.Bool.{true≢false}
-use Rattle.std.proofs.lemmas.List.Sums.{sum_by-remove}
-use Rattle.std.proofs.lemmas.Option.{same_Some, slice_get_within, get_or_from_slice_get}
+use Rattle.std.proofs.lemmas.Option.{same_Some}
 use Rattle.plain_types.specs.Capped.{capped}
 use Rattle.fol_base.specs.Tree.{variable, tree_size}
 use Rattle.fol_base.specs.Instance.{Substitution, instance}
 use Rattle.fol_base.specs.Clause.{TreeLiteral, literal_size, literal_instance}
-use Rattle.fol_base.specs.Ground.{literals_instance}
 use Rattle.fol_base.specs.Sides.{side_of, other_side_of}
 use Rattle.fol_base.specs.declared.clause.Side.{Side}
 use Rattle.fol_base.specs.declared.limits.TheConstants.{MOST_SYMBOLS, SIZE_LIMIT}
-use Rattle.fol_base.proofs.AboutClauses.InferenceLemmas.{literal_in_instance, side_of-instance, other_side_of-instance}
+use Rattle.fol_base.proofs.AboutClauses.InferenceLemmas.{side_of-instance, other_side_of-instance}
 use Rattle.eq_rules.proofs.AboutConclusions.SideLemmas.{sides-size}
 use Rattle.eq_rules.proofs.AboutConclusions.WideLemmas.{itself}
-use Rattle.kbo_order.proofs.AboutMultisets.ClauseLoops.{item-size}
 
 -- the literal that is lent is the one that is there
 pub lent_there :

@@ -12,14 +12,14 @@ use Rattle.kernel_steps.specs.declared.key.Key.{Key}
 use Rattle.kernel_steps.specs.declared.key.Key.TheVariants.{Para, Refl, Factor, Replaced}
 use Rattle.bank_clause.specs.Clause.{clause_at, side_number}
 use Rattle.bank_clause.specs.declared.member.Member.{Member}
-use Rattle.eq_rules.specs.Inferences.{AreInferences, IsMade, alone, is_factoring}
+use Rattle.eq_rules.specs.Inferences.{AreInferences, AreSomeInferences, IsMade, alone, is_factoring}
 use Rattle.eq_rules.specs.Factoring.{number_of, factor_key, factors_before}
 use Rattle.eq_rules.specs.Trying.{IsTried}
 use Rattle.eq_rules.specs.declared.concluding.FactorPlace.{FactorPlace}
 use Rattle.eq_rules.specs.declared.concluding.LiteralSide.{LiteralSide}
 use Rattle.eq_rules.specs.declared.inference.Made.{Made}
 use Rattle.eq_rules.specs.declared.inference.Inference.{Inference}
-use Rattle.eq_rules.proofs.AboutConclusions.InferenceLists.{inferences-same, inferences-push}
+use Rattle.eq_rules.proofs.AboutConclusions.InferenceLists.{inferences-same, inferences-some, inferences-push}
 use Rattle.eq_rules.proofs.AboutConclusions.MadeLemmas.{alone_there, alone_number}
 use Rattle.eq_rules.proofs.AboutResolution.ResolutionLists.{inferences-none}
 
@@ -204,6 +204,17 @@ module _ (p : ℕ → Bool) (mode : SelectionMode) (m : Member) where
           let low = side-below i (length (clause_at m.clause).literals) s (inside i j s z c here).0 in
           before-first a 0 (side_number i s) (side_number j z) (omega (arith, low, many))
       back (Replaced q) c h it = h
+
+  -- those before a place are some of all
+  pub factorings-some :
+      (a b : ℕ) (found : List Inference) → AreInferences p mode (alone m) (factors_before a b) found → AreSomeInferences p mode (alone m) is_factoring found
+  factorings-some a b found are = inferences-some p mode (alone m) (factors_before a b) is_factoring found are all
+    where
+      all : (k : Key) → factors_before a b k ≡ true → is_factoring k ≡ true
+      all (Para first i s second j z place) h = h
+      all (Refl q i) h = h
+      all (Factor q i s j z) h = refl
+      all (Replaced q) h = h
 
   -- a pair without an inference
   pub factorings-none :

@@ -10,11 +10,11 @@ use Rattle.kernel_steps.specs.declared.key.Key.{Key}
 use Rattle.kernel_steps.specs.declared.key.Key.TheVariants.{Para, Refl, Factor, Replaced}
 use Rattle.bank_clause.specs.Clause.{clause_at}
 use Rattle.bank_clause.specs.declared.member.Member.{Member}
-use Rattle.eq_rules.specs.Inferences.{AreInferences, IsMade, alone, is_resolution}
+use Rattle.eq_rules.specs.Inferences.{AreInferences, AreSomeInferences, IsMade, alone, is_resolution}
 use Rattle.eq_rules.specs.Trying.{IsTried}
 use Rattle.eq_rules.specs.declared.inference.Made.{Made}
 use Rattle.eq_rules.specs.declared.inference.Inference.{Inference}
-use Rattle.eq_rules.proofs.AboutConclusions.InferenceLists.{inferences-same, inferences-push}
+use Rattle.eq_rules.proofs.AboutConclusions.InferenceLists.{inferences-same, inferences-some, inferences-push}
 use Rattle.eq_rules.proofs.AboutConclusions.MadeLemmas.{alone_there, alone_number}
 
 -- nothing has a name that none passes
@@ -106,3 +106,14 @@ module _ (p : ℕ → Bool) (mode : SelectionMode) (m : Member) where
           lt-ltb i n (omega (arith, many, slice_get_within (clause_at m.clause).literals i it.infers.literal at))
       back (Factor q i s j z) c h it = h
       back (Replaced q) c h it = h
+
+  -- those of the first literals are some of all
+  pub resolutions-some :
+      (n : ℕ) (found : List Inference) → AreInferences p mode (alone m) (resolves_below n) found → AreSomeInferences p mode (alone m) is_resolution found
+  resolutions-some n found are = inferences-some p mode (alone m) (resolves_below n) is_resolution found are all
+    where
+      all : (k : Key) → resolves_below n k ≡ true → is_resolution k ≡ true
+      all (Para first i s second j z place) h = h
+      all (Refl q i) h = refl
+      all (Factor q i s j z) h = h
+      all (Replaced q) h = h

@@ -12,7 +12,7 @@ unreachable-requires c =
     resolution-applies (clause_at c.args.given.now.clause) c.lend-literals.result c.lend-literals.ensures c.args.index c.count.result
     c.requires.inside c.count.ensures c.args.terms.now c.in_ok-bind.bind c.requires.covers
     c.new-numbers.result c.number_literals.new.numbers c.number_literals-2.new.numbers c.renamed_terms.new.numbers c.new-numbers.ensures
-    c.in_ok-number_literals.ensures c.in_ok-number_literals-2.ensures c.in_ok-bind.ensures.met c.in_ok-bind.ensures.form c.requires.applies
+    c.in_ok-number_literals.ensures.met c.in_ok-number_literals-2.ensures.met c.in_ok-bind.ensures.met c.in_ok-bind.ensures.form c.requires.applies
     (sym (ap (option_map (map literal_of)) c.in-None.is) ∙ c.in_ok-refl.ensures)
 
 pub returns : goal.returns
@@ -23,7 +23,7 @@ returns c =
       resolution-numbered (clause_at c.args.given.now.clause) c.lend-literals.result c.lend-literals.ensures c.args.index c.count.result
           c.requires.inside c.count.ensures c.args.terms.now c.in_ok-bind.bind c.requires.covers
           c.new-numbers.result c.number_literals.new.numbers c.number_literals-2.new.numbers c.renamed_terms.new.numbers c.new-numbers.ensures
-          c.in_ok-number_literals.ensures c.in_ok-number_literals-2.ensures c.in_ok-bind.ensures.met c.in_ok-bind.ensures.form c.requires.applies
+          c.in_ok-number_literals.ensures.met c.in_ok-number_literals-2.ensures.met c.in_ok-bind.ensures.met c.in_ok-bind.ensures.form c.requires.applies
           d
           (sym (ap (option_map (map literal_of)) c.in-Some.is) ∙ c.in_ok-refl.ensures)
           c.in_ok-names_of-in-Some.ensures,

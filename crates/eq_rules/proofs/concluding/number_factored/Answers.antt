@@ -25,8 +25,8 @@ returns g c =
     (λ _. order ≡ with_variables c.args.numbers.now (flat_map literal_variables (factored_plain ls σ place)))
     (λ _ last.
     factored_met σ ls place (lent_of c.literal.result) (lent_of c.literal-2.result) c.count-count.result c.args.numbers.now first second third order
-    c.literal.ensures c.literal-2.ensures c.count-count.ensures c.in_ok-number_literals.ensures
-    (c.in_ok-number_instance.ensures ∙ ap (λ x. with_variables first (tree_variables (instance σ x))) c.other_side-first.ensures)
-    (c.in_ok-number_instance-2.ensures ∙ ap (λ x. with_variables second (tree_variables (instance σ x))) c.other_side-second.ensures)
+    c.literal.ensures c.literal-2.ensures c.count-count.ensures c.in_ok-number_literals.ensures.met
+    (c.in_ok-number_instance.ensures.met ∙ ap (λ x. with_variables first (tree_variables (instance σ x))) c.other_side-first.ensures)
+    (c.in_ok-number_instance-2.ensures.met ∙ ap (λ x. with_variables second (tree_variables (instance σ x))) c.other_side-second.ensures)
     last)
-    c.number_literals-2.ensures
+    c.number_literals-2.ensures.met

@@ -1,12 +1,13 @@
-use Rattle.std.proofs.Common.{◌≡◌, ◌≤◌, ◌-◌, ◌^◌, min, false, None, List, [], length, inl, inr, arith, ap, sym, ◌∙◌}
-use Rattle.std.specs.Prelude.{sum_by}
+use Rattle.std.proofs.Common.{◌≡◌, ◌≤◌, ◌-◌, ◌^◌, ◌&&◌, min, true, false, None, List, [], length, refl, inl, inr, ⊎_elim, arith, ap, sym, ◌∙◌, subst}
+use Rattle.std.specs.Prelude.{sum_by, slice_get, IfSome}
+use Rattle.std.proofs.lemmas.Bool.{and_parts, cases_Bool}
 use Rattle.std.proofs.lemmas.Option.{slice_get_within}
 use Rattle.plain_types.specs.Capped.{capped}
 use Rattle.fol_base.specs.Tree.{tree_size}
 use Rattle.fol_base.specs.Instance.{instance, substitution}
 use Rattle.fol_base.specs.Clause.{TreeLiteral, clause_size, clause_instance, clause_variables, literal_size, literal_instance}
 use Rattle.fol_base.specs.Ground.{literals_instance}
-use Rattle.fol_base.specs.Canonical.{bound_of}
+use Rattle.fol_base.specs.Canonical.{bound_of, terms_from}
 use Rattle.fol_base.specs.Lent.{lent_of}
 use Rattle.fol_base.specs.Selection.{eligible, select_nothing}
 use Rattle.fol_base.specs.Sides.{side_of, other_side_of}
@@ -22,7 +23,9 @@ use Rattle.eq_rules.proofs.AboutFactoring.FactorAnswers.{lent_there, sides_size,
 use Rattle.eq_rules.proofs.AboutFactoring.FactoringLemmas.{factor_terms, factoring_not_eligible, factoring_not_ordered, factoring_applies, plain_size, factoring_heavy, factoring_concluded}
 use Rattle.eq_rules.proofs.AboutConclusions.SideLemmas.{alike-kinds}
 use Rattle.eq_rules.proofs.AboutConclusions.MadeLemmas.{size_above, size_within, alone_there, made_by_factoring}
-use Rattle.eq_rules.proofs.AboutConclusions.PremiseLemmas.{own_terms, literal-kind}
+use Rattle.eq_rules.proofs.AboutConclusions.PremiseLemmas.{own_terms, literal-below, literal-kind}
+use Rattle.eq_rules.proofs.AboutConclusions.OutsizeLemmas.{own-literals, own-not-above}
+use Rattle.eq_rules.specs.Factoring.{allows, literal_allows}
 use Rattle.eq_rules.proofs.factoring.factoring_by.Goals as goal
 use Rattle.unifier.specs.SolvedForm.{substitution_of}
 use Rattle.kbo_order.proofs.AboutMultisets.ClauseLoops.{mapped-size}
@@ -32,6 +35,57 @@ terms-requires-clause-fits c =
     let few : bound_of (clause_variables (clause_at c.args.given.now.clause)) ≤ SIZE_LIMIT =
     omega (arith, c.variable_bound.ensures.variables, c.variable_bound.ensures.limit) in
     fits-above c.args.unifier.now (bound_of (clause_variables (clause_at c.args.given.now.clause))) 0 SIZE_LIMIT SIZE_LIMIT few (omega arith) c.requires.unified.counted
+
+pub returns-in-Some-true : goal.returns-in-Some-true
+returns-in-Some-true c mode none usage used =
+    let m = c.args.given.now in
+    let d = clause_at m.clause in
+    let place = c.args.place in
+    let b = c.args.unifier.now in
+    let r = c.requires.unified in
+    let n = bound_of (clause_variables d) in
+    let σ = substitution_of b Left in
+    let terms = terms_from 0 n σ in
+    let h : AreNamedTerms b n 0 terms [] = own_terms b n n terms refl refl in
+    let size : c.in_ok-size.size ≡ capped (clause_size (clause_instance σ d)) =
+    c.in_ok-size.ensures ∙ ap (λ ls. capped (sum_by literal_size (literals_instance σ (literals_at ls)))) c.literals.ensures.literals in
+    let kinds =
+    alike-kinds usage.is_predicate r.literal_i place.becomes.side r.literal_j place.other.side
+    (literal-kind usage d place.becomes.literal r.literal_i used r.i_there) (literal-kind usage d place.other.literal r.literal_j used r.j_there) r.alike in
+    let allowed : allows σ d.literals place ≡ true =
+    subst (λ o. IfSome o (λ told. allows σ d.literals place ≡ told)) c.in-Some-true.is c.in_ok-allowed_by_sizes.ensures ∙ c.in-Some-true.field-0-test in
+    let parts = and_parts (literal_allows σ place.becomes.side (slice_get d.literals place.becomes.literal)) _ allowed in
+    let ordered =
+    own-not-above n σ place.becomes.side r.literal_i (literal-below d place.becomes.literal r.literal_i r.i_there)
+    ∙ ap (literal_allows σ place.becomes.side) (sym r.i_there) ∙ parts.0 in
+    let is_eligible = ap (λ ls. eligible ls place.becomes.literal None false) (own-literals d σ) ∙ parts.1 in
+    factoring_heavy usage.is_predicate mode (alone m) m.number d place (alone_there m) b r terms [] h none kinds ordered is_eligible
+    (inl (size_above c.in_ok-size.size (clause_size (clause_instance σ d)) MOST_SYMBOLS size c.if-is_overweight.true))
+
+pub returns-in-Some-false : goal.returns-in-Some-false
+returns-in-Some-false c mode none usage used e it =
+    let m = c.args.given.now in
+    let d = clause_at m.clause in
+    let place = c.args.place in
+    let b = c.args.unifier.now in
+    let r = c.requires.unified in
+    let n = bound_of (clause_variables d) in
+    let σ = substitution_of b Left in
+    let terms = terms_from 0 n σ in
+    let h : AreNamedTerms b n 0 terms [] = own_terms b n n terms refl refl in
+    let refused : allows σ d.literals place ≡ false =
+    subst (λ o. IfSome o (λ told. allows σ d.literals place ≡ told)) c.in-Some-false.is c.in_ok-allowed_by_sizes.ensures ∙ c.in-Some-false.field-0-test in
+    let here : literal_allows σ place.becomes.side (slice_get d.literals place.becomes.literal) ≡ other_side_not_above σ place.becomes.side r.literal_i =
+    ap (literal_allows σ place.becomes.side) r.i_there in
+    let ordered = own-not-above n σ place.becomes.side r.literal_i (literal-below d place.becomes.literal r.literal_i r.i_there) in
+    let is_eligible = ap (λ ls. eligible ls place.becomes.literal None false) (own-literals d σ) in
+    ⊎_elim
+    (λ yes_.
+    factoring_not_eligible usage.is_predicate mode (alone m) m.number d place (alone_there m) b r terms [] h none
+    (is_eligible ∙ ap (λ x. x && eligible (literals_instance σ d.literals) place.becomes.literal None false) (sym (here ∙ yes_)) ∙ refused) e it)
+    (λ no_.
+    factoring_not_ordered usage.is_predicate mode (alone m) m.number d place (alone_there m) b r terms [] h (ordered ∙ no_) e it)
+    (cases_Bool (other_side_not_above σ place.becomes.side r.literal_i))
 
 pub is_not_below-requires : goal.is_not_below-requires
 is_not_below-requires c =

@@ -1,7 +1,7 @@
-use Rattle.std.proofs.Common.{◌∷◌, [], map, arith, ap, sym, ◌∙◌}
+use Rattle.std.proofs.Common.{◌∷◌, [], map, take, arith, ap, sym, subst, ◌∙◌}
 use Rattle.std.specs.Prelude.{flat_map}
 use Rattle.std.proofs.lemmas.List.{map-append, take_all}
-use Rattle.fol_base.specs.Tree.{application, trees_of, trees_variables}
+use Rattle.fol_base.specs.Tree.{application, tree_variables, trees_of, trees_variables}
 use Rattle.fol_base.specs.Instance.{instance}
 use Rattle.fol_base.specs.Canonical.{renaming}
 use Rattle.fol_base.specs.Numbering.{with_variables}
@@ -9,6 +9,9 @@ use Rattle.fol_base.specs.Term.{tree_of}
 use Rattle.fol_base.proofs.AboutTerms.TermLemmas.{tree_size-item}
 use Rattle.fol_base.proofs.AboutTerms.TreeLemmas.{instances-trees_of}
 use Rattle.fol_base.proofs.AboutCanonical.WalkLemmas.{term_parts, term_instance, terms_variables, terms_instances, term-agree, met_more, made_more}
+use Rattle.list_lemmas.proofs.Results.{on-err}
+use Rattle.eq_rules.specs.Renumbered.{KeepsNumbers}
+use Rattle.eq_rules.proofs.AboutConclusions.KeptLemmas.{keeps-after, keeps-met}
 use Rattle.eq_rules.proofs.renaming.+renamed.Goals as goal
 
 pub renamed_term-returns-in_ok-renamed_terms-in-App-clause-form :
@@ -55,3 +58,16 @@ renamed_terms-returns-clause-form t c =
     ∙ ap (map (term_instance (renaming c.loop-term.numbers))) (take_all c.loop-term.term-index read (omega arith))
     ∙ terms_instances (renaming c.loop-term.numbers) read
     ∙ ap (map (instance (renaming c.loop-term.numbers))) c.as_slice-term-items.ensures
+
+pub renamed_terms-returns-in_err-renamed_term-clause-kept : goal.renamed_terms-returns-in_err-renamed_term-clause-kept
+renamed_terms-returns-in_err-renamed_term-clause-kept t c =
+    on-err c.from_residual-in_err-renamed_term.result
+    (keeps-after c.args.numbers.now (flat_map term_parts (take c.loop-term.term-index c.as_slice-term-items.result.now)) c.loop-term.numbers
+    c.renamed_term.new.numbers c.loop-term.invariant.met c.in_err-renamed_term.ensures.kept)
+
+pub renamed_terms-returns-in_err-push-clause-kept : goal.renamed_terms-returns-in_err-push-clause-kept
+renamed_terms-returns-in_err-push-clause-kept t c =
+    on-err c.from_residual-in_err-push.result
+    (keeps-after c.args.numbers.now (flat_map term_parts (take c.loop-term.term-index c.as_slice-term-items.result.now)) c.loop-term.numbers
+    c.renamed_term.new.numbers c.loop-term.invariant.met
+    (subst (KeepsNumbers c.loop-term.numbers) (sym c.in_ok-renamed_term.ensures.met) (keeps-met c.loop-term.numbers (tree_variables (tree_of c.term-item.result)))))

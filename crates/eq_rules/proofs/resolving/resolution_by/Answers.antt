@@ -16,7 +16,7 @@ use Rattle.unifier.proofs.AboutLayouts.BoundLemmas.{fits-above}
 use Rattle.eq_rules.specs.Inferences.{alone}
 use Rattle.eq_rules.proofs.AboutConclusions.MadeLemmas.{size_above, size_within, alone_there, made_by_resolution}
 use Rattle.eq_rules.proofs.AboutConclusions.PremiseLemmas.{own_terms, Terms, terms_of, literal-below, literal-kind}
-use Rattle.eq_rules.proofs.AboutResolution.ResolutionLemmas.{chosen_eligible, resolution_heavy, eligible_before, resolution_not_eligible, resolution_applies, resolution_concluded}
+use Rattle.eq_rules.proofs.AboutResolution.ResolutionLemmas.{resolution_heavy, eligible_before, resolution_not_eligible, resolution_applies, resolution_concluded}
 use Rattle.eq_rules.proofs.resolving.resolution_by.Goals as goal
 use Rattle.unifier.specs.SolvedForm.{substitution_of}
 
@@ -26,8 +26,14 @@ terms-requires-clause-fits c =
     omega (arith, c.variable_bound.ensures.variables, c.variable_bound.ensures.limit) in
     fits-above c.args.unifier.now (bound_of (clause_variables (clause_at c.args.given.now.clause))) 0 SIZE_LIMIT SIZE_LIMIT few (omega arith) c.requires.unified.counted
 
-pub returns-then-size-gt-MOST_SYMBOLS : goal.returns-then-size-gt-MOST_SYMBOLS
-returns-then-size-gt-MOST_SYMBOLS c mode choice_is usage used =
+pub is_eligible_by_size-requires-clause-inside : goal.is_eligible_by_size-requires-clause-inside
+is_eligible_by_size-requires-clause-inside c =
+    let d = clause_at c.args.given.now.clause in
+    let r = c.requires.unified in
+    slice_get_within d.literals c.args.index r.literal r.there
+
+pub returns-then-sure : goal.returns-then-sure
+returns-then-sure c mode choice_is usage used =
     let m = c.args.given.now in
     let d = clause_at m.clause in
     let i = c.args.index in
@@ -36,8 +42,7 @@ returns-then-size-gt-MOST_SYMBOLS c mode choice_is usage used =
     let size : c.in_ok-size.size ≡ capped (clause_size (clause_instance σ d)) =
     c.in_ok-size.ensures ∙ ap (λ ls. capped (sum_by literal_size (literals_instance σ (literals_at ls)))) c.literals.ensures.literals in
     resolution_heavy usage.is_predicate mode (alone m) m.number d i (alone_there m) b c.requires.unified
-    (ap (λ o. eligible (literals_instance σ d.literals) i o false) (sym choice_is)
-    ∙ chosen_eligible c.args.choice (literals_instance σ d.literals) i false (sym c.is_some.ensures ∙ c.if-is_some.true) c.requires.not_other)
+    (ap (λ o. eligible (literals_instance σ d.literals) i o false) (sym choice_is) ∙ c.in_ok-sure.ensures c.if-sure.true)
     (size_above c.in_ok-size.size (clause_size (clause_instance σ d)) MOST_SYMBOLS size c.if-size-gt-MOST_SYMBOLS.true)
 
 pub eligible_under-requires-clause-in_range : goal.eligible_under-requires-clause-in_range

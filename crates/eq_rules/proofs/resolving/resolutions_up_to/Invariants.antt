@@ -4,7 +4,7 @@ use Rattle.literal_selection.specs.Mode.{mode_of}
 use Rattle.bank_clause.specs.Clause.{clause_at}
 use Rattle.eq_rules.specs.Inferences.{AreInferences, alone}
 use Rattle.eq_rules.proofs.AboutResolution.ResolutionLists.{resolves_below}
-use Rattle.eq_rules.proofs.resolving.resolutions.Given as goal
+use Rattle.eq_rules.proofs.resolving.resolutions_up_to.Given as goal
 
 abbrev pub invariant-loop-index : goal.invariant-loop-index
 invariant-loop-index l =
