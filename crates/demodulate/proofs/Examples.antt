@@ -1,5 +1,5 @@
 -- Worked outcomes, and what is none.
-use Rattle.std.proofs.Common.{◌≡◌, ℕ, zero, suc, Bool, true, false, not, List, [], ◌∷◌, refl, sym, subst, ◌==◌, inl, inr, ⊎_elim, arith}
+use Rattle.std.proofs.Common.{◌≡◌, ℕ, zero, suc, Bool, true, false, not, List, [], ◌∷◌, refl, sym, subst, ◌==◌, inl, inr, ⊎_elim}
 use Rattle.std.specs.Prelude.{None, Some, if◌then◌else◌}
 use Rattle.std.proofs.lemmas.Bool.{true≢false}
 use Rattle.std.proofs.lemmas.Option.{none-some}
@@ -99,7 +99,6 @@ subsumed = record {
   by = alone;
   there = refl;
   subsumes = itself;
-  lowest = λ n d there by. omega arith;
 }
 
 pub not_subsumed : IsOutcome is_predicate (without None members) alone (as_it_was (p a)) → ⊥

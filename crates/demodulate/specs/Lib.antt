@@ -2,6 +2,8 @@ pub mod Rank
 pub mod Steps
 pub mod Normal
 pub mod Usable
+pub mod Memory
+pub mod Subsuming
 pub mod UsableSteps
 pub mod Reducing
 pub mod Simplified

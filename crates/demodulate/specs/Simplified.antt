@@ -26,14 +26,13 @@ pub record LeadsToTautology (is_predicate : ℕ → Bool) (clauses : ℕ → Opt
   pub leads : LeadsTo is_predicate clauses c result
   pub tautology : IsTrue (is_tautology result)
 
--- to a clause that one of the clauses subsumes, and none with a lower number
+-- to a clause that the clause of that number subsumes
 pub record LeadsToSubsumed (is_predicate : ℕ → Bool) (clauses : ℕ → Option TreeClause) (c : TreeClause) (number : ℕ) : Type 0 where
   pub result : TreeClause
   pub leads : LeadsTo is_predicate clauses c result
   pub by : TreeClause
   pub there : clauses number ≡ Some by
   pub subsumes : Subsumes is_predicate by result
-  pub lowest : (n : ℕ) (d : TreeClause) → clauses n ≡ Some d → Subsumes is_predicate d result → number ≤ n
 
 -- canonical, with the same names, and no larger
 pub record KeepsForm (c d : TreeClause) : Type 0 where

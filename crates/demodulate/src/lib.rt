@@ -13,13 +13,14 @@
 //!
 //! **The loop.** `reducing.rt` repeats the step until none applies, or until the clause is a tautology. `normal.rt` does the same with rewriting
 //! alone (`normal_form`). `simplifying.rt` is the whole: tautology, loop, then a search for a subsuming clause. Its answer is one of
-//! three: a tautology, subsumed by the clause with this number, or reduced. `simplifiers.rt` has the borrowed view of the sets of known
-//! clauses: unit equations, units of either sign, and all members for subsumption. `left_out` names one clause that is not used, so that a
-//! known clause can be simplified again by the others (backward simplification).
+//! three: a tautology, subsumed by the clause with this number, or reduced. The search (`subsuming.rt`) asks the index of units first, which
+//! mostly decides, and then the rest by their features. `simplifiers.rt` has the borrowed view of the sets of known clauses: unit equations,
+//! units of either sign, and all members. `left_out` names one clause that is not used, so that a known clause can be simplified again by the
+//! others (backward simplification).
 //!
 //! **What is proved.** Where `reduce` answers `Irreducible`, no reducing step of the definition applies to the result by any clause that may be
-//! used; so the tests of each rule are complete, not only sound. Where `simplify` answers `Subsumed`, the number is the lowest of a clause
-//! that subsumes the reduced clause. All along the record keeps the invariant of `reduced_clause`.
+//! used; so the tests of each rule are complete, not only sound. Where `simplify` answers `Subsumed`, the clause of that number subsumes the
+//! reduced clause, and where it answers `Reduced`, none does. All along the record keeps the invariant of `reduced_clause`.
 //!
 //! **Termination.** The loop has no bound on its steps. The law `rewriting_ends` gives its measure: the rank of a clause counts, for each
 //! side, the smaller ground terms of bounded size in the term order (`specs/Rank.antt`). It falls with each rewrite and is kept when variables
@@ -28,22 +29,27 @@
 //! **Hints.** The order of the rules, and which of several redexes or units is taken, decide the shape of the result but no clause of a
 //! contract.
 //!
-//! **Cost.** Each step starts from the first rule again, so a clause with n rewrites is searched n + 1 times. A step costs the search, one new
-//! clause and one line. After out of memory the clause is reduced by fewer steps, and its lines still lead to it.
+//! **Cost.** Each step starts from the first rule again, so a clause with n rewrites is searched n + 1 times; but what no unit rewrites is
+//! remembered from search to search, and from clause to clause while the same clauses may be used (`memory.rt`). A step costs the search, one
+//! new clause and one line. After out of memory the clause is reduced by fewer steps, and its lines still lead to it.
 #![tactic(auto)]
 
 mod line;
+mod memory;
 mod normal;
 mod reducing;
 mod simplifiers;
 mod simplifying;
 mod step;
 mod stepping;
+mod subsuming;
 
+pub use memory::Memory;
 pub use normal::normal_form;
 pub use reducing::{Reduction, reduce};
 pub use simplifiers::Simplifiers;
 pub use simplifying::{Simplified, simplify};
 pub use step::rewrite_once;
+pub use subsuming::subsumer;
 
 pub mod laws;

@@ -15,7 +15,7 @@ use kernel_steps::Reduced;
 use plain_types::Mem;
 use reduced_clause::laws::moves_extend_reductions;
 use reduced_clause::unreduced_copy;
-use rewriting::{Rewriters, Units};
+use rewriting::{NormalTerms, Rewriters, Units};
 use std::alloc::Global;
 use term_bank::Bank;
 
@@ -42,9 +42,10 @@ pub fn normal_form(
         left_out,
     };
     moves_extend_reductions();
+    let mut normal = NormalTerms::new(alloc);
     let mut made = unreduced_copy(alloc, clause)?;
     'steps: loop {
-        let stepped = rewrite_once(alloc, &by, &mut made)?;
+        let stepped = rewrite_once(alloc, &by, &mut made, &mut normal)?;
         if !stepped {
             return Ok(made);
         }

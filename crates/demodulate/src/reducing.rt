@@ -7,9 +7,11 @@ ghost use Rattle.fol_base.specs.Literal.{clause_of};
 ghost use Rattle.fol_base.specs.declared.limits.TheConstants.{MOST_SYMBOLS};
 ghost use Rattle.kernel_steps.specs.Names.{are_sorted};
 ghost use Rattle.rewriting.specs.Units.{AreClausesOf};
+ghost use Rattle.demodulate.specs.Memory.{Remembers};
 ghost use Rattle.demodulate.specs.Reducing.{IsFurther, IsReduction};
 
 use crate::laws::rewriting_ends;
+use crate::memory::Memory;
 use crate::simplifiers::Simplifiers;
 use crate::stepping::step;
 use fol_base::asserted_numbers;
@@ -31,14 +33,21 @@ pub enum Reduction {
 
 /// Reduces a clause until no reducing step applies, or one leads to a tautology: literals `t != t` go, equal literals are merged, and units
 /// rewrite and cut, but for the one that is left out. After an out-of-memory error the clause is reduced by fewer steps.
-pub fn reduce(alloc: Global, by: &Simplifiers<'_>, reduced: &mut Reduced) -> Mem<Reduction>
+pub fn reduce(
+    alloc: Global,
+    by: &Simplifiers<'_>,
+    reduced: &mut Reduced,
+    memory: &mut Memory,
+) -> Mem<Reduction>
     requires equations { AreClausesOf by.now.bank.now by.now.equations.now }
     requires units { AreClausesOf by.now.bank.now by.now.units.now }
     requires canonical { IsCanonical (clause_of reduced.old.clause) }
     requires names { IsTrue (are_sorted reduced.old.clause.names) }
     requires size { clause_size (clause_of reduced.old.clause) ≤ MOST_SYMBOLS }
+    requires memory { Remembers by.now.equations.now by.now.left_out memory.old }
     ensures further { IsFurther by.now.equations.now by.now.units.now by.now.left_out reduced.old reduced.new }
     ensures ok { IfOk result (IsReduction by.now.equations.now by.now.units.now by.now.left_out reduced.old reduced.new) }
+    ensures memory { Remembers by.now.equations.now by.now.left_out memory.new }
 {
     let asserted = asserted_numbers(alloc, reduced.clause.names.as_slice())?;
     let rewriters = Rewriters {
@@ -47,10 +56,11 @@ pub fn reduce(alloc: Global, by: &Simplifiers<'_>, reduced: &mut Reduced) -> Mem
         asserted: asserted.as_slice(),
         left_out: by.left_out,
     };
+    memory.begin(rewriters.asserted)?;
     moves_extend_reductions();
     rewriting_ends();
     'steps: loop {
-        let stepped = step(alloc, &rewriters, by.units, reduced)?;
+        let stepped = step(alloc, &rewriters, by.units, reduced, &mut memory.normal)?;
         if !stepped {
             return Ok(Reduction::Irreducible);
         }

@@ -11,9 +11,9 @@ pub struct Simplifiers<'a> {
     pub bank: &'a Bank,
     /// Those that are one equation, which rewrite.
     pub equations: &'a Units,
-    /// Those with one literal, of either sign, which cut.
+    /// Those with one literal, of either sign, which cut and subsume.
     pub units: &'a UnitIndex,
-    /// All of them, which subsume.
+    /// All of them, among which the others that subsume are looked for.
     pub members: &'a Subsumers,
     /// The number of a clause that isn't used, so that none simplifies itself.
     pub left_out: Option<u32>,

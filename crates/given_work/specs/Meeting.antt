@@ -15,7 +15,7 @@ use Rattle.literal_selection.specs.declared.choice.Selection.{Selection}
 use Rattle.bank_clause.specs.Clause.{clause_at}
 use Rattle.bank_clause.specs.declared.member.Member.{Member}
 use Rattle.subsume.specs.Members.{numbers_of}
-use Rattle.eq_rules.specs.Inferences.{AreInferences, IsConcluded, IsMade}
+use Rattle.eq_rules.specs.Inferences.{AreInferences, AreSomeInferences, IsConcluded, IsMade, is_enough}
 use Rattle.eq_rules.specs.declared.inference.Inference.{Inference}
 use Rattle.superpose.specs.Pairing.{is_from_into}
 use Rattle.pool_history.specs.Record.{GivenJob}
@@ -67,6 +67,27 @@ AreAlone mode m found =
     (usage : SymbolUse) (clauses : Lookup)
     → IsTrue (are_literals_of usage (clause_at m.clause).literals) → clauses m.number ≡ Some (clause_at m.clause)
     → AreInferences usage.is_predicate (mode_of mode) clauses (is_alone m.number) found
+
+-- some of these, each once
+abbrev pub AreSomeMetWith : Selection → List Member → ℕ → List ℕ → List Inference → Type 0
+AreSomeMetWith mode ms g ns found =
+    (usage : SymbolUse) (clauses : Lookup) (j : GivenJob)
+    → Tells usage clauses j ms → AreSomeInferences usage.is_predicate (mode_of mode) (told_of clauses j) (is_met g ns) found
+
+abbrev pub AreSomeAlone : Selection → Member → List Inference → Type 0
+AreSomeAlone mode m found =
+    (usage : SymbolUse) (clauses : Lookup)
+    → IsTrue (are_literals_of usage (clause_at m.clause).literals) → clauses m.number ≡ Some (clause_at m.clause)
+    → AreSomeInferences usage.is_predicate (mode_of mode) clauses (is_alone m.number) found
+
+-- all of these, or some that are enough
+abbrev pub AreMetUpTo : ℕ → Selection → List Member → ℕ → List ℕ → List Inference → Type 0
+AreMetUpTo left mode ms g ns found =
+    AreMetWith mode ms g ns found ⊎ ((left ≤ length found) × AreSomeMetWith mode ms g ns found)
+
+abbrev pub AreAloneUpTo : Option ℕ → Selection → Member → List Inference → Type 0
+AreAloneUpTo most mode m found =
+    AreAlone mode m found ⊎ (IsTrue (is_enough most (length found)) × AreSomeAlone mode m found)
 
 -- the numbers of those before a place
 abbrev pub before_place : List (Option Member) → ℕ → List ℕ

@@ -12,7 +12,7 @@ use Rattle.pool_history.specs.declared.batch.Entry.{Entry}
 use Rattle.pool_history.specs.declared.batch.Removal.{Removal}
 use Rattle.pool_history.specs.declared.batch.Work.{Work}
 use Rattle.pool_history.specs.declared.batch.Work.TheVariants.{Met}
-use Rattle.given_work.specs.Meeting.{AreFirstEntries, AreMetWith}
+use Rattle.given_work.specs.Meeting.{AreFirstEntries, AreMetUpTo}
 use Rattle.given_work.specs.Removing.{AreRemovalsOf}
 use Rattle.given_work.specs.Telling.{Tells}
 use Rattle.given_work.specs.declared.sets.Sets.{Sets}
@@ -21,13 +21,13 @@ use Rattle.given_work.specs.declared.sets.Sets.{Sets}
 abbrev pub HasRemovals : Bool → List Member → Member → ℕ → List Entry → List Removal → Type 0
 HasRemovals split ms given left entries removals = ((left ≤ length entries) × (removals ≡ [])) ⊎ AreRemovalsOf split ms given removals
 
--- the inferences of a clause that stays with the clauses of some numbers, and the removals
+-- the inferences of a clause that stays with the clauses of some numbers, or as many as are left, and the removals
 pub record IsMetBy (split : Bool) (mode : Selection) (sets : Sets) (ms : List Member) (numbers : List ℕ) (given : Member) (left : ℕ) (work : Work) : Type 0 where
   pub found : List Inference
   pub entries : List Entry
   pub removals : List Removal
   pub is : work ≡ Met entries removals
-  pub met : AreMetWith mode ms given.number numbers found
+  pub met : AreMetUpTo left mode ms given.number numbers found
   pub entered : AreFirstEntries split sets.equations sets.units sets.subsumers found left entries
   pub removed : HasRemovals split ms given left entries removals
 

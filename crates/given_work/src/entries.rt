@@ -3,6 +3,7 @@
 ghost use Rattle.std.specs.Prelude.{◌≡◌, List, None, All, IfOk};
 ghost use Rattle.fol_base.specs.Literal.{clause_of};
 ghost use Rattle.bank_clause.specs.declared.member.Member.{Member};
+ghost use Rattle.demodulate.specs.Memory.{Remembers};
 ghost use Rattle.demodulate.specs.Simplified.{IsSimplified};
 ghost use Rattle.pool_history.specs.declared.batch.Fate.TheVariants.{Dropped};
 ghost use Rattle.given_work.specs.Dropped.{AreDropped, outcome_by};
@@ -11,7 +12,7 @@ ghost use Rattle.given_work.specs.Meeting.{AreFirstEntries, IsConcludedWith, IsE
 
 use crate::dropped::DroppedConclusions;
 use crate::results::handed_back;
-use demodulate::{Simplified, Simplifiers, simplify};
+use demodulate::{Memory, Simplified, Simplifiers, simplify};
 use fol_base::Clause;
 use kernel_steps::{Derivation, Line, Reduced, Step};
 use plain_types::Mem;
@@ -34,11 +35,12 @@ pub(crate) fn entries_of(
 {
     let mut entries = Vec::new(alloc);
     let mut dropped = DroppedConclusions::new(alloc);
+    let mut memory = Memory::new(alloc);
     for inference in inferences {
         if entries.len() >= left as usize {
             return Ok(MetEntries::from_vec(entries));
         }
-        entries.push(entry_of(alloc, by, split, &mut dropped, inference)?)?;
+        entries.push(entry_of(alloc, by, split, &mut dropped, &mut memory, inference)?)?;
     }
     Ok(MetEntries::from_vec(entries))
 }
@@ -49,14 +51,17 @@ fn entry_of(
     by: &Simplifiers<'_>,
     split: bool,
     dropped: &mut DroppedConclusions,
+    memory: &mut Memory,
     inference: Inference,
 ) -> Mem<Entry>
     requires of_bank { AreSetsOfBank by.now.bank.now by.now.equations.now by.now.units.now by.now.members.now }
     requires all { by.now.left_out ≡ None }
     requires made { IsMadeWith by.now.equations.now by.now.units.now by.now.members.now inference }
     requires dropped { AreDropped by.now.equations.now by.now.units.now by.now.members.now dropped.old }
+    requires memory { Remembers by.now.equations.now by.now.left_out memory.old }
     ensures entry { IfOk result (IsEntryOf split by.now.equations.now by.now.units.now by.now.members.now inference) }
     ensures dropped { IfOk result (λ _. AreDropped by.now.equations.now by.now.units.now by.now.members.now dropped.new) }
+    ensures memory { Remembers by.now.equations.now by.now.left_out memory.new }
 {
     let Inference { key, result } = inference;
     match result {
@@ -65,7 +70,7 @@ fn entry_of(
             fate: Fate::Heavy,
         }),
         Made::Conclusion(step, clause) => {
-            let fate = fate_of(alloc, by, split, dropped, step, clause)?;
+            let fate = fate_of(alloc, by, split, dropped, memory, step, clause)?;
             Ok(Entry { key, fate })
         }
     }
@@ -77,6 +82,7 @@ fn fate_of(
     by: &Simplifiers<'_>,
     split: bool,
     dropped: &mut DroppedConclusions,
+    memory: &mut Memory,
     step: Step,
     clause: Clause,
 ) -> Mem<Fate>
@@ -84,13 +90,15 @@ fn fate_of(
     requires all { by.now.left_out ≡ None }
     requires concluded { IsConcludedWith by.now.equations.now by.now.units.now by.now.members.now step (clause_of clause) }
     requires dropped { AreDropped by.now.equations.now by.now.units.now by.now.members.now dropped.old }
+    requires memory { Remembers by.now.equations.now by.now.left_out memory.old }
     ensures fate { IfOk result (IsFateOf split by.now.equations.now by.now.units.now by.now.members.now step (clause_of clause)) }
     ensures dropped { IfOk result (λ _. AreDropped by.now.equations.now by.now.units.now by.now.members.now dropped.new) }
+    ensures memory { Remembers by.now.equations.now by.now.left_out memory.new }
 {
     match dropped.cause(&clause) {
         Some(cause) => Ok(Fate::Dropped(cause)),
         None => {
-            let outcome = simplify(alloc, by, &clause)?;
+            let outcome = simplify(alloc, by, &clause, memory)?;
             let fate = fate_by(alloc, split, dropped, step, clause, outcome)?;
             Ok(fate)
         }

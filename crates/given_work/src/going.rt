@@ -10,13 +10,12 @@ ghost use Rattle.given_work.specs.Going.{IsReducedBy, IsRemovalOf, IsReplacedOrS
 
 use crate::results::handed_back;
 use bank_clause::Member;
-use demodulate::{Simplifiers, reduce};
+use demodulate::{Memory, Simplifiers, reduce, subsumer};
 use kernel_steps::{CLAUSE_NUMBERS, Derivation, Line, Reduced, Step};
 use plain_types::{Mem, Numbers};
 use pool_history::{Fate, Redundancy, Removal};
 use reduced_clause::{put_used, unreduced};
 use std::alloc::Global;
-use subsume::forward_except;
 use unit_cutting::is_tautology;
 
 /// How a told clause goes: it is reduced by the others, or it is redundant beside them, once it is reduced. None exactly where no reducing
@@ -47,7 +46,8 @@ fn reduced_member(alloc: Global, by: &Simplifiers<'_>, member: &Member) -> Mem<R
 {
     let clause = member.clause.to_clause(by.bank)?;
     let mut reduced = unreduced(alloc, clause);
-    reduce(alloc, by, &mut reduced)?;
+    let mut memory = Memory::new(alloc);
+    reduce(alloc, by, &mut reduced, &mut memory)?;
     Ok(reduced)
 }
 
@@ -60,6 +60,7 @@ fn removal_by(
     reduced: Reduced,
 ) -> Mem<Option<Removal>>
     requires of_bank { AreSetsOfBank by.now.bank.now by.now.equations.now by.now.units.now by.now.members.now }
+    requires itself { by.now.left_out ≡ Some number }
     ensures { IfOk result (λ gone. (c : TreeClause) → IsReducedBy by.now.equations.now by.now.units.now (Some number) c reduced
         → IsRemovalOf split by.now.equations.now by.now.units.now by.now.members.now number c gone) }
 {
@@ -67,11 +68,11 @@ fn removal_by(
         let removal = dropped(number, reduced.used, Redundancy::Tautology);
         return Ok(Some(removal));
     }
-    match forward_except(alloc, by.bank, by.members, &reduced.clause, number)? {
-        Some(subsumer) => {
+    match subsumer(alloc, by, &reduced.clause)? {
+        Some(other) => {
             let mut justifiers = reduced.used;
-            put_used(&mut justifiers, subsumer)?;
-            let removal = dropped(number, justifiers, Redundancy::Subsumed(subsumer));
+            put_used(&mut justifiers, other)?;
+            let removal = dropped(number, justifiers, Redundancy::Subsumed(other));
             Ok(Some(removal))
         }
         None => {

@@ -15,13 +15,14 @@ use std::marker::Model;
 use term_bank::Bank;
 
 /// A worker's own sets of the living activated clauses that it was told. Contracts see it as its options, the place in the history up to
-/// which it was told, and the list of the clauses in the order of their positions.
+/// which it was told, and the list of the clauses in the order of their positions. The sets stand in boxes, since an index is handed on by
+/// value.
 #[derive(Drop)]
 pub struct Index {
     pub(crate) options: Options,
     pub(crate) told: u64,
-    pub(crate) store: Store,
-    pub(crate) sets: Sets,
+    pub(crate) store: Box<Store>,
+    pub(crate) sets: Box<Sets>,
 }
 
 impl Model for Index {
@@ -43,11 +44,13 @@ impl Index {
     pub fn new(alloc: Global, options: Options) -> Mem<Index>
         ensures { IfOk result (λ index. index ≡ record { options = options; told = 0; members = [] }) }
     {
+        let store = Box::new(alloc, Store::new(alloc, options.select)?)?;
+        let sets = Box::new(alloc, Sets::new(alloc)?)?;
         Ok(Index {
             options,
             told: 0,
-            store: Store::new(alloc, options.select)?,
-            sets: Sets::new(alloc)?,
+            store,
+            sets,
         })
     }
 

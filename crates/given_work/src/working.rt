@@ -118,7 +118,7 @@ fn met(alloc: Global, known: &Known<'_>, place: usize, given: &Premise<'_>, left
         (IsMetBy known.now.split store.partners.mode known.now.sets.now (members_in store.slots.items)
         (before_place store.slots.items place) given.now.member.now left) }
 {
-    let inferences = inferences_of(alloc, known.bank, known.store, place, given)?;
+    let inferences = inferences_of(alloc, known.bank, known.store, place, given, left)?;
     let by = Simplifiers {
         bank: known.bank,
         equations: &known.sets.equations,

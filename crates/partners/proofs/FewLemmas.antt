@@ -9,12 +9,13 @@ use Rattle.fol_base.specs.Canonical.{numbers_from}
 use Rattle.fol_base.specs.Clause.{TreeLiteral, TreeClause, literal_size, clause_size}
 use Rattle.fol_base.specs.Selection.{SelectionMode}
 use Rattle.fol_base.specs.Sides.{side_of}
+use Rattle.fol_base.specs.declared.clause.Side.{Side}
 use Rattle.fol_base.specs.declared.clause.Side.TheVariants.{Left, Right}
 use Rattle.fol_base.specs.declared.limits.TheConstants.{SIZE_LIMIT}
 use Rattle.fol_base.proofs.AboutTerms.TreeLemmas.{tree_size-positive}
 use Rattle.literal_selection.specs.Mode.{mode_of}
 use Rattle.eq_rules.specs.declared.concluding.LiteralSide.{LiteralSide}
-use Rattle.superpose.specs.Sites.{AreSitesOf, all_sides, both_sides, below_path, can_enter, can_start, enter_sites, entered_places, places, places_from, side_places, start_sites}
+use Rattle.superpose.specs.Sites.{AreSitesOf, all_sides, both_sides, below_path, can_enter, can_start, enter_sites, entered_places, inner_places, is_positive_atom, open_places, places, places_from, side_places, start_sites}
 use Rattle.superpose.specs.declared.sites.LiteralPlace.{LiteralPlace}
 use Rattle.superpose.specs.declared.sites.Sites.{Sites}
 use Rattle.partners.specs.Known.{HaveFewSites}
@@ -37,6 +38,21 @@ mutual
         arguments-few (suc i) ts,
       )
 
+inner-few : (t : Tree) → length (inner_places t) ≤ tree_size t
+inner-few (variable v) = omega arith
+inner-few (application f ts) = omega (arith, arguments-few 0 ts)
+
+open-few : (s : Side) (l : TreeLiteral) → length (open_places s l) ≤ tree_size (side_of s l)
+open-few s l =
+    let inner : List (List ℕ) = inner_places (side_of s l) in
+    let whole : List (List ℕ) = places (side_of s l) in
+    ⊎_elim
+    (λ atom.
+    omega (arith, ap (λ (ps : List (List ℕ)). length ps) (cond-true (is_positive_atom s l) inner whole atom), inner-few (side_of s l)))
+    (λ other.
+    omega (arith, ap (λ (ps : List (List ℕ)). length ps) (cond-false (is_positive_atom s l) inner whole other), places-few (side_of s l)))
+    (cases_Bool (is_positive_atom s l))
+
 entered-few :
     (mode : SelectionMode) (ls : List TreeLiteral) (s : LiteralSide) (l : TreeLiteral)
     → slice_get ls s.literal ≡ Some l → length (entered_places mode ls s) ≤ tree_size (side_of s.side l)
@@ -47,7 +63,7 @@ entered-few mode ls s l there =
       arith,
       length-map (side_places s.side (slice_get ls s.literal)) (below_path s []),
       ap (λ o. length (side_places s.side o)) there,
-      places-few (side_of s.side l),
+      open-few s.side l,
     ) in
     ⊎_elim
     (λ passes. omega (arith, ap (λ (ts : List LiteralPlace). length ts) (cond-true (can_enter mode ls s) all [] passes), most))

@@ -1,8 +1,8 @@
 -- Inferences of names that are tried one after another, with the partners of a clause.
-use Rattle.std.proofs.Common.{◌≡◌, ℕ, ◌+◌, ◌<◌, ◌/◌, ◌%◌, Option, None, Some, List, [], ◌∷◌, ◌++◌, length, take, get_or, append-nil, refl, ap, sym, ◌∙◌, subst, ⊎_elim}
+use Rattle.std.proofs.Common.{◌≡◌, ◌⊎◌, ℕ, Bool, true, false, inr, ◌+◌, ◌<◌, ◌/◌, ◌%◌, Option, None, Some, List, [], ◌∷◌, ◌++◌, length, take, get_or, append-nil, refl, ap, sym, ◌∙◌, subst, ⊎_elim}
 use Rattle.std.specs.Prelude.{nat_lt, slice_get, option_map, option_and_then, ◌==◌}
 use Rattle.std.specs.Option.{option_to_list}
-use Rattle.std.proofs.lemmas.Bool.{cases_Bool, cond-true, cond-false, eqb-true}
+use Rattle.std.proofs.lemmas.Bool.{true≢false, cases_Bool, cond-true, cond-false, eqb-true}
 use Rattle.std.proofs.lemmas.Grind.{flat_map-append}
 use Rattle.std.proofs.lemmas.List.{append_assoc, take_more}
 use Rattle.std.proofs.lemmas.Option.{none-some, same_Some, slice_get-get_or, get_or_from_slice_get}
@@ -13,6 +13,7 @@ use Rattle.fol_base.specs.declared.clause.Side.TheVariants.{Left}
 use Rattle.literal_selection.specs.Mode.{mode_of}
 use Rattle.kernel_steps.specs.declared.key.Key.{Key}
 use Rattle.bank_clause.specs.declared.member.Member.{Member}
+use Rattle.eq_rules.specs.Inferences.{is_enough}
 use Rattle.eq_rules.specs.Trying.{IsTried}
 use Rattle.eq_rules.specs.declared.inference.Inference.{Inference}
 use Rattle.eq_rules.specs.declared.inference.Made.{Made}
@@ -22,7 +23,7 @@ use Rattle.superpose.specs.Sites.{enter_sites, start_sites}
 use Rattle.superpose.specs.Superposing.{IsSuperposition, para_key}
 use Rattle.superpose.specs.declared.sites.LiteralPlace.{LiteralPlace}
 use Rattle.superpose.proofs.AboutSites.TriedLemmas.{tried-append, tried-one}
-use Rattle.partners.specs.Meeting.{AddsNamed, AreLookedUp, MeetsAllPlaces, MeetsAllStarts, MeetsPlaces, MeetsStarts, name_from, name_into, names}
+use Rattle.partners.specs.Meeting.{AddsNamed, AreLookedUp, MeetsAllPlaces, MeetsAllPlacesUpTo, MeetsAllStarts, MeetsAllStartsUpTo, MeetsPlaces, MeetsPlacesUpTo, MeetsStarts, MeetsStartsUpTo, name_from, name_into, names}
 use Rattle.partners.specs.Partners.{PartnerSet, Placed, before, literals_of, partner_before, placed_numbered}
 use Rattle.partners.specs.declared.index.TheConstants.{MOST_SITES}
 
@@ -219,18 +220,18 @@ module _ (bound : ℕ) (set : PartnerSet) (g : Member) (c : ℕ) where
 -- ---- one more site
 
 pub places-next :
-    (bound : ℕ) (set : PartnerSet) (g : Member) (ss : List LiteralSide) (s : LiteralSide) (initial middle now : List Inference)
-    → MeetsAllPlaces bound set g ss initial middle → MeetsPlaces bound set g s middle now → MeetsAllPlaces bound set g (ss ++ s ∷ []) initial now
-places-next bound set g [] s initial middle now h k =
-    (now, subst (λ (es : List Inference). MeetsPlaces bound set g s es now) h k, refl)
-places-next bound set g (z ∷ ss) s initial middle now h k = (h.0, h.1, places-next bound set g ss s h.0 middle now h.2 k)
+    (whole : Bool) (bound : ℕ) (set : PartnerSet) (g : Member) (ss : List LiteralSide) (s : LiteralSide) (initial middle now : List Inference)
+    → MeetsAllPlaces whole bound set g ss initial middle → MeetsPlaces whole bound set g s middle now → MeetsAllPlaces whole bound set g (ss ++ s ∷ []) initial now
+places-next whole bound set g [] s initial middle now h k =
+    (now, subst (λ (es : List Inference). MeetsPlaces whole bound set g s es now) h k, refl)
+places-next whole bound set g (z ∷ ss) s initial middle now h k = (h.0, h.1, places-next whole bound set g ss s h.0 middle now h.2 k)
 
 pub starts-next :
-    (bound : ℕ) (set : PartnerSet) (g : Member) (ts : List LiteralPlace) (t : LiteralPlace) (initial middle now : List Inference)
-    → MeetsAllStarts bound set g ts initial middle → MeetsStarts bound set g t middle now → MeetsAllStarts bound set g (ts ++ t ∷ []) initial now
-starts-next bound set g [] t initial middle now h k =
-    (now, subst (λ (es : List Inference). MeetsStarts bound set g t es now) h k, refl)
-starts-next bound set g (z ∷ ts) t initial middle now h k = (h.0, h.1, starts-next bound set g ts t h.0 middle now h.2 k)
+    (whole : Bool) (bound : ℕ) (set : PartnerSet) (g : Member) (ts : List LiteralPlace) (t : LiteralPlace) (initial middle now : List Inference)
+    → MeetsAllStarts whole bound set g ts initial middle → MeetsStarts whole bound set g t middle now → MeetsAllStarts whole bound set g (ts ++ t ∷ []) initial now
+starts-next whole bound set g [] t initial middle now h k =
+    (now, subst (λ (es : List Inference). MeetsStarts whole bound set g t es now) h k, refl)
+starts-next whole bound set g (z ∷ ts) t initial middle now h k = (h.0, h.1, starts-next whole bound set g ts t h.0 middle now h.2 k)
 
 any_side : LiteralSide
 any_side = record { literal = 0; side = Left }
@@ -240,25 +241,89 @@ any_place = record { at = any_side; place = [] }
 
 -- one more site, which is that of the index
 pub places-more :
-    (bound : ℕ) (set : PartnerSet) (g : Member) (froms : List LiteralSide) (i : ℕ) (initial middle now : List Inference)
-    → i < length froms → MeetsAllPlaces bound set g (take i froms) initial middle
-    → ((s : LiteralSide) → slice_get froms i ≡ Some s → MeetsPlaces bound set g s middle now)
-    → MeetsAllPlaces bound set g (take (i + 1) froms) initial now
-places-more bound set g froms i initial middle now less h step =
+    (whole : Bool) (bound : ℕ) (set : PartnerSet) (g : Member) (froms : List LiteralSide) (i : ℕ) (initial middle now : List Inference)
+    → i < length froms → MeetsAllPlaces whole bound set g (take i froms) initial middle
+    → ((s : LiteralSide) → slice_get froms i ≡ Some s → MeetsPlaces whole bound set g s middle now)
+    → MeetsAllPlaces whole bound set g (take (i + 1) froms) initial now
+places-more whole bound set g froms i initial middle now less h step =
     let s : LiteralSide = get_or froms i any_side in
     let at : slice_get froms i ≡ Some s = slice_get-get_or froms i any_side less in
-    subst (λ (ss : List LiteralSide). MeetsAllPlaces bound set g ss initial now)
+    subst (λ (ss : List LiteralSide). MeetsAllPlaces whole bound set g ss initial now)
     (sym (take_more_item froms i s less (sym (get_or_from_slice_get froms i s s at))))
-    (places-next bound set g (take i froms) s initial middle now h (step s at))
+    (places-next whole bound set g (take i froms) s initial middle now h (step s at))
 
 pub starts-more :
-    (bound : ℕ) (set : PartnerSet) (g : Member) (intos : List LiteralPlace) (i : ℕ) (initial middle now : List Inference)
-    → i < length intos → MeetsAllStarts bound set g (take i intos) initial middle
-    → ((t : LiteralPlace) → slice_get intos i ≡ Some t → MeetsStarts bound set g t middle now)
-    → MeetsAllStarts bound set g (take (i + 1) intos) initial now
-starts-more bound set g intos i initial middle now less h step =
+    (whole : Bool) (bound : ℕ) (set : PartnerSet) (g : Member) (intos : List LiteralPlace) (i : ℕ) (initial middle now : List Inference)
+    → i < length intos → MeetsAllStarts whole bound set g (take i intos) initial middle
+    → ((t : LiteralPlace) → slice_get intos i ≡ Some t → MeetsStarts whole bound set g t middle now)
+    → MeetsAllStarts whole bound set g (take (i + 1) intos) initial now
+starts-more whole bound set g intos i initial middle now less h step =
     let t : LiteralPlace = get_or intos i any_place in
     let at : slice_get intos i ≡ Some t = slice_get-get_or intos i any_place less in
-    subst (λ (ts : List LiteralPlace). MeetsAllStarts bound set g ts initial now)
+    subst (λ (ts : List LiteralPlace). MeetsAllStarts whole bound set g ts initial now)
     (sym (take_more_item intos i t less (sym (get_or_from_slice_get intos i t t at))))
-    (starts-next bound set g (take i intos) t initial middle now h (step t at))
+    (starts-next whole bound set g (take i intos) t initial middle now h (step t at))
+
+-- ---- until there are enough
+
+-- what is whole is also a part
+places-part :
+    (whole : Bool) (bound : ℕ) (set : PartnerSet) (g : Member) (s : LiteralSide) (initial now : List Inference)
+    → MeetsPlaces whole bound set g s initial now → MeetsPlaces false bound set g s initial now
+places-part whole bound set g s initial now h = record { entries = h.entries; rise = h.rise; all = λ e. absurd (true≢false (sym e)); adds = h.adds }
+
+starts-part :
+    (whole : Bool) (bound : ℕ) (set : PartnerSet) (g : Member) (t : LiteralPlace) (initial now : List Inference)
+    → MeetsStarts whole bound set g t initial now → MeetsStarts false bound set g t initial now
+starts-part whole bound set g t initial now h = record { entries = h.entries; rise = h.rise; all = λ e. absurd (true≢false (sym e)); adds = h.adds }
+
+pub all_places-part :
+    (whole : Bool) (bound : ℕ) (set : PartnerSet) (g : Member) (ss : List LiteralSide) (initial now : List Inference)
+    → MeetsAllPlaces whole bound set g ss initial now → MeetsAllPlaces false bound set g ss initial now
+all_places-part whole bound set g [] initial now h = h
+all_places-part whole bound set g (s ∷ ss) initial now h =
+    (h.0, places-part whole bound set g s initial h.0 h.1, all_places-part whole bound set g ss h.0 now h.2)
+
+pub all_starts-part :
+    (whole : Bool) (bound : ℕ) (set : PartnerSet) (g : Member) (ts : List LiteralPlace) (initial now : List Inference)
+    → MeetsAllStarts whole bound set g ts initial now → MeetsAllStarts false bound set g ts initial now
+all_starts-part whole bound set g [] initial now h = h
+all_starts-part whole bound set g (t ∷ ts) initial now h =
+    (h.0, starts-part whole bound set g t initial h.0 h.1, all_starts-part whole bound set g ts h.0 now h.2)
+
+-- where there aren't enough, all is there
+pub whole-where_few :
+    {Whole Part : Type 0} (most : Option ℕ) (count : ℕ) → is_enough most count ≡ false → Whole ⊎ ((is_enough most count ≡ true) × Part) → Whole
+whole-where_few most count few h = ⊎_elim (λ all. all) (λ some. absurd (true≢false (sym some.0 ∙ few))) h
+
+-- the sides up to one are enough
+pub places-enough :
+    (most : Option ℕ) (bound : ℕ) (set : PartnerSet) (g : Member) (froms : List LiteralSide) (i : ℕ) (initial middle now : List Inference)
+    → i < length froms → MeetsAllPlaces true bound set g (take i froms) initial middle
+    → ((s : LiteralSide) → slice_get froms i ≡ Some s → MeetsPlacesUpTo most bound set g s middle now)
+    → is_enough most (length now) ≡ true → MeetsAllPlacesUpTo most bound set g froms initial now
+places-enough most bound set g froms i initial middle now less h step enough =
+    inr (
+      enough,
+      (
+        i + 1,
+        places-more false bound set g froms i initial middle now less (all_places-part true bound set g (take i froms) initial middle h)
+            (λ s at. ⊎_elim (λ all. places-part true bound set g s middle now all) (λ some. some.1) (step s at)),
+      ),
+    )
+
+-- the places up to one are enough
+pub starts-enough :
+    (most : Option ℕ) (bound : ℕ) (set : PartnerSet) (g : Member) (intos : List LiteralPlace) (i : ℕ) (initial middle now : List Inference)
+    → i < length intos → MeetsAllStarts true bound set g (take i intos) initial middle
+    → ((t : LiteralPlace) → slice_get intos i ≡ Some t → MeetsStartsUpTo most bound set g t middle now)
+    → is_enough most (length now) ≡ true → MeetsAllStartsUpTo most bound set g intos initial now
+starts-enough most bound set g intos i initial middle now less h step enough =
+    inr (
+      enough,
+      (
+        i + 1,
+        starts-more false bound set g intos i initial middle now less (all_starts-part true bound set g (take i intos) initial middle h)
+            (λ t at. ⊎_elim (λ all. starts-part true bound set g t middle now all) (λ some. some.1) (step t at)),
+      ),
+    )

@@ -1,6 +1,9 @@
 -- What trying one candidate adds.
-use Rattle.std.proofs.Common.{◌≡◌, ℕ, ◌≤◌, ◌/◌, ◌%◌, Option, None, Some, List, [], ◌∷◌, ◌++◌, length, ap, ap₂, sym, ◌∙◌, subst, arith}
+use Rattle.std.proofs.Common.{◌≡◌, ℕ, true, false, ◌+◌, ◌≤◌, ◌/◌, ◌%◌, Option, None, Some, List, [], ◌∷◌, ◌++◌, length, take, ap, ap₂, sym, ◌∙◌, subst, arith}
 use Rattle.std.specs.Prelude.{slice_get}
+use Rattle.std.specs.List.Sorted.{IsStrictlyIncreasing}
+use Rattle.std.proofs.lemmas.Bool.{true≢false}
+use Rattle.std.proofs.lemmas.List.{get_or-take, length-take}
 use Rattle.std.proofs.lemmas.Option.{none-some, same_Some, slice_get_past}
 use Rattle.fol_base.specs.Tree.{Tree}
 use Rattle.literal_selection.specs.Mode.{mode_of}
@@ -96,42 +99,71 @@ module _ (bound : ℕ) (set : PartnerSet) (g : Member) (c n i : ℕ) (n_is : n �
 
 pub places-none :
     (bound : ℕ) (set : PartnerSet) (g : Member) (s : LiteralSide) (found : List Inference) → start_term (literals_of g) s ≡ None
-    → MeetsPlaces bound set g s found found
+    → MeetsPlaces true bound set g s found found
 places-none bound set g s found none = record {
   entries = [];
   rise = λ k less. absurd (omega (arith, less));
-  all = λ query is. absurd (none-some query (sym none ∙ is));
+  all = λ w query is. absurd (none-some query (sym none ∙ is));
   adds = named-nothing bound set g found;
 }
 
 pub places-met :
     (bound : ℕ) (set : PartnerSet) (g : Member) (s : LiteralSide) (query : Tree) (entries : List ℕ) (found now : List Inference)
     → start_term (literals_of g) s ≡ Some query → AreCandidates enter_sites place_term set query entries
-    → AddsNamed bound set g (names (name_into bound set g.number s) entries) found now → MeetsPlaces bound set g s found now
+    → AddsNamed bound set g (names (name_into bound set g.number s) entries) found now → MeetsPlaces true bound set g s found now
 places-met bound set g s query entries found now there are adds = record {
   entries = entries;
   rise = are.rise;
-  all = λ other is. subst (λ (t : Tree). HasCandidates enter_sites place_term set t entries) (same_Some query other (sym there ∙ is)) are.all;
+  all = λ w other is. subst (λ (t : Tree). HasCandidates enter_sites place_term set t entries) (same_Some query other (sym there ∙ is)) are.all;
   adds = adds;
 }
 
 pub starts-none :
     (bound : ℕ) (set : PartnerSet) (g : Member) (t : LiteralPlace) (found : List Inference) → place_term (literals_of g) t ≡ None
-    → MeetsStarts bound set g t found found
+    → MeetsStarts true bound set g t found found
 starts-none bound set g t found none = record {
   entries = [];
   rise = λ k less. absurd (omega (arith, less));
-  all = λ query is. absurd (none-some query (sym none ∙ is));
+  all = λ w query is. absurd (none-some query (sym none ∙ is));
   adds = named-nothing bound set g found;
 }
 
 pub starts-met :
     (bound : ℕ) (set : PartnerSet) (g : Member) (t : LiteralPlace) (query : Tree) (entries : List ℕ) (found now : List Inference)
     → place_term (literals_of g) t ≡ Some query → AreCandidates start_sites start_term set query entries
-    → AddsNamed bound set g (names (name_from bound set g.number t) entries) found now → MeetsStarts bound set g t found now
+    → AddsNamed bound set g (names (name_from bound set g.number t) entries) found now → MeetsStarts true bound set g t found now
 starts-met bound set g t query entries found now there are adds = record {
   entries = entries;
   rise = are.rise;
-  all = λ other is. subst (λ (u : Tree). HasCandidates start_sites start_term set u entries) (same_Some query other (sym there ∙ is)) are.all;
+  all = λ w other is. subst (λ (u : Tree). HasCandidates start_sites start_term set u entries) (same_Some query other (sym there ∙ is)) are.all;
+  adds = adds;
+}
+
+-- ---- the candidates up to one are enough
+
+rise-front : (n : ℕ) (xs : List ℕ) → IsStrictlyIncreasing xs → IsStrictlyIncreasing (take n xs)
+rise-front n xs h k less =
+    let long = length-take n xs in
+    omega (arith, get_or-take n xs k 0 (omega (arith, less, long)), get_or-take n xs (k + 1) 0 (omega (arith, less, long)), h k (omega (arith, less, long)))
+
+pub places-some :
+    (bound : ℕ) (set : PartnerSet) (g : Member) (s : LiteralSide) (query : Tree) (entries : List ℕ) (k : ℕ) (found now : List Inference)
+    → AreCandidates enter_sites place_term set query entries
+    → AddsNamed bound set g (names (name_into bound set g.number s) (take k entries)) found now → MeetsPlaces false bound set g s found now
+places-some bound set g s query entries k found now are adds = record {
+  entries = take k entries;
+  rise = rise-front k entries are.rise;
+  all = λ w. absurd (true≢false (sym w));
+  adds = adds;
+}
+
+pub starts-some :
+    (bound : ℕ) (set : PartnerSet) (g : Member) (t : LiteralPlace) (query : Tree) (entries : List ℕ) (k : ℕ) (found now : List Inference)
+    → AreCandidates start_sites start_term set query entries
+    → AddsNamed bound set g (names (name_from bound set g.number t) (take k entries)) found now → MeetsStarts false bound set g t found now
+starts-some bound set g t query entries k found now are adds = record {
+  entries = take k entries;
+  rise = rise-front k entries are.rise;
+  all = λ w. absurd (true≢false (sym w));
   adds = adds;
 }

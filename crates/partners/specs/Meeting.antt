@@ -1,5 +1,5 @@
 -- The superpositions between a clause and the members of a set that come before it.
-use Rattle.std.specs.Prelude.{◌≡◌, ℕ, ◌==◌, ◌&&◌, ◌||◌, ◌/◌, ◌%◌, ◌<◌, Bool, true, false, List, [], ◌∷◌, ◌++◌, flat_map, slice_get, Contains, Option, Some, option_map, option_and_then, IsTrue}
+use Rattle.std.specs.Prelude.{◌≡◌, ◌⊎◌, ℕ, ◌==◌, ◌&&◌, ◌||◌, ◌/◌, ◌%◌, ◌<◌, Bool, true, false, List, [], ◌∷◌, ◌++◌, length, take, flat_map, slice_get, Contains, Option, Some, option_map, option_and_then, IsTrue}
 use Rattle.std.specs.Option.{is_some, option_to_list}
 use Rattle.std.specs.List.Sorted.{IsStrictlyIncreasing}
 use Rattle.fol_base.specs.Tree.{Tree}
@@ -12,7 +12,7 @@ use Rattle.kernel_steps.specs.declared.key.Key.{Key}
 use Rattle.kernel_steps.specs.declared.key.Key.TheVariants.{Para}
 use Rattle.bank_clause.specs.Clause.{clause_at}
 use Rattle.bank_clause.specs.declared.member.Member.{Member}
-use Rattle.eq_rules.specs.Inferences.{AreInferences}
+use Rattle.eq_rules.specs.Inferences.{AreInferences, AreSomeInferences, is_enough}
 use Rattle.eq_rules.specs.declared.concluding.LiteralSide.{LiteralSide}
 use Rattle.eq_rules.specs.declared.inference.Inference.{Inference}
 use Rattle.superpose.specs.Pairing.{AreTried}
@@ -49,6 +49,18 @@ AddsMeetings bound set given before now =
     (usage : SymbolUse) (clauses : ℕ → Option TreeClause) → AreLookedUp usage clauses bound set given
     → (more : List Inference) × (now ≡ before ++ more)
     × AreInferences usage.is_predicate (mode_of set.mode) clauses (is_meeting bound set given.number) more
+
+-- by some of them, each once
+abbrev pub AddsSomeMeetings : ℕ → PartnerSet → Member → List Inference → List Inference → Type 0
+AddsSomeMeetings bound set given before now =
+    (usage : SymbolUse) (clauses : ℕ → Option TreeClause) → AreLookedUp usage clauses bound set given
+    → (more : List Inference) × (now ≡ before ++ more)
+    × AreSomeInferences usage.is_predicate (mode_of set.mode) clauses (is_meeting bound set given.number) more
+
+-- by all of them, or by some with which it has enough
+abbrev pub AddsMeetingsUpTo : Option ℕ → ℕ → PartnerSet → Member → List Inference → List Inference → Type 0
+AddsMeetingsUpTo most bound set given before now =
+    AddsMeetings bound set given before now ⊎ (IsTrue (is_enough most (length now)) × AddsSomeMeetings bound set given before now)
 
 -- ---- what is tried
 
@@ -93,28 +105,49 @@ name_from bound set given t entry =
 abbrev pub names : (ℕ → Option Key) → List ℕ → List Key
 names name entries = flat_map (λ n. option_to_list (name n)) entries
 
--- the list grew by the superpositions from a side of the clause into the places of its partners
-pub record MeetsPlaces (bound : ℕ) (set : PartnerSet) (given : Member) (s : LiteralSide) (before now : List Inference) : Type 0 where
+-- the list grew by the superpositions from a side of the clause into the places of its partners, or into some of them
+pub record MeetsPlaces (whole : Bool) (bound : ℕ) (set : PartnerSet) (given : Member) (s : LiteralSide) (before now : List Inference) : Type 0 where
   pub entries : List ℕ
   pub rise : IsStrictlyIncreasing entries
-  pub all : (query : Tree) → start_term (literals_of given) s ≡ Some query → HasCandidates enter_sites place_term set query entries
+  pub all : whole ≡ true → (query : Tree) → start_term (literals_of given) s ≡ Some query → HasCandidates enter_sites place_term set query entries
   pub adds : AddsNamed bound set given (names (name_into bound set given.number s) entries) before now
 
--- the list grew by the superpositions from sides of its partners into a place of the clause
-pub record MeetsStarts (bound : ℕ) (set : PartnerSet) (given : Member) (t : LiteralPlace) (before now : List Inference) : Type 0 where
+-- the list grew by the superpositions from sides of its partners into a place of the clause, or from some of them
+pub record MeetsStarts (whole : Bool) (bound : ℕ) (set : PartnerSet) (given : Member) (t : LiteralPlace) (before now : List Inference) : Type 0 where
   pub entries : List ℕ
   pub rise : IsStrictlyIncreasing entries
-  pub all : (query : Tree) → place_term (literals_of given) t ≡ Some query → HasCandidates start_sites start_term set query entries
+  pub all : whole ≡ true → (query : Tree) → place_term (literals_of given) t ≡ Some query → HasCandidates start_sites start_term set query entries
   pub adds : AddsNamed bound set given (names (name_from bound set given.number t) entries) before now
 
 -- from all sides of a list
-abbrev pub MeetsAllPlaces : ℕ → PartnerSet → Member → List LiteralSide → List Inference → List Inference → Type 0
-MeetsAllPlaces bound set given [] before now = now ≡ before
-MeetsAllPlaces bound set given (s ∷ ss) before now =
-    (middle : List Inference) × MeetsPlaces bound set given s before middle × MeetsAllPlaces bound set given ss middle now
+abbrev pub MeetsAllPlaces : Bool → ℕ → PartnerSet → Member → List LiteralSide → List Inference → List Inference → Type 0
+MeetsAllPlaces whole bound set given [] before now = now ≡ before
+MeetsAllPlaces whole bound set given (s ∷ ss) before now =
+    (middle : List Inference) × MeetsPlaces whole bound set given s before middle × MeetsAllPlaces whole bound set given ss middle now
 
 -- into all places of a list
-abbrev pub MeetsAllStarts : ℕ → PartnerSet → Member → List LiteralPlace → List Inference → List Inference → Type 0
-MeetsAllStarts bound set given [] before now = now ≡ before
-MeetsAllStarts bound set given (t ∷ ts) before now =
-    (middle : List Inference) × MeetsStarts bound set given t before middle × MeetsAllStarts bound set given ts middle now
+abbrev pub MeetsAllStarts : Bool → ℕ → PartnerSet → Member → List LiteralPlace → List Inference → List Inference → Type 0
+MeetsAllStarts whole bound set given [] before now = now ≡ before
+MeetsAllStarts whole bound set given (t ∷ ts) before now =
+    (middle : List Inference) × MeetsStarts whole bound set given t before middle × MeetsAllStarts whole bound set given ts middle now
+
+-- ---- until there are enough
+
+abbrev pub MeetsPlacesUpTo : Option ℕ → ℕ → PartnerSet → Member → LiteralSide → List Inference → List Inference → Type 0
+MeetsPlacesUpTo most bound set given s before now =
+    MeetsPlaces true bound set given s before now ⊎ (IsTrue (is_enough most (length now)) × MeetsPlaces false bound set given s before now)
+
+abbrev pub MeetsStartsUpTo : Option ℕ → ℕ → PartnerSet → Member → LiteralPlace → List Inference → List Inference → Type 0
+MeetsStartsUpTo most bound set given t before now =
+    MeetsStarts true bound set given t before now ⊎ (IsTrue (is_enough most (length now)) × MeetsStarts false bound set given t before now)
+
+-- or from the first sides of a list alone
+abbrev pub MeetsAllPlacesUpTo : Option ℕ → ℕ → PartnerSet → Member → List LiteralSide → List Inference → List Inference → Type 0
+MeetsAllPlacesUpTo most bound set given ss before now =
+    MeetsAllPlaces true bound set given ss before now
+    ⊎ (IsTrue (is_enough most (length now)) × ((k : ℕ) × MeetsAllPlaces false bound set given (take k ss) before now))
+
+abbrev pub MeetsAllStartsUpTo : Option ℕ → ℕ → PartnerSet → Member → List LiteralPlace → List Inference → List Inference → Type 0
+MeetsAllStartsUpTo most bound set given ts before now =
+    MeetsAllStarts true bound set given ts before now
+    ⊎ (IsTrue (is_enough most (length now)) × ((k : ℕ) × MeetsAllStarts false bound set given (take k ts) before now))

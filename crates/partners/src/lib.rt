@@ -9,7 +9,8 @@
 //! meet once, in the job of the later one.
 //!
 //! **What is proved.** `superpositions` adds every superposition between the clause and each member whose position is below the bound, both
-//! ways, each once: the same list that a scan over all pairs of sites would give, in another order. After out of memory the list is as before.
+//! ways, each once: the same list that a scan over all pairs of sites would give, in another order. `superpositions_up_to` adds all of these, or
+//! as many as are asked for. After out of memory the list is as before.
 //!
 //! **Cost.** A look-up for each site of the clause. What is found is sorted, so that the order of the inferences doesn't depend on the form
 //! of the tree, and runs repeat.

@@ -8,11 +8,12 @@ ghost use Rattle.superpose.specs.Pairing.{Begins};
 ghost use Rattle.superpose.specs.declared.sites.LiteralPlace.{LiteralPlace};
 ghost use Rattle.partners.specs.Meeting.{
   AddsMeetings,
+  AddsMeetingsUpTo,
   AddsNamed,
-  MeetsAllPlaces,
-  MeetsAllStarts,
-  MeetsPlaces,
-  MeetsStarts,
+  MeetsAllPlacesUpTo,
+  MeetsAllStartsUpTo,
+  MeetsPlacesUpTo,
+  MeetsStartsUpTo,
   is_partner,
   name_from,
   name_into,
@@ -23,7 +24,7 @@ ghost use Rattle.partners.specs.Partners.{AreOfBank, AreSitesFor};
 use crate::index::site_of;
 use crate::partners::Partners;
 use crate::site::Site;
-use eq_rules::Inference;
+use eq_rules::{Inference, is_enough};
 use plain_types::Mem;
 use std::alloc::Global;
 use superpose::{Premise, push_made, superposition};
@@ -48,8 +49,28 @@ impl Partners {
         ensures ok { IfOk result (λ _. AddsMeetings bound self.now given.now.member.now found.old.items found.new.items) }
         ensures err { OnErr result (found.new.items ≡ found.old.items) }
     {
+        self.superpositions_up_to(alloc, bank, given, bound, None, found)
+    }
+
+    /// As `superpositions`, in the same order, but it stops once the list has as many inferences as are enough.
+    pub fn superpositions_up_to(
+        &self,
+        alloc: Global,
+        bank: &Bank,
+        given: &Premise<'_>,
+        bound: usize,
+        most: Option<usize>,
+        found: &mut Vec<Inference>,
+    ) -> Mem<()>
+        requires members { AreOfBank bank.now self.now }
+        requires given_member { IsMemberOf bank.now given.now.member.now }
+        requires given_sites { AreSitesFor self.now.mode given.now.member.now given.now.sites.now }
+        requires another { is_partner bound self.now given.now.member.now.number ≡ false }
+        ensures ok { IfOk result (λ _. AddsMeetingsUpTo most bound self.now given.now.member.now found.old.items found.new.items) }
+        ensures err { OnErr result (found.new.items ≡ found.old.items) }
+    {
         let count = found.len();
-        match self.push_superpositions(alloc, bank, given, bound, found) {
+        match self.push_superpositions(alloc, bank, given, bound, most, found) {
             Ok(()) => Ok(()),
             Err(refused) => {
                 found.truncate(count);
@@ -58,49 +79,57 @@ impl Partners {
         }
     }
 
-    /// Adds them; after an out-of-memory error some may have been added.
+    /// Adds them until the list has enough; after an out-of-memory error some may have been added.
     fn push_superpositions(
         &self,
         alloc: Global,
         bank: &Bank,
         given: &Premise<'_>,
         bound: usize,
+        most: Option<usize>,
         found: &mut Vec<Inference>,
     ) -> Mem<()>
         requires members { AreOfBank bank.now self.now }
         requires given_member { IsMemberOf bank.now given.now.member.now }
         requires given_sites { AreSitesFor self.now.mode given.now.member.now given.now.sites.now }
         requires another { is_partner bound self.now given.now.member.now.number ≡ false }
-        ensures ok { IfOk result (λ _. AddsMeetings bound self.now given.now.member.now found.old.items found.new.items) }
+        ensures ok { IfOk result (λ _. AddsMeetingsUpTo most bound self.now given.now.member.now found.old.items found.new.items) }
         ensures begins { Begins found.old.items found.new.items }
     {
-        self.push_from(alloc, bank, given, bound, found)?;
-        self.push_into(alloc, bank, given, bound, found)
+        self.push_from(alloc, bank, given, bound, most, found)?;
+        if is_enough(most, found.len()) {
+            return Ok(());
+        }
+        self.push_into(alloc, bank, given, bound, most, found)
     }
 
-    /// Adds the superpositions from the sides of a clause into the places of its partners.
+    /// Adds the superpositions from the sides of a clause into the places of its partners, until the list has enough.
     fn push_from(
         &self,
         alloc: Global,
         bank: &Bank,
         given: &Premise<'_>,
         bound: usize,
+        most: Option<usize>,
         found: &mut Vec<Inference>,
     ) -> Mem<()>
         requires members { AreOfBank bank.now self.now }
         requires given_member { IsMemberOf bank.now given.now.member.now }
         requires given_sites { AreSitesFor self.now.mode given.now.member.now given.now.sites.now }
-        ensures ok { IfOk result (λ _. MeetsAllPlaces bound self.now given.now.member.now
+        ensures ok { IfOk result (λ _. MeetsAllPlacesUpTo most bound self.now given.now.member.now
             given.now.sites.now.from.items found.old.items found.new.items) }
         ensures begins { Begins found.old.items found.new.items }
     {
         for from in 0..given.sites.from.len() {
-            self.push_from_side(alloc, bank, given, from, bound, found)?;
+            self.push_from_side(alloc, bank, given, from, bound, most, found)?;
+            if is_enough(most, found.len()) {
+                return Ok(());
+            }
         }
         Ok(())
     }
 
-    /// Adds the superpositions from one side of a clause.
+    /// Adds the superpositions from one side of a clause, until the list has enough.
     fn push_from_side(
         &self,
         alloc: Global,
@@ -108,6 +137,7 @@ impl Partners {
         given: &Premise<'_>,
         from: usize,
         bound: usize,
+        most: Option<usize>,
         found: &mut Vec<Inference>,
     ) -> Mem<()>
         requires members { AreOfBank bank.now self.now }
@@ -115,7 +145,7 @@ impl Partners {
         requires given_sites { AreSitesFor self.now.mode given.now.member.now given.now.sites.now }
         requires inside { from < length given.now.sites.now.from.items }
         ensures ok { IfOk result (λ _. (s : LiteralSide) → slice_get given.now.sites.now.from.items from ≡ Some s
-            → MeetsPlaces bound self.now given.now.member.now s found.old.items found.new.items) }
+            → MeetsPlacesUpTo most bound self.now given.now.member.now s found.old.items found.new.items) }
         ensures begins { Begins found.old.items found.new.items }
     {
         let literals = given.member.clause.lend(bank);
@@ -125,6 +155,9 @@ impl Partners {
         let candidates = self.places_for(side)?;
         for candidate in candidates.as_slice() {
             self.try_place(alloc, bank, given, from, *candidate, bound, found)?;
+            if is_enough(most, found.len()) {
+                return Ok(());
+            }
         }
         Ok(())
     }
@@ -170,29 +203,33 @@ impl Partners {
         )
     }
 
-    /// Adds the superpositions from sides of the partners into the places of a clause.
+    /// Adds the superpositions from sides of the partners into the places of a clause, until the list has enough.
     fn push_into(
         &self,
         alloc: Global,
         bank: &Bank,
         given: &Premise<'_>,
         bound: usize,
+        most: Option<usize>,
         found: &mut Vec<Inference>,
     ) -> Mem<()>
         requires members { AreOfBank bank.now self.now }
         requires given_member { IsMemberOf bank.now given.now.member.now }
         requires given_sites { AreSitesFor self.now.mode given.now.member.now given.now.sites.now }
-        ensures ok { IfOk result (λ _. MeetsAllStarts bound self.now given.now.member.now
+        ensures ok { IfOk result (λ _. MeetsAllStartsUpTo most bound self.now given.now.member.now
             given.now.sites.now.into.items found.old.items found.new.items) }
         ensures begins { Begins found.old.items found.new.items }
     {
         for into in 0..given.sites.into.len() {
-            self.push_into_place(alloc, bank, given, into, bound, found)?;
+            self.push_into_place(alloc, bank, given, into, bound, most, found)?;
+            if is_enough(most, found.len()) {
+                return Ok(());
+            }
         }
         Ok(())
     }
 
-    /// Adds the superpositions into one place of a clause.
+    /// Adds the superpositions into one place of a clause, until the list has enough.
     fn push_into_place(
         &self,
         alloc: Global,
@@ -200,6 +237,7 @@ impl Partners {
         given: &Premise<'_>,
         into: usize,
         bound: usize,
+        most: Option<usize>,
         found: &mut Vec<Inference>,
     ) -> Mem<()>
         requires members { AreOfBank bank.now self.now }
@@ -207,7 +245,7 @@ impl Partners {
         requires given_sites { AreSitesFor self.now.mode given.now.member.now given.now.sites.now }
         requires inside { into < length given.now.sites.now.into.items }
         ensures ok { IfOk result (λ _. (t : LiteralPlace) → slice_get given.now.sites.now.into.items into ≡ Some t
-            → MeetsStarts bound self.now given.now.member.now t found.old.items found.new.items) }
+            → MeetsStartsUpTo most bound self.now given.now.member.now t found.old.items found.new.items) }
         ensures begins { Begins found.old.items found.new.items }
     {
         let literals = given.member.clause.lend(bank);
@@ -217,6 +255,9 @@ impl Partners {
         let candidates = self.starts_for(term)?;
         for candidate in candidates.as_slice() {
             self.try_start(alloc, bank, given, into, *candidate, bound, found)?;
+            if is_enough(most, found.len()) {
+                return Ok(());
+            }
         }
         Ok(())
     }

@@ -1,6 +1,8 @@
 pub mod Units
+pub mod Descent
 pub mod Redex
 pub mod Spots
+pub mod NormalTerms
 pub mod Index
 pub mod Searching
 pub mod Laws

@@ -16,6 +16,7 @@ use Rattle.bank_clause.specs.Clause.{clause_at, IsClauseOf, side_number}
 use Rattle.bank_clause.specs.declared.clause.BankClause.{BankClause}
 use Rattle.bank_clause.specs.declared.member.Member.{Member}
 use Rattle.disc_tree.specs.Entries.{IsIn}
+use Rattle.rewriting.specs.Descent.{Descends}
 use Rattle.rewriting.specs.declared.index.Orientation.{Orientation}
 use Rattle.rewriting.specs.declared.units.Unit.{Unit}
 
@@ -74,6 +75,7 @@ oriented Right by = by.right
 pub record IsRecorded (u : Unit) : Type 0 where
   pub unit : IsUnit (clause_at u.clause)
   pub rewrites : (s : Side) → oriented s u.by ≡ may_rewrite s unit.equation
+  pub descends : (s : Side) → IsTrue (may_rewrite s unit.equation) → Descends u.descent (side_of s unit.equation) (other_side_of s unit.equation)
 
 -- its number is one of 32 bits, and the sides by which it may rewrite are entries of the index
 pub record IsUnitAt (sides : List (Tree × ℕ)) (n : ℕ) (u : Unit) : Type 0 where

@@ -19,7 +19,9 @@
 //! 3. Does the side match the term, and is the instance of the other side smaller? The instance is never built: it is compared through the
 //!    match (`kbo_order`).
 //!
-//! The first unit that passes is the answer. `spot.rt` tells what the place of the term adds: a variable may not stand for an atom, and at
+//! The first unit that passes is the answer. A term that no unit rewrites is remembered for later searches (`normal_terms.rt`), where queries
+//! have several candidates each: the conclusions of one clause share many terms, and after a step the next search meets most terms again.
+//! The caller tells for how long the table serves: as long as the same units may be used. `spot.rt` tells what the place of the term adds: a variable may not stand for an atom, and at
 //! a side of a positive literal the new term must be smaller than the other side too. Otherwise the unit's instance would not be smaller than
 //! the literal that it rewrites, and the clause would not be redundant.
 //!
@@ -33,12 +35,15 @@
 //! **Hints.** In which order the tree lists its candidates decides only which redex is found first. No answer rests on it.
 //!
 //! **Cost.** One query of the tree for each application in the clause. The size test of step 2 and the stored orientation keep most
-//! candidates from being matched. A search takes memory for the path to the term and for the answers of the tree; nothing is kept.
+//! candidates from being matched. A search takes memory for the path to the term and for the answers of the tree. The table has at most 1,024
+//! terms of at most 48 symbols, and is made once it is used.
 #![tactic(auto)]
 
+mod descent;
 mod index;
 pub mod laws;
 mod members;
+mod normal_terms;
 mod searching;
 mod spot;
 mod trying;
@@ -46,6 +51,7 @@ mod units;
 mod usable;
 
 pub use members::rewritable;
+pub use normal_terms::NormalTerms;
 pub use searching::{Found, Rewrite, Rewriters};
 pub use units::{Units, is_unit};
 pub use usable::is_kept;

@@ -8,6 +8,7 @@ ghost use Rattle.rewriting.specs.Units.{IsUnit, clause_numbered};
 ghost use Rattle.rewriting.specs.Rewritable.{AreRewritable, IsRewrittenBy};
 ghost use Rattle.bank_clause.specs.Members.{IsMemberOfUse};
 
+use crate::normal_terms::NormalTerms;
 use crate::searching::Rewriters;
 use crate::units::Units;
 use bank_clause::{Member, Members};
@@ -68,6 +69,7 @@ fn is_rewritten(
         left_out: Some(member.number),
     };
     let literals = member.clause.lend(bank);
-    let found = by.find(alloc, &literals)?;
+    let mut normal = NormalTerms::new(alloc);
+    let found = by.find(alloc, &literals, &mut normal)?;
     Ok(found.is_some())
 }

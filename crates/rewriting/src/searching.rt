@@ -1,16 +1,18 @@
 // The search for a redex: in a term from the inside out, in a clause from left to right.
 
-ghost use Rattle.std.specs.Prelude.{◌≡◌, ◌<◌, ℕ, IfOk, map, sum_by, MatchOption};
+ghost use Rattle.std.specs.Prelude.{◌≡◌, ◌<◌, ℕ, IfOk, map, sum_by, MatchOption, None, Option};
 ghost use Rattle.fol_base.specs.Tree.{tree_size, trees_size, trees_of};
 ghost use Rattle.fol_base.specs.Term.{tree_of};
-ghost use Rattle.fol_base.specs.Clause.{literal_size};
+ghost use Rattle.fol_base.specs.Clause.{TreeClause, literal_size};
 ghost use Rattle.fol_base.specs.Lent.{lent_of};
 ghost use Rattle.fol_base.specs.declared.limits.TheConstants.{SIZE_LIMIT};
 ghost use Rattle.rewriting.specs.Units.{AreClausesOf};
-ghost use Rattle.rewriting.specs.Redex.{AreNormal};
+ghost use Rattle.rewriting.specs.Redex.{AreNormal, IsNormal, inner};
 ghost use Rattle.rewriting.specs.Searching.{IsFoundIn, IsFoundInSome, IsFoundOf, IsFoundOfLiteral, IsFoundOfSide, usable_by};
 ghost use Rattle.rewriting.specs.Spots.{LimitFits, spot_of};
+ghost use Rattle.rewriting.specs.NormalTerms.{RemembersNormal};
 
+use crate::normal_terms::NormalTerms;
 use crate::spot::Spot;
 use crate::units::Units;
 use fol_base::{LendsLiterals, LiteralRef, Position, Side, Term};
@@ -53,15 +55,18 @@ impl<'a> Rewriters<'a> {
         &self,
         alloc: Global,
         literals: &'t L,
+        normal: &mut NormalTerms,
     ) -> Mem<Option<Found<'t>>>
         requires units { AreClausesOf self.now.bank.now self.now.units.now }
         requires size { sum_by literal_size (L.meaning literals.now) < SIZE_LIMIT }
-        ensures { IfOk result (λ found. MatchOption found (AreNormal (usable_by self.now) (L.meaning literals.now))
+        requires remembers { RemembersNormal (usable_by self.now) normal.old }
+        ensures found { IfOk result (λ found. MatchOption found (AreNormal (usable_by self.now) (L.meaning literals.now))
             (IsFoundOf (usable_by self.now) (L.meaning literals.now))) }
+        ensures remembers { RemembersNormal (usable_by self.now) normal.new }
     {
         for index in 0..literals.count() {
             let literal = literals.literal(index);
-            if let Some(found) = self.find_in_literal(alloc, literal, index)? {
+            if let Some(found) = self.find_in_literal(alloc, literal, index, normal)? {
                 return Ok(Some(found));
             }
         }
@@ -74,15 +79,18 @@ impl<'a> Rewriters<'a> {
         alloc: Global,
         literal: LiteralRef<'t>,
         index: usize,
+        normal: &mut NormalTerms,
     ) -> Mem<Option<Found<'t>>>
         requires units { AreClausesOf self.now.bank.now self.now.units.now }
         requires size { literal_size (lent_of literal) < SIZE_LIMIT }
-        ensures { IfOk result (IsFoundOfLiteral (usable_by self.now) (lent_of literal.entry) index) }
+        requires remembers { RemembersNormal (usable_by self.now) normal.old }
+        ensures found { IfOk result (IsFoundOfLiteral (usable_by self.now) (lent_of literal.entry) index) }
+        ensures remembers { RemembersNormal (usable_by self.now) normal.new }
     {
-        match self.find_in_side(alloc, literal, index, Side::Left)? {
+        match self.find_in_side(alloc, literal, index, Side::Left, normal)? {
             Some(found) => Ok(Some(found)),
             None => {
-                let found = self.find_in_side(alloc, literal, index, Side::Right)?;
+                let found = self.find_in_side(alloc, literal, index, Side::Right, normal)?;
                 Ok(found)
             }
         }
@@ -95,14 +103,17 @@ impl<'a> Rewriters<'a> {
         literal: LiteralRef<'t>,
         index: usize,
         side: Side,
+        normal: &mut NormalTerms,
     ) -> Mem<Option<Found<'t>>>
         requires units { AreClausesOf self.now.bank.now self.now.units.now }
         requires size { literal_size (lent_of literal) < SIZE_LIMIT }
-        ensures { IfOk result (IsFoundOfSide (usable_by self.now) (lent_of literal.entry) index side) }
+        requires remembers { RemembersNormal (usable_by self.now) normal.old }
+        ensures found { IfOk result (IsFoundOfSide (usable_by self.now) (lent_of literal.entry) index side) }
+        ensures remembers { RemembersNormal (usable_by self.now) normal.new }
     {
         let mut path = Vec::new(alloc);
         let spot = Spot::root(literal, side);
-        match self.find_in_term(alloc, literal.side(side), spot, &mut path)? {
+        match self.find_in_term(alloc, literal.side(side), spot, &mut path, normal)? {
             None => Ok(None),
             Some(rewrite) => Ok(Some(Found {
                 literal: index,
@@ -121,19 +132,32 @@ impl<'a> Rewriters<'a> {
         term: &'t Term,
         spot: Spot<'_>,
         path: &mut Vec<u64>,
+        normal: &mut NormalTerms,
     ) -> Mem<Option<Rewrite<'t>>>
         requires units { AreClausesOf self.now.bank.now self.now.units.now }
         requires size { tree_size (tree_of term.now) < SIZE_LIMIT }
         requires limit { LimitFits (spot_of spot) }
-        ensures { IfOk result (IsFoundIn (usable_by self.now) (spot_of spot.entry) (tree_of term.now) path.old.items path.new.items) }
+        requires remembers { RemembersNormal (usable_by self.now) normal.old }
+        ensures found { IfOk result (IsFoundIn (usable_by self.now) (spot_of spot.entry) (tree_of term.now) path.old.items path.new.items) }
+        ensures remembers { RemembersNormal (usable_by self.now) normal.new }
     {
         match term {
             Term::Var(_) => Ok(None),
             Term::App(_, arguments) => {
-                if let Some(rewrite) = self.find_in_terms(alloc, arguments.as_slice(), path)? {
+                let place = normal.place_of(term);
+                if normal.knows(place, term) {
+                    return Ok(None);
+                }
+                if let Some(rewrite) = self.find_in_terms(
+                    alloc,
+                    arguments.as_slice(),
+                    path,
+                    normal,
+                )? {
                     return Ok(Some(rewrite));
                 }
-                let rewrite = self.rewrite_at(alloc, term, spot)?;
+                let rewrite = self.rewrite_at(alloc, term, spot, normal)?;
+                remember(normal, place, term, spot, &rewrite)?;
                 Ok(rewrite)
             }
         }
@@ -146,18 +170,47 @@ impl<'a> Rewriters<'a> {
         alloc: Global,
         terms: &'t [Term],
         path: &mut Vec<u64>,
+        normal: &mut NormalTerms,
     ) -> Mem<Option<Rewrite<'t>>>
         requires units { AreClausesOf self.now.bank.now self.now.units.now }
         requires size { trees_size (trees_of (map tree_of terms.now)) < SIZE_LIMIT }
-        ensures { IfOk result (IsFoundInSome (usable_by self.now) (map tree_of terms.now) path.old.items path.new.items) }
+        requires remembers { RemembersNormal (usable_by self.now) normal.old }
+        ensures found { IfOk result (IsFoundInSome (usable_by self.now) (map tree_of terms.now) path.old.items path.new.items) }
+        ensures remembers { RemembersNormal (usable_by self.now) normal.new }
     {
         for index in 0..terms.len() {
             path.push(index as u64)?;
-            if let Some(rewrite) = self.find_in_term(alloc, &terms[index], Spot::inner(), path)? {
+            if let Some(rewrite) = self.find_in_term(
+                alloc,
+                &terms[index],
+                Spot::inner(),
+                path,
+                normal,
+            )? {
                 return Ok(Some(rewrite));
             }
             path.pop();
         }
         Ok(None)
     }
+}
+
+/// Remembers a term that was searched at a spot below the root of a side, where nothing was found.
+fn remember(
+    normal: &mut NormalTerms,
+    place: Option<usize>,
+    term: &Term,
+    spot: Spot<'_>,
+    found: &Option<Rewrite<'_>>,
+) -> Mem<()>
+    ensures { (clauses : ℕ → Option TreeClause) → RemembersNormal clauses normal.old
+        → (found.now ≡ None → spot_of spot.entry ≡ inner → IsNormal clauses inner (tree_of term.now)) → RemembersNormal clauses normal.new }
+{
+    if found.is_some() {
+        return Ok(());
+    }
+    if !spot.is_inner() {
+        return Ok(());
+    }
+    normal.put(place, term)
 }

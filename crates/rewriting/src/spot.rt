@@ -35,6 +35,16 @@ impl<'s> Spot<'s> {
         }
     }
 
+    /// Whether it asks no more than one below the root of a side.
+    pub(crate) fn is_inner(self) -> bool
+        ensures { IsTrue result → spot_of self.entry ≡ inner }
+    {
+        match self.limit {
+            None => !self.is_atom,
+            Some(_) => false,
+        }
+    }
+
     /// At the root of a side of a literal.
     pub(crate) fn root(literal: LiteralRef<'s>, side: Side) -> Spot<'s>
         ensures { spot_of result ≡ root_spot side (lent_of literal.entry) }

@@ -3,6 +3,8 @@
 ghost use Rattle.std.specs.Prelude.{◌≡◌, ◌&&◌, ◌<◌, ◌*◌, ◌↔◌, IfOk, IfSome, IsTrue};
 ghost use Rattle.fol_base.specs.Clause.{clause_size};
 ghost use Rattle.fol_base.specs.Lent.{lent_of};
+ghost use Rattle.fol_base.specs.Sides.{other_side_of, side_of};
+ghost use Rattle.rewriting.specs.Descent.{Descends, DescendsTo};
 ghost use Rattle.fol_base.specs.Subsumption.{assertions, is_among};
 ghost use Rattle.fol_base.specs.Instance.{instance};
 ghost use Rattle.fol_base.specs.Order.{tree_greater};
@@ -17,9 +19,11 @@ ghost use Rattle.rewriting.specs.Units.{AreClausesOf, IsRecorded, has_other_vari
 ghost use Rattle.rewriting.specs.Spots.{LimitFits, spot_of};
 ghost use Rattle.rewriting.specs.Searching.{IsFoundAt, IsMatchedSide, IsTried, usable_by};
 
+use crate::descent::Descent;
 use crate::index::side_of_number;
+use crate::normal_terms::NormalTerms;
 use crate::searching::{Rewrite, Rewriters};
-use crate::spot::{Spot, is_smaller};
+use crate::spot::Spot;
 use crate::units::Unit;
 use crate::usable::is_kept;
 use bank_clause::BankClause;
@@ -29,19 +33,22 @@ use std::alloc::Global;
 use unifier::{Matched, match_onto};
 
 impl<'a> Rewriters<'a> {
-    /// A unit that rewrites a term at the spot where it stands. None exactly where none does.
+    /// A unit that rewrites a term at the spot where it stands. None exactly where none does. The table counts the candidates.
     pub(crate) fn rewrite_at<'t>(
         &self,
         alloc: Global,
         term: &'t Term,
         spot: Spot<'_>,
+        normal: &mut NormalTerms,
     ) -> Mem<Option<Rewrite<'t>>>
         requires units { AreClausesOf self.now.bank.now self.now.units.now }
         requires size { tree_size (tree_of term.now) < SIZE_LIMIT }
         requires limit { LimitFits (spot_of spot) }
-        ensures { IfOk result (IsFoundAt (usable_by self.now) (spot_of spot.entry) (tree_of term.now)) }
+        ensures found { IfOk result (IsFoundAt (usable_by self.now) (spot_of spot.entry) (tree_of term.now)) }
+        ensures terms { normal.new.places ≡ normal.old.places }
     {
         let found = self.units.candidates(term)?;
+        count_candidates(normal, spot, found.len());
         if found.is_empty() {
             return Ok(None);
         }
@@ -80,7 +87,8 @@ impl<'a> Rewriters<'a> {
             return Ok(None);
         }
         let literals = unit.clause.lend(self.bank);
-        match match_side(alloc, literals.literal(0), side, term, size, spot)? {
+        let equation = literals.literal(0);
+        match match_side(alloc, equation, side, unit.descent, term, size, spot)? {
             None => Ok(None),
             Some(terms) => Ok(Some(Rewrite {
                 number,
@@ -113,6 +121,16 @@ impl<'a> Rewriters<'a> {
     }
 }
 
+/// Counts the candidates for a term that may be remembered: one below the root of a side.
+fn count_candidates(normal: &mut NormalTerms, spot: Spot<'_>, candidates: usize)
+    ensures { normal.new.places ≡ normal.old.places }
+{
+    if !spot.is_inner() {
+        return;
+    }
+    normal.count(candidates);
+}
+
 /// Whether a unit has more than twice as many symbols as a term of a size. Then it doesn't rewrite the term: a side that matches it has at
 /// most as many, so the other side has more, and so has each instance of that one, which isn't smaller than the term.
 fn is_too_large(unit: &BankClause, size: u64) -> bool
@@ -128,11 +146,13 @@ fn match_side<'t>(
     alloc: Global,
     equation: LiteralRef<'_>,
     side: Side,
+    descent: Descent,
     term: &'t Term,
     size: u64,
     spot: Spot<'_>,
 ) -> Mem<Option<Matched<'t>>>
     requires variables { IsTrue (has_other_variables side (lent_of equation)) }
+    requires descends { Descends descent (side_of side (lent_of equation)) (other_side_of side (lent_of equation)) }
     requires size { size ≡ tree_size (tree_of term.now) }
     requires small { size < SIZE_LIMIT }
     requires limit { LimitFits (spot_of spot) }
@@ -145,7 +165,7 @@ fn match_side<'t>(
     match match_onto(alloc, pattern, term, &Matched::empty(alloc))? {
         None => Ok(None),
         Some(terms) => {
-            if takes(spot, term, size, equation.other_side(side), &terms) {
+            if takes(descent, spot, term, size, equation.other_side(side), &terms) {
                 Ok(Some(terms))
             } else {
                 Ok(None)
@@ -155,14 +175,22 @@ fn match_side<'t>(
 }
 
 /// Whether an instance may take the place of a term, which has a size, at a spot: it is smaller, and within the limit.
-fn takes(spot: Spot<'_>, old: &Term, size: u64, new: &Term, terms: &Matched<'_>) -> bool
+fn takes(
+    descent: Descent,
+    spot: Spot<'_>,
+    old: &Term,
+    size: u64,
+    new: &Term,
+    terms: &Matched<'_>,
+) -> bool
     requires size { size ≡ tree_size (tree_of old.now) }
     requires small { size < SIZE_LIMIT }
     requires limit { LimitFits (spot_of spot) }
+    requires descends { DescendsTo descent (tree_of old.now) (instance (by_pairs terms.now) (tree_of new.now)) }
     ensures { result ≡ (tree_greater (tree_of old.now) (instance (by_pairs terms.now) (tree_of new.now))
         && is_within (spot_of spot.entry).limit (instance (by_pairs terms.now) (tree_of new.now))) }
 {
-    is_smaller(new, terms, old, size) && spot.admits(new, terms)
+    descent.is_smaller(new, terms, old, size) && spot.admits(new, terms)
 }
 
 /// Whether a variable would stand for an atom at a spot.

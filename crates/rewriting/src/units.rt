@@ -7,6 +7,7 @@ ghost use Rattle.fol_base.specs.Term.{tree_of};
 ghost use Rattle.term_bank.specs.declared.bank.Bank.{Bank};
 ghost use Rattle.rewriting.specs.Units.{AreClausesOf, HasCandidates, IsRecorded, IsUnit, clause_numbered};
 
+use crate::descent::{Descent, descent_of};
 use crate::index::{Orientation, orient, put_sides, take_sides};
 use bank_clause::{BankClause, Member};
 use disc_tree::DiscTree;
@@ -27,11 +28,12 @@ pub struct Units {
     sides: DiscTree,
 }
 
-/// A unit, and by which of its sides it may rewrite.
+/// A unit, by which of its sides it may rewrite, and how these compare with the other ones.
 #[derive(Drop)]
 pub(crate) struct Unit {
     pub(crate) clause: BankClause,
     pub(crate) by: Orientation,
+    pub(crate) descent: Descent,
 }
 
 /// Whether a clause is one equation.
@@ -90,10 +92,14 @@ impl Units {
         let literals = member.clause.lend(bank);
         let equation = literals.literal(0);
         let by = orient(alloc, equation)?;
+        let descent = descent_of(alloc, equation)?;
         put_sides(&mut self.sides, member.number, equation, by)?;
-        self.clauses
-            .insert(u64::from(member.number), Unit { clause, by })
-            .unwrap();
+        let unit = Unit {
+            clause,
+            by,
+            descent,
+        };
+        self.clauses.insert(u64::from(member.number), unit).unwrap();
         Ok(())
     }
 

@@ -3,4 +3,5 @@ pub mod EditLemmas
 pub mod FeatureLemmas
 pub mod MembersLemmas
 pub mod NumberLemmas
+pub mod PartedLemmas
 pub mod PlaceSums

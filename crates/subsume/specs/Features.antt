@@ -1,11 +1,11 @@
 -- Features of clauses: numbers that are no greater in a clause than in each clause that it subsumes (Schulz, Simple and efficient clause
 -- subsumption with feature vector indexing, 2013).
 use mathlib.Core.Bool.{beq}
-use Rattle.std.specs.Prelude.{◌≡◌, ℕ, zero, suc, ◌+◌, ◌*◌, ◌%◌, ◌<◌, ◌≤◌, Bool, true, false, ◌==◌, List, [], ◌∷◌, min, sum_by, slice_index, if◌then◌else◌}
+use Rattle.std.specs.Prelude.{◌≡◌, ℕ, zero, suc, ◌+◌, ◌*◌, ◌/◌, ◌%◌, ◌<◌, ◌≤◌, Bool, true, false, ◌==◌, List, [], ◌∷◌, min, sum_by, slice_index, if◌then◌else◌}
 use Rattle.fol_base.specs.Tree.{Tree, variable, application, Trees, no_trees, tree_then}
 use Rattle.fol_base.specs.Clause.{TreeLiteral, TreeClause, literal_size}
 use Rattle.fol_base.specs.Subsumption.{Subsumes}
-use Rattle.subsume.specs.declared.vector.TheConstants.{MEASURES, CLASSES, MOST}
+use Rattle.subsume.specs.declared.vector.TheConstants.{DIGITS, HUNDREDS_DIGIT, LAST_DIGIT, MEASURES, MOST, TENS_DIGIT}
 
 -- summed up over the literals of a sign
 abbrev pub by_sign : Bool → (TreeLiteral → ℕ) → TreeLiteral → ℕ
@@ -37,8 +37,16 @@ abbrev mutual
   trees_weight weight each no_trees = 0
   trees_weight weight each (tree_then t ts) = tree_weight weight each t + trees_weight weight each ts
 
--- Measure 0 counts literals, measure 1 symbols and variables, and each further one the symbols of a class: those whose numbers have one
--- remainder.
+-- Measure 0 counts literals, measure 1 symbols and variables, and each further one the symbols that have a digit at one of the three last places
+-- of their number: so up to a thousand symbols are told apart.
+abbrev pub for_digit : ℕ → ℕ → ℕ → ℕ
+for_digit first digit k = if k == first + digit then 1 else 0
+
+abbrev pub digit_measure : ℕ → ℕ → ℕ
+digit_measure k f =
+    for_digit LAST_DIGIT (f % DIGITS) k
+    + (for_digit TENS_DIGIT (f / DIGITS % DIGITS) k + for_digit HUNDREDS_DIGIT (f / DIGITS / DIGITS % DIGITS) k)
+
 abbrev pub for_literal : ℕ → ℕ
 for_literal zero = 1
 for_literal (suc k) = 0
@@ -46,7 +54,7 @@ for_literal (suc k) = 0
 abbrev pub for_symbol : ℕ → ℕ → ℕ
 for_symbol zero f = 0
 for_symbol (suc zero) f = 1
-for_symbol (suc (suc k)) f = if f % CLASSES == k then 1 else 0
+for_symbol (suc (suc k)) f = digit_measure (suc (suc k)) f
 
 abbrev pub for_variable : ℕ → ℕ
 for_variable zero = 0

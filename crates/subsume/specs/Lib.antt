@@ -7,6 +7,7 @@ pub mod Features
 pub mod MemberCode
 pub mod Tree
 pub mod Searching
+pub mod Longer
 pub mod Query
 pub mod Editing
 pub mod Members

@@ -6,6 +6,7 @@ use Rattle.bank_clause.specs.declared.member.Member.{Member}
 use Rattle.subsume.specs.Features.{AreFeaturesOf}
 use Rattle.subsume.specs.Target.{IsTargetOf}
 use Rattle.subsume.specs.Searching.{IsSubsumer, IsBelow, IsLowestBelow}
+use Rattle.subsume.specs.Longer.{IsLongerSubsumer, IsSomeOrNone}
 use Rattle.bank_clause.specs.Members.{IsMemberOfUse, AreMembersOfUse}
 use Rattle.subsume.specs.declared.lowest.Query.{Query}
 
@@ -20,6 +21,12 @@ abbrev pub IsLowestSubsumer : Query → List Member → Option ℕ → Option �
 IsLowestSubsumer query ms before after =
     (usage : SymbolUse) (d : TreeClause) → IsQueryFor query usage d → AreMembersOfUse usage ms
     → IsLowestBelow (IsSubsumer usage query.except d) ms before after
+
+-- some subsumer that is longer, or none is one
+abbrev pub IsLongerSubsumerOf : Query → List Member → Option ℕ → Type 0
+IsLongerSubsumerOf query ms found =
+    (usage : SymbolUse) (d : TreeClause) → IsQueryFor query usage d → AreMembersOfUse usage ms
+    → IsSomeOrNone (IsLongerSubsumer usage query.except d) ms found
 
 -- the member is a subsumer below the bound exactly where the answer says so
 abbrev pub IsLowering : Query → Member → Option ℕ → Bool → Type 0

@@ -1,5 +1,5 @@
 -- A tree that divides members by their features.
-use Rattle.std.specs.Prelude.{ℕ, suc, ◌+◌, ◌<◌, ◌≤◌, Bool, List, ◌++◌, map, min, All}
+use Rattle.std.specs.Prelude.{ℕ, suc, ◌+◌, ◌<◌, ◌≤◌, Bool, List, ◌++◌, map, min, slice_index, All}
 use Rattle.fol_base.specs.Clause.{TreeClause}
 use Rattle.bank_clause.specs.Clause.{clause_at}
 use Rattle.bank_clause.specs.declared.member.Member.{Member}
@@ -8,7 +8,7 @@ use Rattle.subsume.specs.declared.vector.TheConstants.{MEASURES, MOST}
 use Rattle.subsume.specs.declared.tree.Node.{Node}
 use Rattle.subsume.specs.declared.tree.Node.TheVariants.{Leaf, Branch}
 use Rattle.subsume.specs.declared.tree.Division.{Division}
-use Rattle.subsume.specs.Features.{measured, literal_measure, AreFeaturesOf}
+use Rattle.subsume.specs.Features.{measured, literal_measure, slot, AreFeaturesOf}
 
 -- a measure over the literals of a sign, up to the highest value that is told apart
 abbrev pub feature : Bool → ℕ → TreeClause → ℕ
@@ -33,11 +33,16 @@ abbrev pub content : Node → List Member × ℕ
 content (Leaf entries) = (members_of entries.items, 0)
 content (Branch b) = (both_sides b.value, suc (b.value.low.1 + b.value.high.1))
 
--- a division by a feature: what has no more of it, and what has more
+-- a member has no more of any feature
+abbrev pub IsBoundedBy : List ℕ → Member → Type 0
+IsBoundedBy values m = (positive : Bool) (k : ℕ) → k < MEASURES → member_feature positive k m ≤ slice_index values (slot positive k)
+
+-- a division by a feature: what has no more of it, and what has more, with a bound of the latter's features
 pub record IsDivision (d : Division) : Type 0 where
   pub inside : d.measure < MEASURES
   pub low : All (λ m. member_feature d.positive d.measure m ≤ d.most) d.low.0
   pub high : All (λ m. d.most < member_feature d.positive d.measure m) d.high.0
+  pub bound : All (IsBoundedBy d.bound.values) d.high.0
 
 abbrev pub IsSound : Node → Type 0
 IsSound (Leaf entries) = All IsEntry entries.items

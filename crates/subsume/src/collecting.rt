@@ -42,6 +42,9 @@ impl FeatureTree {
                 if features.value(division.positive, division.measure) <= division.most {
                     division.low.collect(alloc, bank, by, features, found)?;
                 }
+                if !features.are_at_most(&division.bound) {
+                    return Ok(());
+                }
                 division.high.collect(alloc, bank, by, features, found)
             }
         }

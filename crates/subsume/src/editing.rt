@@ -3,7 +3,7 @@
 ghost use Rattle.std.specs.Prelude.{◌≡◌, ◌∷◌, ◌++◌, [], ◌≤◌, ◌<◌, ℕ, IfOk, IfSome, OnErr, IsTrue, IsPermutation, All, vec_len, vec_capacity, true, false};
 ghost use Rattle.bank_clause.specs.Clause.{clause_at};
 ghost use Rattle.subsume.specs.Features.{AreFeaturesOf};
-ghost use Rattle.subsume.specs.Tree.{IsDivision, IsEntry, IsSound, both_sides, content, members_of};
+ghost use Rattle.subsume.specs.Tree.{IsBoundedBy, IsDivision, IsEntry, IsSound, both_sides, content, members_of};
 ghost use Rattle.subsume.specs.Editing.{HasAtMost, HasMore, HasNone, HasNoNumber, IsNumbered, IsPlaceOf};
 
 use crate::entry::Entry;
@@ -81,6 +81,7 @@ fn insert_beside(alloc: Global, division: &mut Division, entry: Entry) -> Mem<()
     if entry.features.value(division.positive, division.measure) <= division.most {
         division.low.insert(alloc, entry)
     } else {
+        division.bound.raise(&entry.features);
         division.high.insert(alloc, entry)
     }
 }
@@ -179,6 +180,18 @@ fn divided(alloc: Global, entries: Vec<Entry>) -> Node
     Node::Branch(division)
 }
 
+/// The least features that bound those of entries.
+fn bound_of(entries: &[Entry]) -> Features
+    requires { All IsEntry entries.now }
+    ensures { All (IsBoundedBy result.values) (members_of entries.now) }
+{
+    let mut bound = Features::none();
+    for entry in entries {
+        bound.raise(&entry.features);
+    }
+    bound
+}
+
 /// Gives a division its members.
 fn set_sides(division: &mut Division, low: Vec<Entry>, high: Vec<Entry>)
     requires low { All IsEntry low.items }
@@ -188,7 +201,9 @@ fn set_sides(division: &mut Division, low: Vec<Entry>, high: Vec<Entry>)
     ensures most { division.new.most ≡ division.old.most }
     ensures low { division.new.low.0 ≡ members_of low.items }
     ensures high { division.new.high.0 ≡ members_of high.items }
+    ensures bound { All (IsBoundedBy division.new.bound.values) (members_of high.items) }
 {
+    division.bound = bound_of(&high);
     division.low = FeatureTree {
         node: Node::Leaf(low),
     };
@@ -210,10 +225,11 @@ fn empty_division(alloc: Global, cut: Cut) -> Division
         most: cut.most,
         low: FeatureTree::new(alloc),
         high: FeatureTree::new(alloc),
+        bound: Features::none(),
     }
 }
 
-/// Moves the entries to the side of a cut on which each belongs. There is room for them.
+/// Moves the entries to the side of a cut on which each belongs. There is room for them; what is left of it is given back.
 fn share_out(entries: Vec<Entry>, cut: Cut, low: &mut Vec<Entry>, high: &mut Vec<Entry>)
     requires measure { cut.measure < MEASURES }
     requires low_empty { low.old.items ≡ [] }
@@ -232,6 +248,8 @@ fn share_out(entries: Vec<Entry>, cut: Cut, low: &mut Vec<Entry>, high: &mut Vec
             high.push_reserved(entry);
         }
     }
+    low.shrink_to_fit();
+    high.shrink_to_fit();
 }
 
 /// The cut in the middle of the measure in which entries differ most. None where they differ in none.

@@ -9,15 +9,19 @@
 //! partners, the search stops (`crowding.rt`, a case of Hall's theorem). None of the three changes the answer: they are hints, and the
 //! contracts say "none exactly where no substitution does".
 //!
-//! **Sets** (`subsumers.rt`). A clause that subsumes another has no feature greater than the other's. The sixteen features are Schulz's
+//! **Sets** (`subsumers.rt`). A clause that subsumes another has no feature greater than the other's. The 64 features are Schulz's
 //! (Simple and Efficient Clause Subsumption with Feature Vector Indexing, 2004): over the positive literals and over the negative ones, the
-//! number of literals, the number of symbols and variables, and the number of symbols in each of six classes (`vector.rt`). They are kept in
-//! 16 bits each, and what is larger counts as the largest. `tree.rt` divides the members by one feature at each node; `editing.rt` chooses
-//! the feature when a leaf is too full. `lowest.rt` looks for the lowest member that subsumes a clause (forward), `collecting.rt` for all
-//! members that a clause subsumes (backward). At a leaf the features are compared first, then the clauses.
+//! number of literals, the number of symbols and variables, and the number of symbols in each of thirty classes: those whose number has a
+//! digit at one of the last three places, so that up to a thousand symbols are told apart (`vector.rt`). They are kept in 16 bits each, and
+//! what is larger counts as the largest. `tree.rt` divides the members by one feature at each node; `editing.rt` chooses the feature when a
+//! leaf is too full. `lowest.rt` looks for the lowest member that subsumes a clause (forward), `collecting.rt` for all members that a clause
+//! subsumes (backward); it leaves out the high side of a division where no member of it has as much of each feature. At a leaf the features
+//! are compared first, then the clauses. Members with one literal have a tree of their own (`parted.rt`), so that `forward_longer` can leave
+//! them out: an index of their sides, as `unit_cutting` has one, finds those that subsume sooner.
 //!
-//! **What is proved.** `subsumes` gives a substitution exactly where there is one. `forward` gives the lowest subsumer, `backward` exactly the
-//! members that are subsumed, rising. That the tree leaves nothing out is part of this.
+//! **What is proved.** `subsumes` gives a substitution exactly where there is one. `forward` gives the lowest subsumer, `forward_longer`
+//! some subsumer with several literals or none, `backward` exactly the members that are subsumed, rising. That the trees leave nothing out
+//! is part of this.
 //!
 //! **Cost.** Copies of clauses that can't be told apart by the features end in one leaf, and each search looks at all of it.
 #![tactic(auto)]
@@ -30,6 +34,7 @@ mod editing;
 mod entry;
 mod lowest;
 mod matching;
+mod parted;
 mod placing;
 mod searching;
 mod subsumers;
@@ -40,7 +45,7 @@ mod vector;
 
 pub use counting::features;
 pub use matching::{are_alike, match_sides};
-pub use searching::{backward, forward, forward_except};
+pub use searching::{backward, forward, forward_except, forward_longer};
 pub use subsumers::Subsumers;
 pub use subsuming::subsumes;
 

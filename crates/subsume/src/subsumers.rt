@@ -7,7 +7,7 @@ ghost use Rattle.subsume.specs.Editing.{HasNoNumber, IsNumbered};
 ghost use Rattle.subsume.specs.Members.{numbers_of};
 
 use crate::entry::Entry;
-use crate::tree::FeatureTree;
+use crate::parted::PartedMembers;
 use crate::vector::Features;
 use bank_clause::Member;
 use indexmap::IndexMap;
@@ -20,7 +20,7 @@ use term_bank::Bank;
 #[derive(Drop)]
 pub struct Subsumers {
     alloc: Global,
-    pub(crate) tree: FeatureTree,
+    pub(crate) members: PartedMembers,
     /// The features of each member, by its number.
     known: IndexMap<u32, Features>,
 }
@@ -37,9 +37,9 @@ impl Model for Subsumers {
 
     ghost use Rattle.subsume.specs.Members.{AreKnown};
 
-    ghost view = { λ a. a.tree.0 };
+    ghost view = { λ a. a.members };
 
-    ghost invariant = { λ a. AreKnown a.tree.0 a.known.entries };
+    ghost invariant = { λ a. AreKnown a.members a.known.entries };
 }
 
 impl Subsumers {
@@ -49,7 +49,7 @@ impl Subsumers {
     {
         Ok(Subsumers {
             alloc,
-            tree: FeatureTree::new(alloc),
+            members: PartedMembers::new(alloc),
             known: IndexMap::new(alloc),
         })
     }
@@ -77,7 +77,7 @@ impl Subsumers {
             features,
             member: Member { number, clause },
         };
-        self.tree.insert(self.alloc, entry)?;
+        self.members.insert(self.alloc, entry)?;
         let _ = self.known.insert(number, features).unwrap();
         Ok(())
     }
@@ -91,7 +91,7 @@ impl Subsumers {
     {
         match self.known.swap_remove(&number) {
             None => false,
-            Some(features) => self.tree.remove(&features, number),
+            Some(features) => self.members.remove(&features, number),
         }
     }
 }

@@ -34,6 +34,8 @@ pub(crate) struct Division {
     pub(crate) most: u16,
     pub(crate) low: FeatureTree,
     pub(crate) high: FeatureTree,
+    /// No member of the high side has more of any feature.
+    pub(crate) bound: Features,
 }
 
 impl Model for FeatureTree {

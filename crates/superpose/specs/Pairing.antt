@@ -1,5 +1,5 @@
 -- All superpositions of one clause into another.
-use Rattle.std.specs.Prelude.{◌≡◌, ℕ, Bool, true, false, not, ◌&&◌, ◌==◌, List, [], ◌∷◌, ◌++◌, length, take, map, flat_map, Option, None, Some, IsTrue, if◌then◌else◌}
+use Rattle.std.specs.Prelude.{◌≡◌, ◌⊎◌, ℕ, Bool, true, false, not, ◌&&◌, ◌==◌, List, [], ◌∷◌, ◌++◌, length, take, map, flat_map, Option, None, Some, IsTrue, if◌then◌else◌}
 use Rattle.fol_base.specs.Clause.{TreeClause}
 use Rattle.fol_base.specs.Selection.{SelectionMode}
 use Rattle.fol_base.specs.WellFormed.{SymbolUse, are_literals_of}
@@ -7,7 +7,7 @@ use Rattle.kernel_steps.specs.declared.key.Key.{Key}
 use Rattle.kernel_steps.specs.declared.key.Key.TheVariants.{Para}
 use Rattle.bank_clause.specs.Clause.{clause_at}
 use Rattle.bank_clause.specs.declared.member.Member.{Member}
-use Rattle.eq_rules.specs.Inferences.{AreInferences, alone}
+use Rattle.eq_rules.specs.Inferences.{AreInferences, AreSomeInferences, alone, is_enough}
 use Rattle.eq_rules.specs.Trying.{IsTried}
 use Rattle.eq_rules.specs.declared.inference.Made.{Made}
 use Rattle.eq_rules.specs.declared.inference.Inference.{Inference}
@@ -45,6 +45,13 @@ AddsTried mode m n keys before now =
     → clauses m.number ≡ Some (clause_at m.clause) → clauses n.number ≡ Some (clause_at n.clause)
     → (more : List Inference) × (now ≡ before ++ more) × AreTried usage.is_predicate mode clauses keys more
 
+-- the list grew by the inferences of these names, or of some first ones of them, with which it has enough
+abbrev pub TriesUpTo : Option ℕ → SelectionMode → Member → Member → List Key → List Inference → List Inference → Type 0
+TriesUpTo most mode m n keys before now =
+    AddsTried mode m n keys before now
+    ⊎ (IsTrue (is_enough most (length now))
+    × ((tried : List Key) × (rest : List Key) × (keys ≡ tried ++ rest) × AddsTried mode m n tried before now))
+
 -- all names from sites of the first into sites of the second
 abbrev pub pair_keys : SelectionMode → Member → Member → List Key
 pair_keys mode m n =
@@ -68,6 +75,19 @@ AddsSuperpositions mode m n before now =
     → IsTrue (are_literals_of usage (clause_at m.clause).literals) → IsTrue (are_literals_of usage (clause_at n.clause).literals)
     → clauses m.number ≡ Some (clause_at m.clause) → clauses n.number ≡ Some (clause_at n.clause)
     → (more : List Inference) × (now ≡ before ++ more) × AreInferences usage.is_predicate mode clauses (is_from_into m.number n.number) more
+
+-- by some of them, each once
+abbrev pub AddsSomeSuperpositions : SelectionMode → Member → Member → List Inference → List Inference → Type 0
+AddsSomeSuperpositions mode m n before now =
+    (usage : SymbolUse) (clauses : ℕ → Option TreeClause)
+    → IsTrue (are_literals_of usage (clause_at m.clause).literals) → IsTrue (are_literals_of usage (clause_at n.clause).literals)
+    → clauses m.number ≡ Some (clause_at m.clause) → clauses n.number ≡ Some (clause_at n.clause)
+    → (more : List Inference) × (now ≡ before ++ more) × AreSomeInferences usage.is_predicate mode clauses (is_from_into m.number n.number) more
+
+-- by all of them, or by some with which it has enough
+abbrev pub AddsSuperpositionsUpTo : Option ℕ → SelectionMode → Member → Member → List Inference → List Inference → Type 0
+AddsSuperpositionsUpTo most mode m n before now =
+    AddsSuperpositions mode m n before now ⊎ (IsTrue (is_enough most (length now)) × AddsSomeSuperpositions mode m n before now)
 
 -- the clauses of two members, by their numbers
 abbrev pub two : Member → Member → ℕ → Option TreeClause

@@ -2,8 +2,12 @@
 use Rattle.std.specs.Prelude.{◌≡◌, ◌↔◌, ℕ, true, List, length, slice_get, Option, None, Some}
 use Rattle.fol_base.specs.Clause.{TreeLiteral}
 use Rattle.fol_base.specs.Order.{tree_greater, literal_greater}
+use Rattle.fol_base.specs.Ground.{literals_instance}
+use Rattle.fol_base.specs.Instance.{Substitution}
+use Rattle.fol_base.specs.Selection.{eligible}
 use Rattle.fol_base.specs.Sides.{side_of, other_side_of}
 use Rattle.fol_base.specs.declared.clause.Side.TheVariants.{Left, Right}
+use Rattle.kernel_steps.specs.Inference.{other_side_not_above}
 use Rattle.eq_rules.specs.declared.concluding.LiteralSide.{LiteralSide}
 use Rattle.superpose.specs.declared.settled.SettledSides.{SettledSides}
 
@@ -34,3 +38,10 @@ pub record AreSettledSides (ls : List TreeLiteral) (choice : Option ℕ) (i : �
 pub record AreSettled (ls : List TreeLiteral) (choice : Option ℕ) (settled : List SettledSides) : Type 0 where
   pub many : length settled ≡ length ls
   pub each : (i : ℕ) (sides : SettledSides) → slice_get settled i ≡ Some sides → AreSettledSides ls choice i sides
+
+-- under a substitution the other side isn't above the side, and its literal is eligible
+pub record IsInOrder (ls : List TreeLiteral) (choice : Option ℕ) (σ : Substitution) (s : LiteralSide) : Type 0 where
+  pub literal : TreeLiteral
+  pub there : slice_get ls s.literal ≡ Some literal
+  pub beside : other_side_not_above σ s.side literal ≡ true
+  pub eligible_there : eligible (literals_instance σ ls) s.literal choice literal.positive ≡ true

@@ -1,12 +1,13 @@
 -- The sites of a clause: the sides from which a superposition can start, and the places into which one can go, as far as the clause alone
 -- tells it, before any unifier.
-use Rattle.std.specs.Prelude.{◌≡◌, ℕ, suc, Bool, true, false, ◌&&◌, not, List, [], ◌∷◌, ◌++◌, map, flat_map, filter, length, slice_get, Contains, Option, None, Some, if◌then◌else◌}
+use Rattle.std.specs.Prelude.{◌≡◌, ℕ, suc, Bool, true, false, ◌&&◌, not, List, [], ◌∷◌, ◌++◌, map, flat_map, filter, length, slice_get, Contains, Option, None, Some, IsTrue, if◌then◌else◌}
 use Rattle.std.specs.Option.{is_some}
 use Rattle.fol_base.specs.Tree.{Tree, variable, application, Trees, no_trees, tree_then, is_truth}
 use Rattle.fol_base.specs.Clause.{TreeLiteral, TreeClause}
 use Rattle.fol_base.specs.Canonical.{numbers_from}
 use Rattle.fol_base.specs.Selection.{SelectionMode, chosen, eligible}
-use Rattle.fol_base.specs.Sides.{side_of}
+use Rattle.fol_base.specs.Sides.{side_of, other_side_of}
+use Rattle.fol_base.specs.WellFormed.{SymbolUse, are_literals_of}
 use Rattle.fol_base.specs.declared.clause.Side.{Side}
 use Rattle.fol_base.specs.declared.clause.Side.TheVariants.{Left, Right}
 use Rattle.kernel_steps.specs.Inference.{NamedSuperposition, other_side_not_above}
@@ -34,6 +35,11 @@ abbrev mutual
   pub places_from : ℕ → Trees → List (List ℕ)
   places_from i no_trees = []
   places_from i (tree_then t ts) = map (λ p. i ∷ p) (places t) ++ places_from (suc i) ts
+
+-- the places below the root
+abbrev pub inner_places : Tree → List (List ℕ)
+inner_places (variable v) = []
+inner_places (application f ts) = places_from 0 ts
 
 -- a place of a term that stands at a path of a side, as a place of the side
 abbrev pub below_path : LiteralSide → List ℕ → List ℕ → LiteralPlace
@@ -68,9 +74,18 @@ can_enter mode ls s = literal_enters ls (chosen mode ls) s (slice_get ls s.liter
 abbrev pub start_sites : SelectionMode → List TreeLiteral → List LiteralSide
 start_sites mode ls = filter (can_start mode ls) (all_sides (length ls))
 
+-- the side is a positive atom: the other one is `$true`
+abbrev pub is_positive_atom : Side → TreeLiteral → Bool
+is_positive_atom s l = l.positive && is_truth (other_side_of s l)
+
+-- The places of a side into which something can go: all but the root of a positive atom. Only an atom's side is of its kind, and then both
+-- other sides are `$true`.
+abbrev pub open_places : Side → TreeLiteral → List (List ℕ)
+open_places s l = if is_positive_atom s l then inner_places (side_of s l) else places (side_of s l)
+
 abbrev pub side_places : Side → Option TreeLiteral → List (List ℕ)
 side_places s None = []
-side_places s (Some l) = places (side_of s l)
+side_places s (Some l) = open_places s l
 
 abbrev pub entered_places : SelectionMode → List TreeLiteral → LiteralSide → List LiteralPlace
 entered_places mode ls s =
@@ -90,11 +105,12 @@ pub record AreSitesOf (c : TreeClause) (sites : Sites) : Type 0 where
 
 -- ---- law
 
--- Each superposition starts from a site of the first clause and goes into one of the second.
+-- Each superposition of well-formed clauses starts from a site of the first one and goes into one of the second.
 abbrev pub SuperpositionsHaveSites : Type 0
 SuperpositionsHaveSites =
-    (is_predicate : ℕ → Bool) (mode : SelectionMode) (first second : TreeClause) (s : LiteralSide) (t : LiteralPlace) (conclusion : TreeClause)
-    → NamedSuperposition is_predicate mode first s.literal s.side second t.at.literal t.at.side t.place conclusion
+    (usage : SymbolUse) (mode : SelectionMode) (first second : TreeClause) (s : LiteralSide) (t : LiteralPlace) (conclusion : TreeClause)
+    → IsTrue (are_literals_of usage first.literals) → IsTrue (are_literals_of usage second.literals)
+    → NamedSuperposition usage.is_predicate mode first s.literal s.side second t.at.literal t.at.side t.place conclusion
     → Contains (start_sites mode first.literals) s × Contains (enter_sites mode second.literals) t
 
 -- No site stands twice: those of a clause have different names.

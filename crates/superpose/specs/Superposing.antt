@@ -102,11 +102,6 @@ abbrev pub are_alike : LiteralSide → LiteralPlace → TreeLiteral → TreeLite
 are_alike s t l m old =
     not (is_truth old) && beq (is_truth (other_side_of s.side l)) (is_root t.place && is_truth (other_side_of t.at.side m))
 
--- at the root of a positive literal two atoms meet, whose other sides are both `$true`
-abbrev pub are_positive_atoms : LiteralSide → LiteralPlace → TreeLiteral → TreeLiteral → Bool
-are_positive_atoms s t l m =
-    (m.positive && is_root t.place) && (is_truth (other_side_of s.side l) && is_truth (other_side_of t.at.side m))
-
 -- a most general unifier of a side of one clause and the term at a place of another that are alike, with no variables but the clauses'
 pub record SuperposesBy (b : SolvedForm) (c : TreeClause) (s : LiteralSide) (d : TreeClause) (t : LiteralPlace) : Type 0 where
   pub starts : StartsAt c.literals s

@@ -17,15 +17,18 @@ ghost use Rattle.superpose.specs.Sites.{
   can_enter,
   can_start,
   enter_sites,
+  inner_places,
+  is_positive_atom,
   is_usable,
+  open_places,
   places,
   start_sites,
 };
-ghost use Rattle.superpose.specs.Superposing.{allows, are_alike, are_positive_atoms, enters_under, is_heavy, others_coincide, para_key, starts_under};
+ghost use Rattle.superpose.specs.Superposing.{allows, are_alike, enters_under, is_heavy, others_coincide, para_key, starts_under};
 ghost use Rattle.superpose.specs.Pairing.{entry_of, is_between, is_from_into, is_superposition, keys_between};
 
-/// Each superposition starts from a site of the first clause and goes into one of the second: an index of the sites misses none. And no
-/// site stands twice, so the names of the superpositions from sites into sites differ.
+/// Each superposition of well-formed clauses starts from a site of the first clause and goes into one of the second: an index of the sites
+/// misses none. And no site stands twice, so the names of the superpositions from sites into sites differ.
 pub fn superpositions_have_sites()
     ensures there { SuperpositionsHaveSites }
     ensures differ { SitesDiffer }
@@ -35,15 +38,19 @@ pub fn superpositions_have_sites()
 pub fn site_examples()
     ensures sides { all_sides 2 ≡ side_at 0 Left ∷ side_at 0 Right ∷ side_at 1 Left ∷ side_at 1 Right ∷ [] }
     ensures places { places (f₂ (x 0) (g a)) ≡ [] ∷ (1 ∷ []) ∷ (1 ∷ 0 ∷ []) ∷ [] }
+    ensures inner { inner_places (f₂ (x 0) (g a)) ≡ (1 ∷ []) ∷ (1 ∷ 0 ∷ []) ∷ [] }
     ensures below { below_path (side_at 0 Left) (2 ∷ []) (1 ∷ []) ≡ place_at 0 Left (2 ∷ 1 ∷ []) }
     ensures from_unit { start_sites select_negative (p a ∷ []) ≡ side_at 0 Left ∷ [] }
-    ensures into_unit { enter_sites select_negative (p a ∷ []) ≡ place_at 0 Left [] ∷ place_at 0 Left (0 ∷ []) ∷ [] }
+    ensures into_unit { enter_sites select_negative (p a ∷ []) ≡ place_at 0 Left (0 ∷ []) ∷ [] }
     ensures none_chosen { start_sites select_negative (not_p (x 0) ∷ q (x 0) ∷ []) ≡ [] }
     ensures into_chosen { enter_sites select_negative (not_p (x 0) ∷ q (x 0) ∷ []) ≡ place_at 0 Left [] ∷ [] }
     ensures from_greater { start_sites select_nothing (equation (f a) b ∷ []) ≡ side_at 0 Left ∷ [] }
     ensures lower_side { IsFalse (can_start select_nothing (equation (f a) b ∷ []) (side_at 0 Right)) }
     ensures higher_head { start_sites select_nothing (equation (f (x 0)) (g (x 0)) ∷ []) ≡ side_at 0 Right ∷ [] }
     ensures truth { IsFalse (is_usable Right (p a)) }
+    ensures positive_atom { IsTrue (is_positive_atom Left (p a)) }
+    ensures negative_atom { IsFalse (is_positive_atom Left (not_p a)) }
+    ensures whole_side { open_places Left (equation a b) ≡ [] ∷ [] }
     ensures settled { IsSettled (not_p (x 0) ∷ q (x 0) ∷ []) (Some 0) (side_at 0 Left) }
     ensures not_chosen { IsFalse (can_enter select_negative (not_p (x 0) ∷ q (x 0) ∷ []) (side_at 1 Left)) }
 {}
@@ -62,8 +69,6 @@ pub fn superposition_examples()
     ensures not_allowed { IsFalse (allows
         (equation (f a) b ∷ []) (side_at 0 Left) (equation (f a) b ∷ []) (place_at 0 Left []) None variable variable) }
     ensures atoms { IsTrue (are_alike (side_at 0 Left) (place_at 0 Left []) (p a) (not_p (x 0)) (p (x 0)).left) }
-    ensures positive_atoms { IsTrue (are_positive_atoms (side_at 0 Left) (place_at 0 Left []) (p a) (p (x 0))) }
-    ensures opposite_atoms { IsFalse (are_positive_atoms (side_at 0 Left) (place_at 0 Left []) (p a) (not_p (x 0))) }
     ensures heavy { IsTrue (is_heavy 2000 2100 49) }
     ensures light { IsFalse (is_heavy 2000 2100 50) }
     ensures atom_and_term { IsFalse (are_alike (side_at 0 Left) (place_at 0 Left (0 ∷ [])) (p a) (not_p a) a) }

@@ -8,9 +8,11 @@ ghost use Rattle.superpose.specs.Sites.{AreSitesOf};
 ghost use Rattle.superpose.specs.Superposing.{para_key};
 ghost use Rattle.superpose.specs.Pairing.{
   AddsSuperpositions,
+  AddsSuperpositionsUpTo,
   AddsTried,
   AreInferencesBetween,
   Begins,
+  TriesUpTo,
   entry_of,
   is_between,
   is_superposition,
@@ -21,7 +23,7 @@ ghost use Rattle.superpose.specs.Pairing.{
 use crate::sites::{LiteralPlace, Premise, Sites};
 use crate::superposing::superposition;
 use bank_clause::Member;
-use eq_rules::{Inference, Inferences, LiteralSide, Made};
+use eq_rules::{Inference, Inferences, LiteralSide, Made, is_enough};
 use kernel_steps::Key;
 use literal_selection::Selection;
 use plain_types::Mem;
@@ -93,8 +95,31 @@ pub fn superpositions(
         first.now.member.now second.now.member.now found.old.items found.new.items) }
     ensures err { OnErr result (found.new.items ≡ found.old.items) }
 {
+    superpositions_up_to(alloc, bank, first, second, None, found)
+}
+
+/// As `superpositions`, in the same order, but it stops once the list has as many inferences as are enough.
+pub fn superpositions_up_to(
+    alloc: Global,
+    bank: &Bank,
+    first: &Premise<'_>,
+    second: &Premise<'_>,
+    most: Option<usize>,
+    found: &mut Vec<Inference>,
+) -> Mem<()>
+    requires first_member { IsMemberOf bank.now first.now.member.now }
+    requires first_sites { AreSitesOf (clause_at first.now.member.now.clause) first.now.sites.now }
+    requires second_member { IsMemberOf bank.now second.now.member.now }
+    requires second_sites { AreSitesOf (clause_at second.now.member.now.clause) second.now.sites.now }
+    requires same_mode { first.now.sites.now.mode ≡ second.now.sites.now.mode }
+    ensures tried { IfOk result (λ _. TriesUpTo most (mode_of first.now.sites.now.mode) first.now.member.now second.now.member.now
+        (pair_keys (mode_of first.now.sites.now.mode) first.now.member.now second.now.member.now) found.old.items found.new.items) }
+    ensures added { IfOk result (λ _. AddsSuperpositionsUpTo most (mode_of first.now.sites.now.mode)
+        first.now.member.now second.now.member.now found.old.items found.new.items) }
+    ensures err { OnErr result (found.new.items ≡ found.old.items) }
+{
     let count = found.len();
-    match push_superpositions(alloc, bank, first, second, found) {
+    match push_superpositions(alloc, bank, first, second, most, found) {
         Ok(()) => Ok(()),
         Err(refused) => {
             found.truncate(count);
@@ -103,12 +128,14 @@ pub fn superpositions(
     }
 }
 
-/// Adds every superposition of the first clause into the second. After an out-of-memory error some may have been added.
+/// Adds the superpositions of the first clause into the second until the list has enough. After an out-of-memory error some may have been
+/// added.
 fn push_superpositions(
     alloc: Global,
     bank: &Bank,
     first: &Premise<'_>,
     second: &Premise<'_>,
+    most: Option<usize>,
     found: &mut Vec<Inference>,
 ) -> Mem<()>
     requires first_member { IsMemberOf bank.now first.now.member.now }
@@ -116,23 +143,28 @@ fn push_superpositions(
     requires second_member { IsMemberOf bank.now second.now.member.now }
     requires second_sites { AreSitesOf (clause_at second.now.member.now.clause) second.now.sites.now }
     requires same_mode { first.now.sites.now.mode ≡ second.now.sites.now.mode }
-    ensures tried { IfOk result (λ _. AddsTried (mode_of first.now.sites.now.mode) first.now.member.now second.now.member.now
+    ensures tried { IfOk result (λ _. TriesUpTo most (mode_of first.now.sites.now.mode) first.now.member.now second.now.member.now
         (pair_keys (mode_of first.now.sites.now.mode) first.now.member.now second.now.member.now) found.old.items found.new.items) }
     ensures begins { Begins found.old.items found.new.items }
 {
     for from in 0..first.sites.from.len() {
-        superpositions_from(alloc, bank, first, from, second, found)?;
+        superpositions_from(alloc, bank, first, from, second, most, found)?;
+        if is_enough(most, found.len()) {
+            return Ok(());
+        }
     }
     Ok(())
 }
 
-/// Adds every superposition from one site of the first clause into the second. After an out-of-memory error some may have been added.
+/// Adds the superpositions from one site of the first clause into the second until the list has enough. After an out-of-memory error some
+/// may have been added.
 fn superpositions_from(
     alloc: Global,
     bank: &Bank,
     first: &Premise<'_>,
     from: usize,
     second: &Premise<'_>,
+    most: Option<usize>,
     found: &mut Vec<Inference>,
 ) -> Mem<()>
     requires first_member { IsMemberOf bank.now first.now.member.now }
@@ -142,7 +174,7 @@ fn superpositions_from(
     requires same_mode { first.now.sites.now.mode ≡ second.now.sites.now.mode }
     requires inside { from < length first.now.sites.now.from.items }
     ensures tried { IfOk result (λ _. (s : LiteralSide) → slice_get first.now.sites.now.from.items from ≡ Some s
-        → AddsTried (mode_of first.now.sites.now.mode) first.now.member.now second.now.member.now
+        → TriesUpTo most (mode_of first.now.sites.now.mode) first.now.member.now second.now.member.now
         (keys_from first.now.member.now.number s second.now.member.now.number second.now.sites.now.into.items) found.old.items found.new.items) }
     ensures begins { Begins found.old.items found.new.items }
 {
@@ -159,6 +191,9 @@ fn superpositions_from(
             made,
             found,
         )?;
+        if is_enough(most, found.len()) {
+            return Ok(());
+        }
     }
     Ok(())
 }

@@ -1,7 +1,7 @@
 // The sites of a clause, which are found once for a clause, whatever its partners: the sides from which superposition can start, and the
 // places into which it can go. They are what an index of clauses holds.
 
-ghost use Rattle.std.specs.Prelude.{◌≡◌, ◌<◌, ◌++◌, ◌&&◌, [], ◌∷◌, true, List, None, length, filter, slice_get, IfOk};
+ghost use Rattle.std.specs.Prelude.{◌≡◌, ◌<◌, ◌++◌, ◌&&◌, [], ◌∷◌, true, List, None, length, filter, map, slice_get, IfOk};
 ghost use Rattle.fol_base.specs.Clause.{TreeLiteral, literal_size};
 ghost use Rattle.fol_base.specs.Lent.{lent_of};
 ghost use Rattle.fol_base.specs.Selection.{SelectionMode, chosen, eligible};
@@ -10,16 +10,19 @@ ghost use Rattle.bank_clause.specs.Clause.{clause_at, IsMemberOf};
 ghost use Rattle.superpose.specs.Settled.{AreSettled, IsSettled};
 ghost use Rattle.superpose.specs.Sites.{
   AreSitesOf,
+  below_path,
   can_start,
   enter_sites,
   entered_places,
+  is_positive_atom,
   is_usable,
   literal_enters,
   literal_starts,
+  open_places,
   start_sites,
 };
 
-use crate::places::push_places;
+use crate::places::{push_inner_places, push_places};
 use crate::settled::{SettledSides, settled_sides};
 use bank_clause::Member;
 use eq_rules::{LiteralSide, is_not_below};
@@ -47,8 +50,8 @@ pub struct Sites {
     /// The sides from which superposition can start: of positive literals that are strictly eligible where nothing is chosen, and not
     /// below the other side.
     pub from: Vec<LiteralSide>,
-    /// The places into which it can go, where no variable stands, in sides of eligible literals that aren't below the other side. A term
-    /// comes before its arguments.
+    /// The places into which it can go, where no variable stands, in sides of eligible literals that aren't below the other side: not the
+    /// root of a positive atom. A term comes before its arguments.
     pub into: Vec<LiteralPlace>,
     /// The sides of each literal that are in order under every substitution.
     pub settled: Vec<SettledSides>,
@@ -204,9 +207,33 @@ fn push_entered(
         return Ok(());
     }
     let literals = member.clause.lend(bank);
+    push_open_places(alloc, literals.literal(at.literal), at, into)
+}
+
+/// Adds the places of a side into which something can go.
+fn push_open_places(
+    alloc: Global,
+    literal: LiteralRef<'_>,
+    at: LiteralSide,
+    into: &mut Vec<LiteralPlace>,
+) -> Mem<()>
+    ensures { IfOk result (λ _.
+        into.new.items ≡ into.old.items ++ map (below_path at []) (open_places at.side (lent_of literal.entry))) }
+{
     let mut path = Vec::new(alloc);
-    let side = literals.literal(at.literal).side(at.side);
-    push_places(alloc, into, at, side, &mut path)
+    let side = literal.side(at.side);
+    if is_positive_atom(literal, at.side) {
+        push_inner_places(alloc, into, at, side, &mut path)
+    } else {
+        push_places(alloc, into, at, side, &mut path)
+    }
+}
+
+/// Whether a side is a positive atom, into the root of which nothing can go.
+fn is_positive_atom(literal: LiteralRef<'_>, side: Side) -> bool
+    ensures { result ≡ is_positive_atom side (lent_of literal.entry) }
+{
+    literal.positive && literal.other_side(side).is_truth()
 }
 
 /// Whether superposition can go into a side, with the choice made before.

@@ -1,8 +1,8 @@
 // Superposition from one site into another: the side of an equation is unified with the term at a place, and the order is asked under the
 // unifier before anything is built.
 
-ghost use Rattle.std.specs.Prelude.{◌≡◌, ◌↔◌, ◌<◌, ◌≤◌, ◌+◌, ◌*◌, ◌&&◌, true, List, None, Some, length, slice_get, sum_by, IfOk};
-ghost use Rattle.fol_base.specs.Instance.{Substitution, substitution};
+ghost use Rattle.std.specs.Prelude.{◌≡◌, ◌↔◌, ◌<◌, ◌≤◌, ◌+◌, ◌*◌, true, List, None, Some, length, slice_get, sum_by, IfOk};
+ghost use Rattle.fol_base.specs.Instance.{substitution};
 ghost use Rattle.fol_base.specs.Clause.{TreeLiteral, clause_size, literal_size};
 ghost use Rattle.fol_base.specs.declared.clause.Side.TheVariants.{Left, Right};
 ghost use Rattle.fol_base.specs.Ground.{literals_instance};
@@ -19,19 +19,17 @@ ghost use Rattle.superpose.specs.Superposing.{
   IsSuperposition,
   StartsAt,
   SuperposesBy,
-  allows,
   enters_under,
-  is_root,
   starts_under,
   others_coincide,
   are_alike,
-  are_positive_atoms,
   is_heavy,
   size_under,
   IsHeavyUnder,
 };
 
 use crate::concluding::conclude_superposition;
+use crate::overweight::allowed_by_sizes;
 use crate::sites::{LiteralPlace, Premise, Sites};
 use bank_clause::{BankClause, BankLiterals};
 use eq_rules::{LiteralSide, Made, is_not_below};
@@ -95,9 +93,6 @@ pub fn superposition_at(
     let second_literals = second.member.clause.lend(bank);
     let equation = first_literals.literal(from.literal);
     let target = second_literals.literal(into.at.literal);
-    if are_positive_atoms(equation, from, target, into) {
-        return Ok(None);
-    }
     let Some(old) = at(target.side(into.at.side), &into.place) else {
         unreachable!();
     };
@@ -108,20 +103,6 @@ pub fn superposition_at(
         None => Ok(None),
         Some(unifier) => superposition_by(alloc, bank, first, from, second, into, &unifier),
     }
-}
-
-/// Whether the place is the root of a positive literal and both literals are atoms: then both other sides are `$true`, whatever is put in.
-fn are_positive_atoms(
-    equation: LiteralRef<'_>,
-    from: LiteralSide,
-    target: LiteralRef<'_>,
-    into: &LiteralPlace,
-) -> bool
-    ensures { result ≡ are_positive_atoms from into.now (lent_of equation.entry) (lent_of target.entry) }
-{
-    is_positive_root(target, into)
-        && equation.other_side(from.side).is_truth()
-        && target.other_side(into.at.side).is_truth()
 }
 
 /// Whether a side and the term at a place are of one kind: an atom's other side is `$true`, and below the root function terms stand.
@@ -140,8 +121,8 @@ fn are_alike(
 }
 
 /// The result of the superposition by a unifier of the side and the term at the place. The sizes under the unifier are told only where
-/// the clauses' own sizes don't show that they are small. Where the clauses alone tell that the order allows it, a clause that is too large
-/// isn't built.
+/// the clauses' own sizes don't show that they are small. Where a clause is too large it isn't built if sizes and the clauses alone tell what the
+/// order says.
 fn superposition_by(
     alloc: Global,
     bank: &Bank,
@@ -171,8 +152,12 @@ fn superposition_by(
     }
     let left_size = unifier.instance_size(bank, Side::Left, left.literals())?;
     let right_size = unifier.instance_size(bank, Side::Right, right.literals())?;
-    if left_size.max(right_size) > MOST_SYMBOLS && are_settled(bank, first, from, second, into) {
-        return Ok(Some(Made::Heavy));
+    if left_size.max(right_size) > MOST_SYMBOLS {
+        match allowed_by_sizes(bank, first, from, second, into, unifier)? {
+            Some(true) => return Ok(Some(Made::Heavy)),
+            Some(false) => return Ok(None),
+            None => {}
+        }
     }
     if left_size >= SIZE_LIMIT || right_size >= SIZE_LIMIT {
         return Err(NoMemory);
@@ -265,44 +250,8 @@ fn ordered_superposition(
     Ok(Some(made))
 }
 
-/// Whether the clauses alone tell that the order allows the superposition, whatever is put in: both sides are in order under every
-/// substitution, and the place isn't the root of a positive literal, where the other sides may become one term.
-fn are_settled(
-    bank: &Bank,
-    first: &Premise<'_>,
-    from: LiteralSide,
-    second: &Premise<'_>,
-    into: &LiteralPlace,
-) -> bool
-    requires first_member { IsMemberOf bank.now first.now.member.now }
-    requires second_member { IsMemberOf bank.now second.now.member.now }
-    requires first_settled { AreSettled (clause_at first.now.member.now.clause).literals first.now.sites.now.choice first.now.sites.now.settled.items }
-    requires second_settled { AreSettled (clause_at second.now.member.now.clause).literals second.now.sites.now.choice second.now.sites.now.settled.items }
-    requires from_inside { from.literal < length (clause_at first.now.member.now.clause).literals }
-    requires into_inside { into.now.at.literal < length (clause_at second.now.member.now.clause).literals }
-    ensures { result ≡ true → (σ τ : Substitution) → allows (clause_at first.now.member.now.clause).literals from
-        (clause_at second.now.member.now.clause).literals into.now second.now.sites.now.choice σ τ ≡ true }
-{
-    let targets = second.member.clause.lend(bank);
-    let target = targets.literal(into.at.literal);
-    if is_positive_root(target, into) {
-        return false;
-    }
-    if !starts_settled(first.sites, from) {
-        return false;
-    }
-    second.sites.is_settled(into.at)
-}
-
-/// Whether the place is the root of a positive literal.
-fn is_positive_root(target: LiteralRef<'_>, into: &LiteralPlace) -> bool
-    ensures { result ≡ ((lent_of target.entry).positive && is_root into.now.place) }
-{
-    target.positive && into.place.is_empty()
-}
-
 /// Whether a side from which superposition can start is in order under every substitution.
-fn starts_settled(sites: &Sites, from: LiteralSide) -> bool
+pub fn starts_settled(sites: &Sites, from: LiteralSide) -> bool
     requires { from.literal < length sites.now.settled.items }
     ensures { (ls : List TreeLiteral) → AreSettled ls sites.now.choice sites.now.settled.items → result ≡ true → IsSettled ls None from }
 {

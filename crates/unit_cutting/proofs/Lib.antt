@@ -3,6 +3,8 @@
 pub mod AboutCuts
 -- AboutLeaving: literals that leave a clause.
 pub mod AboutLeaving
--- IndexedLemmas: the map of units and the tree of their left sides; CutLemmas: where no unit of the set cuts a literal.
+-- IndexedLemmas: the map of units and the tree of their left sides; CutLemmas: where no unit of the set cuts a literal;
+-- SubsumerLemmas: units of the set that subsume a clause.
 mod IndexedLemmas
 mod CutLemmas
+mod SubsumerLemmas

@@ -6,3 +6,4 @@ pub mod CutSteps
 pub mod Indexed
 pub mod Cuts
 pub mod Cuttable
+pub mod Subsuming

@@ -92,7 +92,7 @@ impl UnitIndex {
 }
 
 /// Whether the literal of a unit is positive.
-fn is_positive(unit: &BankClause) -> bool
+pub(crate) fn is_positive(unit: &BankClause) -> bool
     requires { HasOneLiteral (clause_at unit.now) }
     ensures { (l : TreeLiteral) → (clause_at unit.now).literals ≡ l ∷ [] → l.positive ≡ result }
 {

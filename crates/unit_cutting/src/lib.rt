@@ -17,16 +17,18 @@
 //! **The set of units.** `UnitIndex` (`index.rt`) keeps units of either sign in a map by their numbers. Their left sides stand in a
 //! discrimination tree. The candidates for a literal are the generalisations of its left side and of its right side; `cut_search.rt` matches the
 //! candidates of the other sign. Two queries find every unit, since a unit that fits with exchanged sides has its left side over the
-//! literal's right one. `members.rt` asks the other way round, which clauses of a list one new unit cuts, for backward simplification.
+//! literal's right one. Candidates of the same sign subsume the clause where they match (`subsuming.rt`). `members.rt` asks the other way
+//! round, which clauses of a list one new unit cuts, for backward simplification.
 //!
 //! **Assertions.** A unit that holds only under components of a split may cut only clauses that hold under them too (`asserted.rt`).
 //!
-//! **What is proved.** Each call makes its step where one exists, and answers that there is none exactly where the definition has none. The
-//! step is a move of the calculus and its lines are right, so the record of `reduced_clause` keeps its invariant. The set's invariant says
-//! that the tree holds the left side of every unit; what it holds besides is checked at each use. After out of memory the reduced clause is
-//! as before, since both lines are made before either is added.
+//! **What is proved.** Each call makes its step where one exists, and answers that there is none exactly where the definition has none;
+//! `subsumer` gives a unit that subsumes, and none exactly where no unit does. The step is a move of the calculus and its lines are right, so
+//! the record of `reduced_clause` keeps its invariant. The set's invariant says that the tree holds the left side of every unit; what it
+//! holds besides is checked at each use. After out of memory the reduced clause is as before, since both lines are made before either is
+//! added.
 //!
-//! **Hints.** Which unit is found first decides only which of two right results is made.
+//! **Hints.** Which unit is found first decides only which of two right results is made, or which of two subsumers is named.
 //!
 //! **Cost.** Trivial disequations take one comparison of terms a literal, equal literals one for each pair. A cut takes two queries of the
 //! tree for each literal, and a match for each candidate of the other sign; terms are built only for a literal that goes.
@@ -42,6 +44,7 @@ pub mod laws;
 mod matching;
 mod members;
 mod removing;
+mod subsuming;
 mod superposing;
 mod tautology;
 

@@ -1,5 +1,5 @@
 -- The line of a rewrite that was found: the kernel's verdict, and what else is asked of lines.
-use Rattle.std.proofs.Common.{◌≡◌, ℕ, ◌+◌, ◌<◌, ◌≤◌, Bool, true, false, ◌&&◌, ◌==◌, Option, Some, List, [], ◌∷◌, ◌++◌, length, map, append-nil, append_assoc, refl, ap, ap₂, sym, ◌∙◌, subst, ⊎_elim, arith}
+use Rattle.std.proofs.Common.{◌≡◌, ℕ, ◌+◌, ◌<◌, ◌≤◌, Bool, true, false, ◌&&◌, ◌==◌, Option, Some, List, [], ◌∷◌, ◌++◌, length, map, append-nil, refl, ap, ap₂, sym, ◌∙◌, subst, ⊎_elim, arith}
 use Rattle.std.specs.Prelude.{flat_map, sum_by}
 use Rattle.std.specs.List.{AllByRecursion, list_any, list_all}
 use Rattle.std.specs.Option.{option_map}
@@ -10,12 +10,11 @@ use Rattle.plain_types.specs.declared.sequence.NameLit.{NameLit}
 use Rattle.plain_types.specs.Names.{negative_of}
 use Rattle.fol_base.specs.Tree.{Tree, variable, application, Trees, no_trees, tree_then, trees_count, tree_size, tree_variables, trees_of, trees_variables}
 use Rattle.fol_base.specs.Instance.{Substitution, instance, substitution}
-use Rattle.fol_base.specs.Clause.{TreeLiteral, TreeClause, LiteralVariablesBelow, literal_size, literal_instance, literal_variables, clause_variables, clause_size, clause_instance}
+use Rattle.fol_base.specs.Clause.{TreeLiteral, TreeClause, LiteralVariablesBelow, literal_size, literal_instance, clause_variables, clause_size, clause_instance}
 use Rattle.fol_base.specs.Ground.{literals_instance}
-use Rattle.fol_base.specs.Canonical.{bound_of, renaming, distinct, canonical_clause, canonical_renaming, IsCanonical}
+use Rattle.fol_base.specs.Canonical.{bound_of, renaming, canonical_clause, canonical_renaming, IsCanonical}
 use Rattle.fol_base.specs.Kind.{is_function_term, PutsFunctionTerms}
 use Rattle.fol_base.specs.Literal.{clause_of}
-use Rattle.fol_base.specs.Numbering.{with_variables}
 use Rattle.fol_base.specs.Rules.{superposed}
 use Rattle.fol_base.specs.Sides.{side_of, other_side_of}
 use Rattle.fol_base.specs.Subsumption.{assertions, is_among}
@@ -23,12 +22,9 @@ use Rattle.fol_base.specs.WellFormed.{SymbolUse, has_arities, have_arities, is_l
 use Rattle.fol_base.specs.declared.limits.TheConstants.{MOST_SYMBOLS}
 use Rattle.fol_base.proofs.AboutCanonical.CanonicalLemmas.{length-terms_from, canonical_forms_are_canonical, canonical_forms_keep_sizes}
 use Rattle.fol_base.proofs.AboutClauses.InferenceLemmas.{superpositions_in_instances, side_of-instance, other_side_of-instance}
-use Rattle.fol_base.proofs.AboutInstances.InstanceLemmas.{literals-agree}
 use Rattle.fol_base.proofs.AboutTerms.KindLemmas.{puts_no_truth}
-use Rattle.fol_base.proofs.AboutCanonical.NumberingLemmas.{all_met}
 use Rattle.fol_base.proofs.AboutOrders.OrderLemmas.{tree_greater_decided}
 use Rattle.fol_base.proofs.WorkedExamples.TestLemmas.{list_all-item}
-use Rattle.fol_base.proofs.AboutCanonical.WalkLemmas.{renaming-kept}
 use Rattle.fol_base.proofs.AboutTerms.WellFormedLemmas.{is_literal_of-parts, side_arities, well_formed_instances, well_formed_superpositions}
 use Rattle.kbo_order.proofs.AboutMultisets.ClauseLoops.{item-size}
 use Rattle.kbo_order.proofs.AboutMultisets.MemberLemmas.{In}

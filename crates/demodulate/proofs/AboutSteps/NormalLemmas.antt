@@ -1,5 +1,5 @@
 -- The loop to the normal form: what lasts, and that it ends.
-use Rattle.std.proofs.Common.{◌≡◌, ℕ, ◌+◌, ◌<◌, ◌≤◌, Bool, true, false, List, [], ◌∷◌, ◌++◌, refl, ap, sym, ◌∙◌, subst, arith}
+use Rattle.std.proofs.Common.{◌≡◌, ℕ, ◌<◌, ◌≤◌, Bool, true, false, List, [], ◌∷◌, ◌++◌, refl, ap, sym, ◌∙◌, subst, arith}
 use Rattle.std.specs.Prelude.{Option, Some, IsTrue, MatchBool}
 use Rattle.fol_base.specs.Clause.{TreeClause, clause_size}
 use Rattle.fol_base.specs.Canonical.{IsCanonical}

@@ -2,7 +2,7 @@
 use Rattle.std.proofs.Common.{◌≡◌, ℕ, ◌==◌, not, Bool, true, false, List, [], ◌∷◌, ◌++◌, map, Option, Some, None, refl, ap, sym, ◌∙◌, subst, ⊎_elim, inl, inr, append-nil}
 use Rattle.std.specs.Prelude.{All, Contains, ◌&&◌, nat_lt, option_map, if◌then◌else◌, IsTrue}
 use Rattle.std.proofs.Math.Path.{fun_ext}
-use Rattle.std.proofs.lemmas.Bool.{cond-true, eq-eqb, eqb-true, true≢false, false_from_ne_true, lt-ltb}
+use Rattle.std.proofs.lemmas.Bool.{eq-eqb, true≢false, lt-ltb}
 use Rattle.std.proofs.lemmas.List.Elements.{All-append, All-cons, All-nil, All-weaker, Contains-append_left}
 use Rattle.std.proofs.lemmas.Option.{same_Some}
 use Rattle.fol_base.specs.Clause.{TreeClause}
@@ -23,11 +23,11 @@ use Rattle.rewriting.specs.Units.{is_kept}
 use Rattle.laws_calculus.specs.Lifting.{among, IsMember}
 use Rattle.reduced_clause.specs.Reduced.{IsReduced, last_clause, with_number}
 use Rattle.reduced_clause.proofs.ExtendingLemmas.{noted-all, with_number-has, with_number-keeps}
-use Rattle.subsume.specs.Searching.{IsLowest, IsSubsumer}
 use Rattle.bank_clause.specs.Members.{AreMembersOfUse, IsMemberOfUse}
 use Rattle.demodulate.specs.Reducing.{IsFurther, IsIrreducibleBySteps, IsReduction}
 use Rattle.demodulate.specs.declared.reducing.Reduction.{Reduction}
 use Rattle.demodulate.specs.declared.reducing.Reduction.TheVariants as ended
+use Rattle.demodulate.specs.Subsuming.{IsSubsumedBySome, IsSubsumedOrNot}
 use Rattle.demodulate.specs.Usable.{AreFormed, IsAmong, without}
 use Rattle.pool_history.specs.Record.{GivenJob}
 use Rattle.pool_history.specs.Lines.{result_of}
@@ -157,22 +157,16 @@ module _
     leaves = tt;
   }
 
-  -- a member that subsumes the result is told beside the clause
-  beside-there : (m : Member) → Contains ms m → (Some n ≡ Some m.number → ⊥) → beside m.number ≡ Some (clause_at m.clause)
-  beside-there m contains other =
-      let told : told_of clauses j m.number ≡ Some (clause_at m.clause) =
-      (sets.has_all m.number (clause_at m.clause)).0 (record { member = m; there = contains; number = refl; clause = refl }) in
-      ap (λ (f : Lookup). f m.number) (beside-is clauses j n)
-      ∙ cond-true (is_kept (Some n) m.number) (told_of clauses j m.number) None
-      (ap not (false_from_ne_true (m.number == n) (λ e. other (ap Some (sym (eqb-true m.number n e))))))
-      ∙ told
+  -- what is found among the sets but for the clause is found beside it
+  abbrev pub IsFoundAmong : Option ℕ → Type 0
+  IsFoundAmong found = IsSubsumedOrNot p (without (Some n) (told_of clauses j)) (clause_of r.clause) found
 
   pub goes-subsumed :
       (k : ℕ) (justifiers : List ℕ) → justifiers ≡ with_number k r.used
-      → IsLowest (IsSubsumer usage (Some n) (clause_of r.clause)) ms (Some k)
+      → IsFoundAmong (Some k)
       → StaysOrGoes p options clauses j n c (Some (record { victim = n; justifiers = justifiers; fate = Dropped (Subsumed k) }))
-  goes-subsumed k justifiers is lowest =
-      let found = lowest.0 in record {
+  goes-subsumed k justifiers is found =
+      record {
         victim = refl;
         right = record {
           clause = c;
@@ -181,9 +175,9 @@ module _
           moved = is-reduced.moved;
           redundant =
               record {
-                clause = clause_at (found.member).clause;
-                there = ap beside (sym found.number) ∙ beside-there found.member found.there (found.does).other;
-                infers = subst (λ (d : TreeClause). Subsumes p (clause_at (found.member).clause) d) is-reduced.moved_to (found.does).subsumes;
+                clause = found.clause;
+                there = ap (λ (f : Lookup). f k) (beside-is clauses j n) ∙ found.there;
+                infers = subst (λ (d : TreeClause). Subsumes p found.clause d) is-reduced.moved_to found.infers;
               };
           justified =
               subst (λ (ns : List ℕ). (is_among ns (units_of is-reduced.moves ++ k ∷ []) && is_among (units_of is-reduced.moves ++ k ∷ []) ns) ≡ true) (sym is)
@@ -199,21 +193,15 @@ module _
   -- ---- irreducible
 
   irreducible-result :
-      is_tautology (clause_of r.clause) ≡ false → IsLowest (IsSubsumer usage (Some n) (clause_of r.clause)) ms None
+      is_tautology (clause_of r.clause) ≡ false → IsFoundAmong None
       → IsReducedBeside p options clauses j n (clause_of r.clause)
   irreducible-result no_tautology none =
       irreducible-among p (without (Some n) (told_of clauses j)) (is_told_beside j n) clauses (clause_of r.clause) (beside-is clauses j n)
       (by.irreducible no_tautology usage (told_of clauses j) formed sets.of_clauses) no_tautology
-      λ k d at subsumes.
-      let parts = if_some (is_kept (Some n) k) (told_of clauses j k) d at in
-      let member = (sets.has_all k d).1 parts.1 in
-      none member.member member.there (record {
-        other = λ e. true≢false (sym parts.0 ∙ ap not (eq-eqb k n (sym member.number ∙ sym (same_Some n (member.member).number e))));
-        subsumes = subst (λ (e : TreeClause). Subsumes p e (clause_of r.clause)) (sym member.clause) subsumes;
-      })
+      λ k d at subsumes. none (record { clause = d; holds = record { number = k; there = at }; does = subsumes })
 
   pub stays :
-      r.lines ≡ [] → is_tautology (clause_of r.clause) ≡ false → IsLowest (IsSubsumer usage (Some n) (clause_of r.clause)) ms None
+      r.lines ≡ [] → is_tautology (clause_of r.clause) ≡ false → IsFoundAmong None
       → StaysOrGoes p options clauses j n c None
   stays none no_tautology not_subsumed =
       subst (IsReducedBeside p options clauses j n) (is-reduced.ends ∙ ap (last_clause c) none) (irreducible-result no_tautology not_subsumed)
@@ -260,7 +248,7 @@ module _
 
   pub goes-replaced :
       (results : List Clause) → map clause_of results ≡ handed_back split (clause_of r.clause)
-      → (r.lines ≡ [] → ⊥) → is_tautology (clause_of r.clause) ≡ false → IsLowest (IsSubsumer usage (Some n) (clause_of r.clause)) ms None
+      → (r.lines ≡ [] → ⊥) → is_tautology (clause_of r.clause) ≡ false → IsFoundAmong None
       → StaysOrGoes p options clauses j n c (Some (record { victim = n; justifiers = r.used; fate = Kept lines results }))
   goes-replaced results are some no_tautology not_subsumed = record {
     victim = refl;
@@ -318,28 +306,35 @@ pub goes-dropped :
 goes-dropped split es us ms n c r by tautology usage options clauses j sets splits there =
     goes-tautology usage options clauses j es us ms sets split splits n c there r by tautology
 
--- what a search for subsumers finds, under each use
-abbrev pub IsFound : List Member → ℕ → Reduced → Option ℕ → Type 0
-IsFound ms n r found =
-    (usage : SymbolUse) → IsTrue (are_literals_of usage (clause_of r.clause).literals) → AreMembersOfUse usage ms
-    → IsLowest (IsSubsumer usage (Some n) (clause_of r.clause)) ms found
+-- what a search for subsumers finds among the sets
+module _
+    (usage : SymbolUse) (options : Options) (clauses : Lookup) (j : GivenJob) (es us ms : List Member) (sets : AreToldSets usage clauses j es us ms)
+    (split : Bool) (splits : options.split ≡ split) (n : ℕ) (c : TreeClause) (there : told_of clauses j n ≡ Some c) (r : Reduced)
+    (by : IsReducedBy es us (Some n) c r) where
+  found-among :
+      (found : Option ℕ) → IsSubsumedBySome es us ms (Some n) (clause_of r.clause) found
+      → IsSubsumedOrNot usage.is_predicate (without (Some n) (told_of clauses j)) (clause_of r.clause) found
+  found-among found told =
+      told usage (told_of clauses j)
+      (sets-formed usage clauses j es us ms sets (clause_of r.clause) (result-formed usage options clauses j es us ms sets split splits n c there r by))
+      (members-formed usage clauses j es us ms sets) sets.of_clauses sets.has_all
 
 pub goes-redundant :
     (split : Bool) (es us ms : List Member) (n : ℕ) (c : TreeClause) (r : Reduced) (k : ℕ) (justifiers : List ℕ)
-    → IsReducedBy es us (Some n) c r → IsFound ms n r (Some k) → justifiers ≡ with_number k r.used
+    → IsReducedBy es us (Some n) c r → IsSubsumedBySome es us ms (Some n) (clause_of r.clause) (Some k) → justifiers ≡ with_number k r.used
     → IsRemovalOf split es us ms n c (Some (record { victim = n; justifiers = justifiers; fate = Dropped (Subsumed k) }))
 goes-redundant split es us ms n c r k justifiers by found is usage options clauses j sets splits there =
     goes-subsumed usage options clauses j es us ms sets split splits n c there r by k justifiers is
-    (found usage (result-formed usage options clauses j es us ms sets split splits n c there r by) (members-formed usage clauses j es us ms sets))
+    (found-among usage options clauses j es us ms sets split splits n c there r by (Some k) found)
 
 pub goes-or-stays :
     (split : Bool) (es us ms : List Member) (n : ℕ) (c : TreeClause) (r : Reduced) (gone : Option Removal)
-    → IsReducedBy es us (Some n) c r → IsFound ms n r None → is_tautology (clause_of r.clause) ≡ false → IsReplacedOrSame split n r gone
+    → IsReducedBy es us (Some n) c r → IsSubsumedBySome es us ms (Some n) (clause_of r.clause) None → is_tautology (clause_of r.clause) ≡ false → IsReplacedOrSame split n r gone
     → IsRemovalOf split es us ms n c gone
 goes-or-stays split es us ms n c r None by found no_tautology same usage options clauses j sets splits there =
     stays usage options clauses j es us ms sets split splits n c there r by same no_tautology
-    (found usage (result-formed usage options clauses j es us ms sets split splits n c there r by) (members-formed usage clauses j es us ms sets))
+    (found-among usage options clauses j es us ms sets split splits n c there r by None found)
 goes-or-stays split es us ms n c r (Some m) by found no_tautology it usage options clauses j sets splits there =
     subst (λ (k : Removal). GoesRightly usage.is_predicate options clauses j n k) (sym it.removal)
     (goes-replaced usage options clauses j es us ms sets split splits n c there r by it.results it.given it.some no_tautology
-    (found usage (result-formed usage options clauses j es us ms sets split splits n c there r by) (members-formed usage clauses j es us ms sets)))
+    (found-among usage options clauses j es us ms sets split splits n c there r by None found))

@@ -1,5 +1,5 @@
 -- The inferences of a given clause with its partners: those of lower places.
-use Rattle.std.proofs.Common.{◌≡◌, ℕ, zero, suc, ◌+◌, ◌<◌, ◌==◌, nat_lt, true, false, List, [], ◌∷◌, ◌++◌, take, Option, Some, None, refl, ap, sym, ◌∙◌, subst, ⊎_elim, inl, inr, arith}
+use Rattle.std.proofs.Common.{◌≡◌, ℕ, zero, suc, ◌+◌, ◌<◌, ◌==◌, nat_lt, true, false, List, [], ◌∷◌, ◌++◌, length, take, leb-true, Option, Some, None, refl, ap, sym, ◌∙◌, subst, ⊎_elim, inl, inr, arith}
 use Rattle.std.specs.Prelude.{slice_get, Contains, IsTrue, option_and_then, ◌&&◌}
 use Rattle.std.specs.List.{list_any}
 use Rattle.std.specs.Option.{is_some}
@@ -15,20 +15,20 @@ use Rattle.kernel_steps.proofs.AboutCalls.LineLemmas.{slice_get-take}
 use Rattle.literal_selection.specs.Mode.{mode_of}
 use Rattle.bank_clause.specs.Clause.{clause_at}
 use Rattle.bank_clause.specs.declared.member.Member.{Member}
-use Rattle.eq_rules.specs.Inferences.{AreInferences}
+use Rattle.eq_rules.specs.Inferences.{AreInferences, AreSomeInferences, is_enough}
 use Rattle.eq_rules.specs.declared.inference.Inference.{Inference}
 use Rattle.superpose.specs.Pairing.{is_from_into}
-use Rattle.partners.specs.Meeting.{AddsMeetings, AreLookedUp, is_meeting, is_partner}
+use Rattle.partners.specs.Meeting.{AddsMeetings, AddsMeetingsUpTo, AddsSomeMeetings, AreLookedUp, is_meeting, is_partner}
 use Rattle.partners.specs.Partners.{Placed, before, partner_before, placed_numbered}
 use Rattle.subsume.specs.Members.{numbers_of}
 use Rattle.pool_history.specs.Record.{GivenJob}
 use Rattle.pool_history.specs.Reduction.{Lookup}
 use Rattle.pool_history.specs.Wholeness.{IsWhole}
-use Rattle.given_work.specs.Meeting.{AreAlone, AreMetWith, before_place, is_alone, is_met, is_pair}
+use Rattle.given_work.specs.Meeting.{AreAlone, AreAloneUpTo, AreMetUpTo, AreMetWith, AreSomeAlone, AreSomeMetWith, before_place, is_alone, is_met, is_pair}
 use Rattle.given_work.specs.Store.{ArePlaced, members_in}
 use Rattle.given_work.specs.Telling.{Tells, told_of}
 use Rattle.given_work.specs.declared.store.Store.{Store}
-use Rattle.given_work.proofs.AboutMeeting.InferenceLemmas.{inferences-joined}
+use Rattle.given_work.proofs.AboutMeeting.InferenceLemmas.{all-some, inferences-joined, some-joined, some-wider}
 use Rattle.given_work.proofs.AboutMeeting.KeyLemmas.{any-has, any-some}
 use Rattle.given_work.proofs.AboutIndexes.Slots.{at-living, living-at, put-living}
 use Rattle.given_work.proofs.AboutIndexes.StoreLemmas.{found-placed, placed_at}
@@ -214,6 +214,35 @@ module _ (store : Store) (place : ℕ) (given : Member) (placed : ArePlaced stor
   apart (Factor clause becomes becomes_side other other_side) by_itself h = true≢false (sym h)
   apart (Replaced clause) by_itself h = true≢false (sym h)
 
+  -- ---- for a job that tells the clauses
+
+  module _ (usage : SymbolUse) (clauses : Lookup) (j : GivenJob) (tells : Tells usage clauses j (members_in store.slots.items)) where
+    abbrev ms : List Member
+    ms = members_in store.slots.items
+
+    given-formed : IsTrue (are_literals_of usage (clause_at given.clause).literals)
+    given-formed = member-formed usage clauses j ms given tells (at-living store.slots.items place given at)
+
+    given-told : told_of clauses j given.number ≡ Some (clause_at given.clause)
+    given-told = member-told usage clauses j ms tells given (at-living store.slots.items place given at)
+
+    looked-up : AreLookedUp usage (told_of clauses j) place store.partners given
+    looked-up = record {
+      given_there = given-told;
+      given_formed = given-formed;
+      partners_there = λ n m h.
+          let low = partner-at n m h in
+          ap (told_of clauses j) (sym low.3) ∙ member-told usage clauses j ms tells m (at-living store.slots.items low.0 m low.2);
+      partners_formed = λ n m h.
+          let low = partner-at n m h in member-formed usage clauses j ms m tells (at-living store.slots.items low.0 m low.2);
+    }
+
+  alone-met : (k : Key) → is_alone g k ≡ true → is_met g lower k ≡ true
+  alone-met k h = or_left (is_alone g k) (list_any (λ n. is_pair g n k) lower) h
+
+  meeting-met : (k : Key) → is_meeting place store.partners g k ≡ true → is_met g lower k ≡ true
+  meeting-met k h = or_right (is_alone g k) (list_any (λ n. is_pair g n k) lower) (met-of k h)
+
   -- those by itself and those with its partners are all that are to be met
   pub all-met :
       (by_itself now : List Inference)
@@ -222,24 +251,58 @@ module _ (store : Store) (place : ℕ) (given : Member) (placed : ArePlaced stor
   all-met by_itself now alone adds usage clauses j tells =
       let p = usage.is_predicate in
       let mode = mode_of store.partners.mode in
-      let ms : List Member = members_in store.slots.items in
-      let there : Contains ms given = at-living store.slots.items place given at in
-      let formed = member-formed usage clauses j ms given tells there in
-      let told = member-told usage clauses j ms tells given there in
-      let up : AreLookedUp usage (told_of clauses j) place store.partners given = record {
-        given_there = told;
-        given_formed = formed;
-        partners_there = λ n m h.
-            let low = partner-at n m h in
-            ap (told_of clauses j) (sym low.3) ∙ member-told usage clauses j ms tells m (at-living store.slots.items low.0 m low.2);
-        partners_formed = λ n m h.
-            let low = partner-at n m h in member-formed usage clauses j ms m tells (at-living store.slots.items low.0 m low.2);
-      } in
-      let more = adds usage (told_of clauses j) up in
+      let more = adds usage (told_of clauses j) (looked-up usage clauses j tells) in
       subst (λ (xs : List Inference). AreInferences p mode (told_of clauses j) (is_met g lower) xs) (sym more.1)
       (inferences-joined p mode (told_of clauses j) (is_alone g) (is_meeting place store.partners g) (is_met g lower) by_itself more.0
-      (alone usage (told_of clauses j) formed told) more.2
-      (λ k h. or_left (is_alone g k) (list_any (λ n. is_pair g n k) lower) h)
-      (λ k h. or_right (is_alone g k) (list_any (λ n. is_pair g n k) lower) (met-of k h))
+      (alone usage (told_of clauses j) (given-formed usage clauses j tells) (given-told usage clauses j tells)) more.2
+      alone-met meeting-met
       (λ k h. ⊎_elim (λ one. inl one) (λ other. inr (of-met k other)) (or_cases (is_alone g k) (list_any (λ n. is_pair g n k) lower) h))
       apart)
+
+  -- some by itself and some with its partners
+  some-met :
+      (by_itself now : List Inference)
+      → AreSomeAlone store.partners.mode given by_itself → AddsSomeMeetings place store.partners given by_itself now
+      → AreSomeMetWith store.partners.mode (members_in store.slots.items) g lower now
+  some-met by_itself now alone adds usage clauses j tells =
+      let p = usage.is_predicate in
+      let mode = mode_of store.partners.mode in
+      let more = adds usage (told_of clauses j) (looked-up usage clauses j tells) in
+      subst (λ (xs : List Inference). AreSomeInferences p mode (told_of clauses j) (is_met g lower) xs) (sym more.1)
+      (some-joined p mode (told_of clauses j) (is_alone g) (is_meeting place store.partners g) (is_met g lower) by_itself more.0
+      (alone usage (told_of clauses j) (given-formed usage clauses j tells) (given-told usage clauses j tells)) more.2
+      alone-met meeting-met apart)
+
+  -- ---- until there are as many as are left
+
+  some-alone : (most : Option ℕ) (found : List Inference) → AreAloneUpTo most store.partners.mode given found → AreSomeAlone store.partners.mode given found
+  some-alone most found h =
+      ⊎_elim
+      (λ all usage clauses formed told.
+      all-some usage.is_predicate (mode_of store.partners.mode) clauses (is_alone g) found (all usage clauses formed told))
+      (λ some. some.1) h
+
+  pub alone-enough :
+      (left : ℕ) (found : List Inference)
+      → AreAloneUpTo (Some left) store.partners.mode given found → is_enough (Some left) (length found) ≡ true
+      → AreMetUpTo left store.partners.mode (members_in store.slots.items) g lower found
+  alone-enough left found h enough =
+      inr (
+        leb-true left (length found) enough,
+        λ usage clauses j tells.
+            some-wider usage.is_predicate (mode_of store.partners.mode) (told_of clauses j) (is_alone g) (is_met g lower) found alone-met
+            (some-alone (Some left) found h usage (told_of clauses j) (given-formed usage clauses j tells) (given-told usage clauses j tells)),
+      )
+
+  pub met-up_to :
+      (left : ℕ) (by_itself now : List Inference)
+      → AreAloneUpTo (Some left) store.partners.mode given by_itself → is_enough (Some left) (length by_itself) ≡ false
+      → AddsMeetingsUpTo (Some left) place store.partners given by_itself now
+      → AreMetUpTo left store.partners.mode (members_in store.slots.items) g lower now
+  met-up_to left by_itself now h few adds =
+      ⊎_elim
+      (λ all.
+      inl
+      (all-met by_itself now (⊎_elim (λ whole. whole) (λ some. absurd (true≢false (sym some.0 ∙ few))) h) all))
+      (λ some. inr (leb-true left (length now) some.0, some-met by_itself now (some-alone (Some left) by_itself h) some.1))
+      adds

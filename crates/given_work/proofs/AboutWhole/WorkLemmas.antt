@@ -1,5 +1,5 @@
 -- The work on a given clause is right.
-use Rattle.std.proofs.Common.{◌≡◌, ◌⊎◌, ℕ, ◌<◌, ◌≤◌, ◌==◌, not, Bool, true, List, [], ◌∷◌, ◌++◌, append-nil, length, map, Some, None, refl, ap, ap₂, sym, ◌∙◌, subst, ⊎_elim, inl, inr}
+use Rattle.std.proofs.Common.{◌≡◌, ◌⊎◌, ℕ, suc, ◌<◌, ◌≤◌, ◌==◌, not, Bool, true, List, [], ◌∷◌, ◌++◌, append-nil, length, map, Some, None, refl, ap, ap₂, sym, ◌∙◌, subst, ⊎_elim, inl, inr}
 use Rattle.std.specs.Prelude.{All, AllPairs, Contains, slice_get, take_while, option_map, IsTrue}
 use Rattle.std.specs.List.{list_all, list_any}
 use Rattle.std.proofs.lemmas.Bool.{cond-true, and_from, and_parts, eq-eqb, true≢false}
@@ -18,7 +18,7 @@ use Rattle.bank_clause.specs.Clause.{clause_at}
 use Rattle.bank_clause.specs.declared.member.Member.{Member}
 use Rattle.partners.specs.Partners.{Placed, placed_numbered}
 use Rattle.subsume.specs.Members.{numbers_of}
-use Rattle.eq_rules.specs.Inferences.{AreInferences, IsMade}
+use Rattle.eq_rules.specs.Inferences.{AreInferences, AreSomeInferences, IsMade}
 use Rattle.eq_rules.specs.declared.inference.Inference.{Inference}
 use Rattle.pool_history.specs.Record.{GivenJob}
 use Rattle.pool_history.specs.Counting.{keys_of}
@@ -32,7 +32,7 @@ use Rattle.pool_history.specs.declared.batch.Removal.{Removal}
 use Rattle.pool_history.specs.declared.batch.Work.{Work}
 use Rattle.pool_history.specs.declared.batch.Work.TheVariants.{Gone}
 use Rattle.given_work.specs.Going.{GoesRightly, IsRemovalOf, LeavesIrreducible}
-use Rattle.given_work.specs.Meeting.{AreEntriesOf, AreFirstEntries, AreMetWith, IsMadeWith, before_place, is_met}
+use Rattle.given_work.specs.Meeting.{AreEntriesOf, AreFirstEntries, AreMetUpTo, AreSomeMetWith, IsMadeWith, before_place, is_met}
 use Rattle.given_work.specs.Removing.{AreTold, Removes}
 use Rattle.given_work.specs.Sets.{AreSetsOf}
 use Rattle.given_work.specs.Store.{ArePlaced, IsAt, members_in}
@@ -42,6 +42,7 @@ use Rattle.given_work.specs.declared.sets.Sets.{Sets}
 use Rattle.given_work.specs.declared.store.Store.{Store}
 use Rattle.given_work.proofs.AboutBatches.Justifiers.{all-from}
 use Rattle.given_work.proofs.AboutMeeting.KeyLemmas.{Contains-map, before-is, keys-differ, meets-met, met-meets, once-first, to_meet}
+use Rattle.given_work.proofs.AboutMeeting.InferenceLemmas.{all-some}
 use Rattle.given_work.proofs.AboutMeeting.MeetLemmas.{not-before}
 use Rattle.given_work.proofs.AboutIndexes.Slots.{at-living, living-at}
 use Rattle.given_work.proofs.AboutIndexes.StoreLemmas.{found-placed, placed_at}
@@ -77,11 +78,20 @@ given-at store n place m placed position member =
 
 -- ---- inferences for some job
 
+some-of-met :
+    (left : ℕ) (mode : Selection) (ms : List Member) (g : ℕ) (ns : List ℕ) (found : List Inference)
+    → AreMetUpTo left mode ms g ns found → AreSomeMetWith mode ms g ns found
+some-of-met left mode ms g ns found met =
+    ⊎_elim
+    (λ all usage clauses j tells.
+    all-some usage.is_predicate (mode_of mode) (told_of clauses j) (is_met g ns) found (all usage clauses j tells))
+    (λ some. some.1) met
+
 pub all-made :
-    (mode : Selection) (ms : List Member) (sets : Sets) (g : ℕ) (ns : List ℕ) (found : List Inference)
-    → AreTold ms → AreSetsOf ms sets → All (λ (m : Member). m.number < CLAUSE_NUMBERS) ms → AreMetWith mode ms g ns found
+    (left : ℕ) (mode : Selection) (ms : List Member) (sets : Sets) (g : ℕ) (ns : List ℕ) (found : List Inference)
+    → AreTold ms → AreSetsOf ms sets → All (λ (m : Member). m.number < CLAUSE_NUMBERS) ms → AreMetUpTo left mode ms g ns found
     → All (IsMadeWith sets.equations sets.units sets.subsumers) found
-all-made mode ms sets g ns found told are numbered met =
+all-made left mode ms sets g ns found told are numbered met =
     all-from (IsMadeWith sets.equations sets.units sets.subsumers) found λ e there. record {
       mode = mode_of mode;
       usage = told.usage;
@@ -91,7 +101,7 @@ all-made mode ms sets g ns found told are numbered met =
       made =
           (All-contains
           (λ (d : Inference). IsTrue (is_met g ns d.key) × IsMade (told.usage).is_predicate (mode_of mode) (told_of told.clauses told.job) d.key d.result)
-          found e (met told.usage told.clauses told.job told.tells).made there).1;
+          found e (some-of-met left mode ms g ns found met told.usage told.clauses told.job told.tells).made there).1;
     }
 
 -- ---- entries
@@ -99,6 +109,11 @@ all-made mode ms sets g ns found told are numbered met =
 entered-keys : (split : Bool) (es us ms : List Member) (done : List Inference) (entries : List Entry) → AreEntriesOf split es us ms done entries → keys_of entries ≡ map (λ (e : Inference). e.key) done
 entered-keys split es us ms [] entries none = ap keys_of none
 entered-keys split es us ms (d ∷ ds) entries some = ap keys_of some.2 ∙ ap₂ (λ (k : Key) (ks : List Key). k ∷ ks) (some.3).key (entered-keys split es us ms ds some.1 some.4)
+
+entered-length : (split : Bool) (es us ms : List Member) (done : List Inference) (entries : List Entry) → AreEntriesOf split es us ms done entries → length entries ≡ length done
+entered-length split es us ms [] entries none = ap (λ (xs : List Entry). length xs) none
+entered-length split es us ms (d ∷ ds) entries some =
+    ap (λ (xs : List Entry). length xs) some.2 ∙ ap suc (entered-length split es us ms ds some.1 some.4)
 
 every : {X : Type 0} (q : X → Bool) (xs : List X) → ((x : X) → Contains xs x → q x ≡ true) → list_all q xs ≡ true
 every {X = X} q xs each = by xs (all-from (λ (x : X). q x ≡ true) xs each)
@@ -189,7 +204,10 @@ module _ (usage : SymbolUse) (options : Options) (clauses : Lookup) (j : GivenJo
         (subst (λ ns. to_meet given.number ns key ≡ true) lower-is (subst (λ k. to_meet k (told_before j) key ≡ true) same h))
 
     abbrev Finds : List Inference → Type 0
-    Finds found = AreInferences p (mode_of options.select) (told_of clauses j) (is_met given.number lower) found
+    Finds found = AreSomeInferences p (mode_of options.select) (told_of clauses j) (is_met given.number lower) found
+
+    abbrev FindsAll : List Inference → Type 0
+    FindsAll found = AreInferences p (mode_of options.select) (told_of clauses j) (is_met given.number lower) found
 
     module _ (found : List Inference) (finds : Finds found) (entries : List Entry)
         (first : AreFirstEntries split sets.equations sets.units sets.subsumers found left entries) where
@@ -221,9 +239,15 @@ module _ (usage : SymbolUse) (options : Options) (clauses : Lookup) (j : GivenJo
           fates-right split sets.equations sets.units sets.subsumers first.done entries told-sets splits first.entered
           (all-from Makes first.done (λ e there. (each-done e there).1))
 
-      meets-all : first.rest ≡ [] → MeetsAll p options clauses j entries
-      meets-all none key c meets inferred =
-          let e = finds.complete key c (to-is-met key c inferred meets) inferred in
+      -- where no inference is left over, there are as many entries as inferences
+      as-many : first.rest ≡ [] → length entries ≡ length found
+      as-many none =
+          entered-length split sets.equations sets.units sets.subsumers first.done entries first.entered
+          ∙ sym (ap (λ (xs : List Inference). length xs) (first.all ∙ ap (λ (r : List Inference). first.done ++ r) none ∙ append-nil first.done))
+
+      meets-all : FindsAll found → first.rest ≡ [] → MeetsAll p options clauses j entries
+      meets-all all none key c meets inferred =
+          let e = all.complete key c (to-is-met key c inferred meets) inferred in
           let there : Contains first.done e.0 =
           subst (λ (xs : List Inference). Contains xs e.0) (first.all ∙ ap (λ (r : List Inference). first.done ++ r) none ∙ append-nil first.done) e.1 in
           subst (λ k. Contains (keys_of entries) k) e.2
@@ -286,8 +310,8 @@ module _ (usage : SymbolUse) (options : Options) (clauses : Lookup) (j : GivenJo
         finds : Finds by.found
         finds =
             subst
-            (λ (m : Selection). AreInferences p (mode_of m) (told_of clauses j) (is_met given.number lower) by.found)
-            (sym same_mode) (by.met usage clauses j tells)
+            (λ (m : Selection). AreSomeInferences p (mode_of m) (told_of clauses j) (is_met given.number lower) by.found)
+            (sym same_mode) (some-of-met left mode all_members given.number lower by.found by.met usage clauses j tells)
 
         removed : All (Removes p options clauses j) by.removals
         removed =
@@ -302,10 +326,21 @@ module _ (usage : SymbolUse) (options : Options) (clauses : Lookup) (j : GivenJo
             ⊎_elim
             (λ stopped. inl (subst (λ n. n ≤ length by.entries) (sym same_left) stopped))
             (λ whole.
+            ⊎_elim
+            (λ found_all.
             inr (
-              meets-all by.found finds by.entries by.entered whole,
+              meets-all by.found finds by.entries by.entered
+                  (subst
+                  (λ (m : Selection). AreInferences p (mode_of m) (told_of clauses j) (is_met given.number lower) by.found)
+                  (sym same_mode) (found_all usage clauses j tells))
+                  whole,
               removes-all by.removals (all usage options clauses j tells splits same),
             ))
+            (λ found_some.
+            inl
+            (subst (λ n. n ≤ length by.entries) (sym same_left)
+            (subst (λ n. left ≤ n) (sym (as-many by.found finds by.entries by.entered whole)) found_some.0)))
+            by.met)
             (by.entered).enough
 
 -- ---- work

@@ -4,13 +4,15 @@ use Rattle.std.specs.Prelude.{Option, None, Some, option_copied, cond, nat_eq, I
 use Rattle.std.specs.Map.{lookup}
 use Rattle.fol_base.specs.Tree.{Tree}
 use Rattle.fol_base.specs.Clause.{TreeLiteral}
-use Rattle.fol_base.specs.Sides.{side_of}
+use Rattle.fol_base.specs.Sides.{side_of, other_side_of}
 use Rattle.fol_base.specs.Compatible.{compatible_generalisation}
 use Rattle.bank_clause.specs.Clause.{clause_at, side_number}
 use Rattle.bank_clause.specs.declared.clause.BankClause.{BankClause}
 use Rattle.disc_tree.specs.Entries.{IsIn, numbers_where}
 use Rattle.rewriting.specs.Units.{clause_numbered, member_of, oriented, IsUnit, may_rewrite, HasCandidates, IsRecorded, IsUnitAt}
+use Rattle.rewriting.specs.Descent.{Descends}
 use Rattle.rewriting.specs.Index.{KeepsOthers}
+use Rattle.rewriting.specs.declared.descent.Descent.{Descent}
 use Rattle.rewriting.specs.declared.index.Orientation.{Orientation}
 use Rattle.fol_base.specs.declared.clause.Side.{Side}
 use Rattle.rewriting.specs.declared.units.Unit.{Unit}
@@ -71,15 +73,17 @@ absent-kept number old new es fs same keeps absent at =
     by_number.absent-kept clause_of_unit (IsUnitAt old) (IsUnitAt new) number es fs same (kept-others number old new keeps) absent at
 
 pub made-unit :
-    (sides : List (Tree × ℕ)) (number : ℕ) (clause made : BankClause) (by : Orientation) (l : TreeLiteral) (is : IsUnit (clause_at clause))
+    (sides : List (Tree × ℕ)) (number : ℕ) (clause made : BankClause) (by : Orientation) (descent : Descent) (l : TreeLiteral) (is : IsUnit (clause_at clause))
     → number < 2 ^ 32 → made ≡ clause → l ≡ is.equation → ((s : Side) → oriented s by ≡ may_rewrite s l)
+    → ((s : Side) → IsTrue (may_rewrite s l) → Descends descent (side_of s l) (other_side_of s l))
     → ((s : Side) → IsTrue (oriented s by) → IsIn (side_of s l, side_number number s) sides)
-    → IsUnitAt sides number (record { clause = made; by = by })
-made-unit sides number clause made by l is low same equation flags put = record {
+    → IsUnitAt sides number (record { clause = made; by = by; descent = descent })
+made-unit sides number clause made by descent l is low same equation flags descends put = record {
   numbered = low;
   recorded = record {
     unit = record { equation = l; alone = ap (λ (c : BankClause). (clause_at c).literals) same ∙ is.alone ∙ ap (λ (e : TreeLiteral). e ∷ []) (sym equation); positive = ap (λ (e : TreeLiteral). e.positive) equation ∙ is.positive };
     rewrites = flags;
+    descends = descends;
   };
   indexed = λ s has. put s (flags s ∙ has);
 }

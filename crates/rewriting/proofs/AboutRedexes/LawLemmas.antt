@@ -1,13 +1,13 @@
 -- Redexes and rewriting steps.
 use Rattle.std.proofs.Common.{◌≡◌, ℕ, Bool, true, false, ◌&&◌, ◌==◌, List, [], ◌∷◌, refl, ap, sym, ◌∙◌, subst, append-nil, not, ⊎_elim, arith}
-use Rattle.std.specs.Prelude.{Option, None, Some, All, IsTrue, slice_get, slice_set, is_some, if◌then◌else◌}
+use Rattle.std.specs.Prelude.{Option, None, Some, All, IsTrue, slice_get, slice_set, if◌then◌else◌}
 use Rattle.std.specs.List.{list_any, list_all}
 use Rattle.std.proofs.lemmas.Bool.{true≢false, and_from, and_parts, false_from_ne_true, not-true}
 use Rattle.std.proofs.lemmas.Option.{same_Some}
 use Rattle.std.proofs.lemmas.List.Elements.{All-head, All-tail}
 use Rattle.fol_base.specs.Tree.{Tree, variable, application, true_tree, tree_variables, is_variable, is_truth}
 use Rattle.fol_base.specs.Instance.{Substitution, instance}
-use Rattle.fol_base.specs.Place.{subterm, replaced}
+use Rattle.fol_base.specs.Place.{subterm}
 use Rattle.fol_base.specs.Clause.{TreeLiteral, TreeClause, literal_instance}
 use Rattle.rewriting.specs.Searching.{IsFoundOf}
 use Rattle.rewriting.specs.declared.searching.Found.{Found}
@@ -21,7 +21,7 @@ use Rattle.fol_base.specs.Subsumption.{assertions}
 use Rattle.fol_base.specs.declared.clause.Side.{Side}
 use Rattle.fol_base.specs.declared.clause.Side.TheVariants.{Left, Right}
 use Rattle.fol_base.proofs.WorkedExamples.TestLemmas.{list_all-item}
-use Rattle.fol_base.proofs.AboutInstances.ConversePlaces.{replaced_where_there, replaced-there}
+use Rattle.fol_base.proofs.AboutInstances.ConversePlaces.{replaced-there}
 use Rattle.fol_base.proofs.AboutClauses.RuleLemmas.{superposed-parts, superposed_literal-parts, superposed-from, superposed_literal-from}
 use Rattle.fol_base.proofs.AboutClauses.InferenceLemmas.{side_of-instance}
 use Rattle.fol_base.proofs.AboutTerms.KindLemmas.{function_term-no_truth, no_predicate_term}

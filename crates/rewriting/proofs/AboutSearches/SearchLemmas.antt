@@ -6,7 +6,7 @@ use Rattle.std.proofs.lemmas.Bool.{true≢false}
 use Rattle.std.proofs.lemmas.Option.{none-some, same_Some}
 use Rattle.fol_base.specs.Term.{tree_of}
 use Rattle.fol_base.specs.declared.term.Term.{Term}
-use Rattle.fol_base.specs.Tree.{Tree, variable, application, Trees, trees_of, list_of, tree_size}
+use Rattle.fol_base.specs.Tree.{Tree, variable, application, Trees, trees_of, list_of, tree_size, is_variable}
 use Rattle.fol_base.specs.Instance.{instance}
 use Rattle.fol_base.specs.Place.{subterm}
 use Rattle.fol_base.specs.Clause.{TreeLiteral, TreeClause}
@@ -255,3 +255,40 @@ pub literal-found :
     → IsNormal clauses (root_spot Left l) l.left → IsFoundOfSide clauses l index Right o → IsFoundOfLiteral clauses l index o
 literal-found clauses l index None left right = both-normal clauses l left right
 literal-found clauses l index (Some f) left right = (Right, right)
+
+-- ---- terms that are remembered
+
+and-false : (b : Bool) → (b && false) ≡ false
+and-false true = refl
+and-false false = refl
+
+-- a redex at a spot is one below the root
+redex-inside : (clauses : ℕ → Option TreeClause) (spot : Spot) (old : Tree) → HasRedex clauses spot old → HasRedex clauses inner old
+redex-inside clauses spot old h = record {
+  number = h.number;
+  unit = h.unit;
+  there = h.there;
+  equation = h.equation;
+  alone = h.alone;
+  positive = h.positive;
+  side = h.side;
+  matcher = h.matcher;
+  redex = record {
+    matches = h.redex.matches;
+    no_atom = and-false (is_variable (side_of h.side h.equation));
+    no_new_variables = h.redex.no_new_variables;
+    greater = h.redex.greater;
+    within = refl;
+  };
+}
+
+pub normal-anywhere : (clauses : ℕ → Option TreeClause) (spot : Spot) (t : Tree) → IsNormal clauses inner t → IsNormal clauses spot t
+normal-anywhere clauses spot t normal [] old there h = normal [] old there (redex-inside clauses spot old h)
+normal-anywhere clauses spot t normal (i ∷ place) old there h = normal (i ∷ place) old there h
+
+-- where nothing was found in a term below the root of a side
+pub normal-inside :
+    (clauses : ℕ → Option TreeClause) (spot : Spot) (t : Tree) (before path : List ℕ) (answer : Option Rewrite)
+    → IsFoundIn clauses spot t before path answer → answer ≡ None → spot ≡ inner → IsNormal clauses inner t
+normal-inside clauses spot t before path answer found none inside =
+    subst (λ s. IsNormal clauses s t) inside (subst (λ (o : Option Rewrite). IsFoundIn clauses spot t before path o) none found).1

@@ -3,8 +3,8 @@ use Rattle.std.specs.Prelude.{IsPermutation}
 use Rattle.std.proofs.lemmas.Result.{IfOk-weaker}
 use Rattle.std.proofs.lemmas.List.Sorted.{IsPermutation-trans}
 use Rattle.bank_clause.specs.declared.member.Member.{Member}
-use Rattle.subsume.specs.Tree.{member_feature, members_of, content}
-use Rattle.subsume.proofs.AboutTree.EditLemmas.{all-inserted, inserted-low, inserted-high, entry-pushed}
+use Rattle.subsume.specs.Tree.{IsBoundedBy, member_feature, members_of, content}
+use Rattle.subsume.proofs.AboutTree.EditLemmas.{all-inserted, bound-entry, bound-raised, inserted-low, inserted-high, entry-pushed}
 use Rattle.subsume.proofs.+insert.Goals as goal
 
 pub editing::insert_beside-returns-then-value-division-clause-sound : goal.editing::insert_beside-returns-then-value-division-clause-sound
@@ -18,6 +18,7 @@ editing::insert_beside-returns-then-value-division-clause-sound t c =
           all-inserted (λ (m : Member). member_feature D.positive D.measure m ≤ D.most) c.insert.result c.args.entry.member D.low.0 c.insert.new.self.0
           c.insert.ensures.ok c.insert.ensures.err here c.requires.sound.low;
       high = c.requires.sound.high;
+      bound = c.requires.sound.bound;
     }
 
 pub editing::insert_beside-returns-then-value-division-clause-ok : goal.editing::insert_beside-returns-then-value-division-clause-ok
@@ -36,6 +37,11 @@ editing::insert_beside-returns-else-value-division-clause-sound t c =
       high =
           all-inserted (λ (m : Member). D.most < member_feature D.positive D.measure m) c.insert-else-value-division.result c.args.entry.member D.high.0
           c.insert-else-value-division.new.self.0 c.insert-else-value-division.ensures.ok c.insert-else-value-division.ensures.err here c.requires.sound.high;
+      bound =
+          all-inserted (IsBoundedBy c.raise.new.self.values) c.insert-else-value-division.result c.args.entry.member D.high.0
+          c.insert-else-value-division.new.self.0 c.insert-else-value-division.ensures.ok c.insert-else-value-division.ensures.err
+          (bound-entry D.bound.values c.raise.new.self.values c.args.entry c.raise.ensures c.requires.entry)
+          (bound-raised D.bound.values c.args.entry.features.values c.raise.new.self.values D.high.0 c.raise.ensures c.requires.sound.bound);
     }
 
 pub editing::insert_beside-returns-else-value-division-clause-ok : goal.editing::insert_beside-returns-else-value-division-clause-ok

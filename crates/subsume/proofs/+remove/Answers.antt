@@ -1,6 +1,6 @@
 use Rattle.std.proofs.Common.{◌≤◌, ◌<◌}
 use Rattle.bank_clause.specs.declared.member.Member.{Member}
-use Rattle.subsume.specs.Tree.{member_feature}
+use Rattle.subsume.specs.Tree.{IsBoundedBy, member_feature}
 use Rattle.subsume.proofs.AboutTree.EditLemmas.{all-removed, removed-low, removed-high}
 use Rattle.subsume.proofs.+remove.Goals as goal
 
@@ -13,6 +13,7 @@ editing::remove_beside-returns-then-value-division-clause-sound t c =
           all-removed (λ (m : Member). member_feature D.positive D.measure m ≤ D.most) c.args.number D.low.0 c.remove.new.self.0 c.remove.result
           c.remove.ensures.removed c.remove.ensures.unchanged c.requires.low;
       high = c.requires.high;
+      bound = c.requires.bound;
     }
 
 pub editing::remove_beside-returns-then-value-division-clause-removed : goal.editing::remove_beside-returns-then-value-division-clause-removed
@@ -28,6 +29,9 @@ editing::remove_beside-returns-else-value-division-clause-sound t c =
       high =
           all-removed (λ (m : Member). D.most < member_feature D.positive D.measure m) c.args.number D.high.0 c.remove-else-value-division.new.self.0
           c.remove-else-value-division.result c.remove-else-value-division.ensures.removed c.remove-else-value-division.ensures.unchanged c.requires.high;
+      bound =
+          all-removed (IsBoundedBy D.bound.values) c.args.number D.high.0 c.remove-else-value-division.new.self.0
+          c.remove-else-value-division.result c.remove-else-value-division.ensures.removed c.remove-else-value-division.ensures.unchanged c.requires.bound;
     }
 
 pub editing::remove_beside-returns-else-value-division-clause-removed : goal.editing::remove_beside-returns-else-value-division-clause-removed

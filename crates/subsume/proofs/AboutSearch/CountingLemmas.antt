@@ -1,6 +1,6 @@
 -- Counting what an index tells clauses apart by.
 use mathlib.Core.Bool.{beq}
-use Rattle.std.proofs.Common.{◌≡◌, ◌⊎◌, ℕ, zero, suc, ◌+◌, ◌/◌, ◌%◌, ◌<◌, ◌≤◌, inl, inr, ⊎_elim, Bool, true, false, List, [], ◌∷◌, ◌++◌, map, take, get_or, min, length, Some, refl, ap, ◌∙◌, arith}
+use Rattle.std.proofs.Common.{◌≡◌, ◌⊎◌, ℕ, zero, suc, ◌+◌, ◌*◌, ◌/◌, ◌%◌, ◌<◌, ◌≤◌, inl, inr, ⊎_elim, Bool, true, false, List, [], ◌∷◌, ◌++◌, map, take, get_or, min, length, Some, refl, ap, ◌∙◌, arith}
 use Rattle.std.specs.Prelude.{if◌then◌else◌, slice_get, slice_index, sum_by}
 use Rattle.std.proofs.lemmas.List.Sums.{sum_by-cons}
 use Rattle.fol_base.specs.Tree.{Tree, trees_of}
@@ -63,6 +63,10 @@ features-more ls i l before after at known added = λ positive k h.
     let old = known positive k h in
     let more = sum-take_more (by_sign positive (literal_measure k)) ls i l at in
     omega (arith, old, more, added positive k h (omega (arith, old)))
+
+pub slot-below : (positive : Bool) (k : ℕ) → k < MEASURES → slot positive k < 2 * MEASURES
+slot-below true k h = omega (arith, h)
+slot-below false k h = omega (arith, h)
 
 -- each place is that of a measure over the literals of a sign
 pub slot-of : (i : ℕ) → (i ≡ slot true (i / 2)) ⊎ (i ≡ slot false (i / 2))

@@ -12,7 +12,7 @@ use Rattle.subsume.specs.declared.vector.TheConstants.{MEASURES}
 use Rattle.subsume.specs.Features.{slot, AreFeaturesOf}
 use Rattle.subsume.specs.Searching.{IsLowest, IsSubsumedBy, AddsSubsumed, IsBelow, IsLowestBelow, IsSubsumer, AreNumbersWhere}
 use Rattle.bank_clause.specs.Members.{IsMemberOfUse, SomeMember}
-use Rattle.subsume.specs.Tree.{feature, member_feature, IsEntry}
+use Rattle.subsume.specs.Tree.{feature, member_feature, IsBoundedBy, IsEntry}
 use Rattle.subsume.specs.Query.{IsQueryFor, IsLowering, IsLowestSubsumer}
 use Rattle.subsume.specs.declared.lowest.Query.{Query}
 use Rattle.subsume.specs.declared.entry.Entry.{Entry}
@@ -187,6 +187,24 @@ less-stays by positive k most ms found few more =
     (λ usage m there does.
     let above : member_feature positive k m ≤ most = All-contains (λ (x : Member). member_feature positive k x ≤ most) ms m few there in
     absurd (omega (arith, above, feature-grows usage.is_predicate (clause_at by.clause) (clause_at m.clause) positive k does.subsumed)))
+
+-- nor are those that a bound excludes
+pub bounded-stays :
+    (by : Member) (mine values : List ℕ) (answer : Bool) (ms : List Member) (found : List ℕ)
+    → AreFeaturesOf (clause_at by.clause).literals mine
+    → (((positive : Bool) (k : ℕ) → k < MEASURES → slice_index mine (slot positive k) ≤ slice_index values (slot positive k)) → answer ≡ true)
+    → answer ≡ false → All (IsBoundedBy values) ms → AddsSubsumed by ms found found
+bounded-stays by mine values answer ms found known asked no_ bounded =
+    adds-none by ms found
+    (λ usage m there does.
+    let below : IsBoundedBy values m = All-contains (IsBoundedBy values) ms m bounded there in
+    true≢false
+    (sym (asked (λ positive k h. omega (
+      arith,
+      below positive k h,
+      known positive k h,
+      feature-grows usage.is_predicate (clause_at by.clause) (clause_at m.clause) positive k does.subsumed,
+    ))) ∙ no_))
 
 pub adds-answered :
     (by : Member) (front : List Member) (m : Member) (first found after : List ℕ) (answer : Bool)

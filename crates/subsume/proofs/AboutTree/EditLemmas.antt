@@ -1,15 +1,16 @@
 -- Members that are put in, taken out and divided.
 use Rattle.std.proofs.Common.{◌≡◌, ℕ, ◌<◌, ◌≤◌, Bool, true, false, List, [], ◌∷◌, ◌++◌, Result, Ok, Err, length, get_or, refl, ap, sym, ◌∙◌, subst, append_assoc, arith}
-use Rattle.std.specs.Prelude.{All, IfOk, OnErr, IsTrue, IsPermutation}
+use Rattle.std.specs.Prelude.{All, IfOk, OnErr, IsTrue, IsPermutation, slice_index, max}
 use Rattle.std.proofs.lemmas.List.{map-append}
-use Rattle.std.proofs.lemmas.List.Elements.{All-head, All-tail, All-cons}
+use Rattle.std.proofs.lemmas.List.Elements.{All-head, All-tail, All-cons, All-weaker}
 use Rattle.std.proofs.lemmas.List.Sorted.{IsPermutation-sym, IsPermutation-trans, IsPermutation-map, IsPermutation-append_left, IsPermutation-append_right, IsPermutation-middle, IsPermutation-to_front, All-permutation}
 use Rattle.bank_clause.specs.declared.member.Member.{Member}
 use Rattle.subsume.specs.declared.entry.Entry.{Entry}
 use Rattle.subsume.specs.declared.editing.Cut.{Cut}
 use Rattle.subsume.specs.declared.vector.TheConstants.{MEASURES}
 use Rattle.subsume.specs.declared.tree.Division.{Division}
-use Rattle.subsume.specs.Tree.{IsDivision, IsEntry, member_feature, members_of}
+use Rattle.subsume.specs.Features.{slot}
+use Rattle.subsume.specs.Tree.{IsBoundedBy, IsDivision, IsEntry, member_feature, members_of}
 use Rattle.subsume.specs.Editing.{HasAtMost, HasMore, IsNumbered}
 
 abbrev member : Entry → Member
@@ -139,8 +140,9 @@ pub division-made :
     (cut : Cut) (d : Division) (low high : List Entry)
     → cut.positive ≡ d.positive → cut.measure ≡ d.measure → cut.most ≡ d.most
     → d.low.0 ≡ members_of low → d.high.0 ≡ members_of high
-    → cut.measure < MEASURES → All IsEntry low → All IsEntry high → All (HasAtMost cut) low → All (HasMore cut) high → IsDivision d
-division-made cut d low high p m o l h inside known_low known_high few more =
+    → cut.measure < MEASURES → All IsEntry low → All IsEntry high → All (HasAtMost cut) low → All (HasMore cut) high
+    → All (IsBoundedBy d.bound.values) (members_of high) → IsDivision d
+division-made cut d low high p m o l h inside known_low known_high few more bounded =
     let here : Cut = record { positive = d.positive; measure = d.measure; most = d.most } in
     let same : cut ≡ here = λ i. record { positive = p i; measure = m i; most = o i } in
     record {
@@ -151,4 +153,25 @@ division-made cut d low high p m o l h inside known_low known_high few more =
       high =
           subst (All (λ k. d.most < member_feature d.positive d.measure k)) (sym h)
           (subst (λ (c : Cut). All (λ k. c.most < member_feature c.positive c.measure k) (members_of high)) same (high-side cut high inside known_high more));
+      bound = subst (All (IsBoundedBy d.bound.values)) (sym h) bounded;
     }
+
+-- ---- bounds
+
+-- a bound that is raised
+pub bound-raised :
+    (values others new : List ℕ) (ms : List Member)
+    → ((positive : Bool) (k : ℕ) → k < MEASURES
+    → slice_index new (slot positive k) ≡ max (slice_index values (slot positive k)) (slice_index others (slot positive k)))
+    → All (IsBoundedBy values) ms → All (IsBoundedBy new) ms
+bound-raised values others new ms raised h =
+    All-weaker (IsBoundedBy values) (IsBoundedBy new)
+    (λ m below positive k inside. omega (arith, below positive k inside, raised positive k inside)) ms h
+
+-- it bounds the entry by which it was raised
+pub bound-entry :
+    (values new : List ℕ) (e : Entry)
+    → ((positive : Bool) (k : ℕ) → k < MEASURES
+    → slice_index new (slot positive k) ≡ max (slice_index values (slot positive k)) (slice_index e.features.values (slot positive k)))
+    → IsEntry e → IsBoundedBy new e.member
+bound-entry values new e raised known positive k inside = omega (arith, known positive k inside, raised positive k inside)

@@ -81,6 +81,10 @@ Once-append (x ∷ xs) ys h k apart = (
   Once-append xs ys h.1 k (λ z in_xs in_ys. apart z (inr in_xs) in_ys),
 )
 
+pub Once-front : {X : Type 0} (xs ys : List X) → Once (xs ++ ys) → Once xs
+Once-front [] ys h = tt
+Once-front (x ∷ xs) ys h = ((λ e. h.0 (In-left x xs ys e)), Once-front xs ys h.1)
+
 pub Once-map : {X Y : Type 0} (f : X → Y) (xs : List X) → ((x y : X) → f x ≡ f y → x ≡ y) → Once xs → Once (map f xs)
 Once-map {X = X} f [] apart h = tt
 Once-map {X = X} f (x ∷ xs) apart h = (

@@ -46,11 +46,11 @@ use Rattle.eq_rules.proofs.AboutConclusions.ConclusionLemmas.{conclusion_numbere
 use Rattle.eq_rules.proofs.AboutConclusions.SideLemmas.{Kinds}
 use Rattle.eq_rules.proofs.AboutConclusions.StepLemmas.{renaming-no_truth}
 use Rattle.eq_rules.proofs.AboutConclusions.WideLemmas.{Has, Has-front, Has-back, numbered, literals-below, renamed-literals, renamed-literals_size}
-use Rattle.superpose.specs.Superposing.{para_key, allows, are_alike, are_positive_atoms, StartsAt, EntersAt, SuperposesBy}
+use Rattle.superpose.specs.Superposing.{para_key, allows, are_alike, StartsAt, EntersAt, SuperposesBy}
 use Rattle.superpose.specs.Concluding.{superposed_at, GivesNumbered}
 use Rattle.eq_rules.specs.declared.concluding.LiteralSide.{LiteralSide}
 use Rattle.superpose.specs.declared.sites.LiteralPlace.{LiteralPlace}
-use Rattle.superpose.proofs.AboutSites.AllowLemmas.{Allowed, allows-parts, allows-from, allowed_lifts, atoms_coincide, coincide_says, named-allowed}
+use Rattle.superpose.proofs.AboutSites.AllowLemmas.{Allowed, allows-parts, allows-from, allowed_lifts, coincide_says, named-allowed}
 use Rattle.superpose.proofs.AboutSteps.ApartLemmas.{wide_by, left_fresh, right_fresh, wide_by-literals, wide_by-back, wide_apart}
 use Rattle.superpose.proofs.AboutSteps.BoundLemmas.{left_terms_small, right_terms_small, left_terms_pass, right_terms_pass}
 use Rattle.superpose.proofs.AboutSites.KindLemmas.{kinds-alike}
@@ -114,16 +114,6 @@ module _
     unifies_here e n =
         sym (ap (λ (k : TreeLiteral). instance n.first_unifier (side_of s.side k)) (from_is e n))
         ∙ n.most_general.unifies ∙ ap (instance n.second_unifier) (old_is e n)
-
-    pub atoms_refused :
-        are_positive_atoms s t starts.literal enters.literal ≡ true
-        → (e : TreeClause) → IsInference p mode clauses (para_key number s partner t) e → ⊥
-    atoms_refused atoms e it =
-        let n = named_here e it in
-        true≢false
-        (sym
-        (atoms_coincide s t n.first_unifier n.second_unifier n.from n.into (ap₂ (are_positive_atoms s t) (from_is e n) (into_is e n) ∙ atoms))
-        ∙ (named-allowed p mode c s d t e n).differ)
 
     pub unlike_refused :
         is_literal p starts.literal ≡ true → is_literal p enters.literal ≡ true

@@ -17,7 +17,7 @@ use Rattle.fol_base.proofs.AboutTerms.TreeLemmas.{tree_eq-refl, tree_eq-true}
 use Rattle.literal_selection.proofs.EligibleLemmas.{eligible_lifts}
 use Rattle.kernel_steps.specs.Inference.{NamedSuperposition, other_side_not_above}
 use Rattle.eq_rules.proofs.AboutConclusions.SideLemmas.{not_above_by}
-use Rattle.superpose.specs.Superposing.{is_root, one_literal, both_literals, others_coincide, are_positive_atoms, starts_under, enters_under, allows}
+use Rattle.superpose.specs.Superposing.{is_root, one_literal, both_literals, others_coincide, starts_under, enters_under, allows}
 use Rattle.eq_rules.specs.declared.concluding.LiteralSide.{LiteralSide}
 use Rattle.superpose.specs.declared.sites.LiteralPlace.{LiteralPlace}
 
@@ -79,6 +79,11 @@ module _
       (starts_at σ ∙ and_from a e r.from_ordered r.from_eligible)
       (enters_at σ τ ∙ and_from (not d) (b && f) (not_from_false d r.differ) (and_from b f r.into_ordered r.into_eligible))
 
+  -- where the other sides become one term nothing is allowed
+  pub coincide-refuses : (σ τ : Substitution) → others_coincide s t σ τ l m ≡ true → allows ls s ks t choice σ τ ≡ false
+  coincide-refuses σ τ h =
+      false_from_ne_true (allows ls s ks t choice σ τ) (λ k. true≢false (sym h ∙ (allows-parts σ τ k).differ))
+
 -- ---- the other sides at the root of a positive literal
 
 pub coincide_from : (positive equal : Bool) (place : List ℕ) → (positive ≡ true → place ≡ [] → equal ≡ false) → ((positive && is_root place) && equal) ≡ false
@@ -92,17 +97,16 @@ coincide_says true equal [] h e f = h
 coincide_says true equal (k ∷ place) h e f = absurd (cc)
 coincide_says false equal place h e f = absurd (true≢false (sym e))
 
--- two positive atoms: under any substitutions both other sides are `$true`
+-- an atom at the root of a positive one: under any substitutions both other sides are `$true`
 pub atoms_coincide :
     (s : LiteralSide) (t : LiteralPlace) (σ τ : Substitution) (l m : TreeLiteral)
-    → are_positive_atoms s t l m ≡ true → others_coincide s t σ τ l m ≡ true
-atoms_coincide s t σ τ l m h =
+    → (m.positive && is_root t.place) ≡ true → is_truth (other_side_of s.side l) ≡ true → is_truth (other_side_of t.at.side m) ≡ true
+    → others_coincide s t σ τ l m ≡ true
+atoms_coincide s t σ τ l m root one_truth other_truth =
     let one : Tree = other_side_of s.side l in
     let other : Tree = other_side_of t.at.side m in
-    let parts = and_parts (m.positive && is_root t.place) (is_truth one && is_truth other) h in
-    let both = and_parts (is_truth one) (is_truth other) parts.1 in
-    and_from (m.positive && is_root t.place) (tree_eq (instance σ one) (instance τ other)) parts.0
-    (ap₂ (λ (u w : Tree). tree_eq (instance σ u) (instance τ w)) (tree_eq-true one true_tree both.0) (tree_eq-true other true_tree both.1))
+    and_from (m.positive && is_root t.place) (tree_eq (instance σ one) (instance τ other)) root
+    (ap₂ (λ (u w : Tree). tree_eq (instance σ u) (instance τ w)) (tree_eq-true one true_tree one_truth) (tree_eq-true other true_tree other_truth))
 
 coincide_lifts : (root before now : Bool) → (before ≡ true → now ≡ true) → (root && now) ≡ false → (root && before) ≡ false
 coincide_lifts false before now h k = refl

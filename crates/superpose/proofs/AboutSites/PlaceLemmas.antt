@@ -1,7 +1,6 @@
 -- Replacing a subterm: that it can be done, sizes, and the variables of what is made.
 use Rattle.std.proofs.Common.{◌≡◌, ℕ, zero, suc, ◌+◌, Some, List, [], ◌∷◌, ◌++◌, refl, ap, sym, ◌∙◌, arith}
-use Rattle.std.specs.Prelude.{flat_map, slice_get, slice_set, option_and_then}
-use Rattle.std.specs.Option.{option_map}
+use Rattle.std.specs.Prelude.{flat_map, slice_get, slice_set}
 use Rattle.std.proofs.lemmas.Option.{same_Some, option_and_then_some}
 use Rattle.fol_base.specs.Tree.{Tree, variable, application, trees_of, list_of, tree_size, trees_size, tree_variables, trees_variables}
 use Rattle.fol_base.specs.Place.{argument, with_argument, subterm, replaced}

@@ -1,45 +1,29 @@
 -- What a clause alone tells of a side holds under every substitution.
-use Rattle.std.proofs.Common.{◌≡◌, ◌↔◌, ◌+◌, ◌≤◌, ◌==◌, ℕ, zero, suc, ◌++◌, ◌<◌, Bool, true, false, not, ◌&&◌, Option, None, Some, List, [], ◌∷◌, length, refl, ap, ap₂, sym, ◌∙◌, subst, ⊎_elim, arith, eq-eqb}
-use Rattle.std.specs.Prelude.{slice_get, remove}
-use Rattle.std.specs.List.{list_all}
+use Rattle.std.proofs.Common.{◌≡◌, ◌↔◌, ◌+◌, ◌≤◌, ◌==◌, ℕ, ◌++◌, ◌<◌, Bool, true, false, not, ◌&&◌, Option, None, Some, List, [], ◌∷◌, length, refl, ap, ap₂, sym, ◌∙◌, subst, ⊎_elim, arith, eq-eqb}
+use Rattle.std.specs.Prelude.{slice_get}
 use Rattle.std.proofs.lemmas.Bool.{true≢false, not_from_false, and_from, cases_lt, eqb-true, false_from_ne_true}
 use Rattle.std.proofs.lemmas.List.{length-append}
-use Rattle.std.proofs.lemmas.List.Folds.{list_all-map}
 use Rattle.std.proofs.lemmas.Option.{same_Some, slice_get_within}
 use Rattle.fol_base.specs.Tree.{Tree, tree_eq}
 use Rattle.fol_base.specs.Instance.{Substitution, instance}
 use Rattle.fol_base.specs.Clause.{TreeLiteral, literal_instance}
 use Rattle.fol_base.specs.Ground.{literals_instance}
 use Rattle.fol_base.specs.Order.{tree_greater, literal_greater, equivalent_literals}
-use Rattle.fol_base.specs.Selection.{eligible, is_maximal_at}
+use Rattle.fol_base.specs.Selection.{eligible}
 use Rattle.fol_base.specs.Sides.{side_of, other_side_of}
 use Rattle.fol_base.specs.declared.clause.Side.{Side}
 use Rattle.fol_base.specs.declared.clause.Side.TheVariants.{Left, Right}
-use Rattle.fol_base.proofs.AboutClauses.InferenceLemmas.{literal_in_instance}
 use Rattle.fol_base.proofs.AboutTerms.TreeLemmas.{tree_eq-true}
 use Rattle.kbo_order.proofs.AboutLaws.StableLemmas.{trees_stable, literals_stable}
 use Rattle.kbo_order.proofs.AboutLaws.StrictOrderLemmas.{trees_ordered, literals_ordered}
 use Rattle.kernel_steps.specs.Inference.{other_side_not_above}
+use Rattle.eq_rules.proofs.AboutConclusions.OutsizeLemmas.{eligible-by}
 use Rattle.eq_rules.specs.declared.concluding.LiteralSide.{LiteralSide}
-use Rattle.superpose.specs.Settled.{AreSettled, AreSettledSides, IsGreatest, IsSettled, Outdoes}
-use Rattle.superpose.specs.Superposing.{is_root, one_literal, both_literals, others_coincide, starts_under, enters_under, allows}
+use Rattle.superpose.specs.Settled.{AreSettled, AreSettledSides, IsGreatest, IsInOrder, IsSettled, Outdoes}
+use Rattle.superpose.specs.Superposing.{one_literal, both_literals, others_coincide, starts_under, enters_under, allows}
 use Rattle.superpose.specs.declared.settled.SettledSides.{SettledSides}
 use Rattle.superpose.specs.declared.sites.LiteralPlace.{LiteralPlace}
 use Rattle.list_lemmas.proofs.Places.{get-pushed}
-use Rattle.list_lemmas.proofs.Lists.{remove-map}
-use Rattle.list_lemmas.proofs.Tests.{all-from-each}
-
--- ---- all but one of a list
-
-others-pass :
-    {X : Type 0} (p : X → Bool) (xs : List X) (i : ℕ)
-    → ((j : ℕ) (x : X) → slice_get xs j ≡ Some x → (j ≡ i → ⊥) → p x ≡ true) → list_all p (remove xs i) ≡ true
-others-pass p [] zero h = refl
-others-pass p [] (suc i) h = refl
-others-pass p (y ∷ ys) zero h = all-from-each p ys (λ j x at. h (suc j) x at (λ e. absurd (omega (arith, e))))
-others-pass p (y ∷ ys) (suc i) h =
-    and_from (p y) (list_all p (remove ys i)) (h 0 y refl (λ e. absurd (omega (arith, e))))
-    (others-pass p ys i (λ j x at other. h (suc j) x at (λ e. other (omega (arith, e)))))
 
 -- ---- a smaller literal stays smaller
 
@@ -70,12 +54,7 @@ pub outdoes-eligible :
     → (σ : Substitution) (strict : Bool) → eligible (literals_instance σ ls) i choice strict ≡ true
 outdoes-eligible ls (Some c) i l there h σ strict = eq-eqb i c h
 outdoes-eligible ls None i l there h σ strict =
-    let p : TreeLiteral → Bool = λ n.
-    not (literal_greater n (literal_instance σ l)) && not (strict && equivalent_literals n (literal_instance σ l)) in
-    ap (λ o. is_maximal_at strict o (remove (literals_instance σ ls) i)) (literal_in_instance σ ls i l there)
-    ∙ ap (list_all p) (remove-map (literal_instance σ) ls i)
-    ∙ list_all-map p (literal_instance σ) (remove ls i)
-    ∙ others-pass (λ m. p (literal_instance σ m)) ls i (λ j m at other. no-worse σ l m (h l j m there at other) strict)
+    eligible-by σ ls i l strict there (λ j m at other. no-worse σ l m (h l j m there at other) strict)
 
 -- ---- a smaller side stays smaller
 
@@ -96,37 +75,57 @@ side-stays σ side l h =
 
 -- ---- so the order allows what starts from such a side, and what goes into one
 
+pub starts-by :
+    (ls : List TreeLiteral) (s : LiteralSide) (l : TreeLiteral) (σ : Substitution) → slice_get ls s.literal ≡ Some l
+    → other_side_not_above σ s.side l ≡ true → eligible (literals_instance σ ls) s.literal None true ≡ true → starts_under ls s σ ≡ true
+starts-by ls s l σ there beside is_eligible =
+    let a : TreeLiteral → Bool = λ k. other_side_not_above σ s.side k in
+    let e : Bool = eligible (literals_instance σ ls) s.literal None true in
+    ap (one_literal (λ k. a k && e)) there ∙ and_from (a l) e beside is_eligible
+
 pub settled-starts : (ls : List TreeLiteral) (s : LiteralSide) → IsSettled ls None s → (σ : Substitution) → starts_under ls s σ ≡ true
 settled-starts ls s r σ =
-    let a : TreeLiteral → Bool = λ l. other_side_not_above σ s.side l in
-    let e : Bool = eligible (literals_instance σ ls) s.literal None true in
-    ap (one_literal (λ l. a l && e)) r.there
-    ∙ and_from (a r.literal) e (side-stays σ s.side r.literal r.greater)
+    starts-by ls s r.literal σ r.there (side-stays σ s.side r.literal r.greater)
     (outdoes-eligible ls None s.literal r.literal r.there r.outdoes σ true)
+
+pub settled-in-order :
+    (ls : List TreeLiteral) (choice : Option ℕ) (s : LiteralSide) → IsSettled ls choice s → (σ : Substitution) → IsInOrder ls choice σ s
+settled-in-order ls choice s r σ = record {
+  literal = r.literal;
+  there = r.there;
+  beside = side-stays σ s.side r.literal r.greater;
+  eligible_there = outdoes-eligible ls choice s.literal r.literal r.there r.outdoes σ r.literal.positive;
+}
+
+in-order-enters :
+    (ls : List TreeLiteral) (s : LiteralSide) (ks : List TreeLiteral) (t : LiteralPlace) (choice : Option ℕ) (l m : TreeLiteral)
+    → slice_get ls s.literal ≡ Some l → slice_get ks t.at.literal ≡ Some m
+    → (σ τ : Substitution) → IsInOrder ks choice τ t.at → others_coincide s t σ τ l m ≡ false → enters_under ls s ks t choice σ τ ≡ true
+in-order-enters ls s ks t choice l m l_there m_there σ τ r differ =
+    let b : TreeLiteral → Bool = λ n. other_side_not_above τ t.at.side n in
+    let f : TreeLiteral → Bool = λ n. eligible (literals_instance τ ks) t.at.literal choice n.positive in
+    let d : TreeLiteral → TreeLiteral → Bool = λ k n. others_coincide s t σ τ k n in
+    let same : r.literal ≡ m = same_Some r.literal m (sym r.there ∙ m_there) in
+    ap₂ (both_literals (λ k n. not (d k n) && (b n && f n))) l_there m_there
+    ∙ and_from (not (d l m)) (b m && f m) (not_from_false (d l m) differ)
+    (and_from (b m) (f m) (subst (λ (n : TreeLiteral). b n ≡ true) same r.beside) (subst (λ (n : TreeLiteral). f n ≡ true) same r.eligible_there))
 
 pub settled-enters :
     (ls : List TreeLiteral) (s : LiteralSide) (ks : List TreeLiteral) (t : LiteralPlace) (choice : Option ℕ) (l m : TreeLiteral)
     → slice_get ls s.literal ≡ Some l → slice_get ks t.at.literal ≡ Some m → IsSettled ks choice t.at
     → (σ τ : Substitution) → others_coincide s t σ τ l m ≡ false → enters_under ls s ks t choice σ τ ≡ true
 settled-enters ls s ks t choice l m l_there m_there r σ τ differ =
-    let b : TreeLiteral → Bool = λ n. other_side_not_above τ t.at.side n in
-    let f : TreeLiteral → Bool = λ n. eligible (literals_instance τ ks) t.at.literal choice n.positive in
-    let d : TreeLiteral → TreeLiteral → Bool = λ k n. others_coincide s t σ τ k n in
-    let same : r.literal ≡ m = same_Some r.literal m (sym r.there ∙ m_there) in
-    let ordered : b m ≡ true = subst (λ (n : TreeLiteral). b n ≡ true) same (side-stays τ t.at.side r.literal r.greater) in
-    ap₂ (both_literals (λ k n. not (d k n) && (b n && f n))) l_there m_there
-    ∙ and_from (not (d l m)) (b m && f m) (not_from_false (d l m) differ)
-    (and_from (b m) (f m) ordered (outdoes-eligible ks choice t.at.literal m m_there r.outdoes τ m.positive))
+    in-order-enters ls s ks t choice l m l_there m_there σ τ (settled-in-order ks choice t.at r τ) differ
 
-pub settled-allows :
-    (ls : List TreeLiteral) (s : LiteralSide) (ks : List TreeLiteral) (t : LiteralPlace) (choice : Option ℕ) (m : TreeLiteral)
-    → slice_get ks t.at.literal ≡ Some m → (m.positive && is_root t.place) ≡ false → IsSettled ls None s → IsSettled ks choice t.at
-    → (σ τ : Substitution) → allows ls s ks t choice σ τ ≡ true
-settled-allows ls s ks t choice m m_there not_root starts enters σ τ =
+pub in-order-allows :
+    (ls : List TreeLiteral) (s : LiteralSide) (ks : List TreeLiteral) (t : LiteralPlace) (choice : Option ℕ) (l m : TreeLiteral)
+    → slice_get ls s.literal ≡ Some l → slice_get ks t.at.literal ≡ Some m
+    → (σ τ : Substitution) → starts_under ls s σ ≡ true → IsInOrder ks choice τ t.at
+    → others_coincide s t σ τ l m ≡ false → allows ls s ks t choice σ τ ≡ true
+in-order-allows ls s ks t choice l m l_there m_there σ τ starts enters differ =
     and_from (starts_under ls s σ) (enters_under ls s ks t choice σ τ)
-    (settled-starts ls s starts σ)
-    (settled-enters ls s ks t choice starts.literal m starts.there m_there enters σ τ
-    (ap (λ b. b && tree_eq (instance σ (other_side_of s.side starts.literal)) (instance τ (other_side_of t.at.side m))) not_root))
+    starts
+    (in-order-enters ls s ks t choice l m l_there m_there σ τ enters differ)
 
 -- ---- as the code asks it
 

@@ -10,12 +10,11 @@ use Rattle.fol_base.specs.Tree.{Tree, application, Trees, trees_of}
 use Rattle.fol_base.specs.Clause.{TreeLiteral}
 use Rattle.fol_base.specs.Canonical.{numbers_from}
 use Rattle.fol_base.specs.Selection.{SelectionMode, chosen, eligible}
-use Rattle.fol_base.specs.Sides.{side_of}
 use Rattle.fol_base.specs.Term.{tree_of}
 use Rattle.fol_base.specs.declared.clause.Side.TheVariants.{Left, Right}
 use Rattle.fol_base.specs.declared.term.Term.{Term}
 use Rattle.fol_base.proofs.ListLemmas.{take_more_item}
-use Rattle.superpose.specs.Sites.{all_sides, both_sides, places, places_from, below_path, literal_starts, can_start, can_enter, side_places, entered_places}
+use Rattle.superpose.specs.Sites.{all_sides, both_sides, places, places_from, below_path, literal_starts, can_start, can_enter, open_places, side_places, entered_places}
 use Rattle.eq_rules.specs.declared.concluding.LiteralSide.{LiteralSide}
 use Rattle.superpose.specs.declared.sites.LiteralPlace.{LiteralPlace}
 
@@ -80,7 +79,7 @@ no_starts mode ls some (s ∷ ss) =
 pub places_entered :
     (mode : SelectionMode) (ls : List TreeLiteral) (s : LiteralSide) (l : TreeLiteral) (before : List LiteralPlace)
     → slice_get ls s.literal ≡ Some l → can_enter mode ls s ≡ true
-    → before ++ map (below_path s []) (places (side_of s.side l)) ≡ before ++ entered_places mode ls s
+    → before ++ map (below_path s []) (open_places s.side l) ≡ before ++ entered_places mode ls s
 places_entered mode ls s l before there passes =
     ap (λ ts. before ++ ts)
     (sym (cond-true (can_enter mode ls s) (map (below_path s []) (side_places s.side (slice_get ls s.literal))) [] passes

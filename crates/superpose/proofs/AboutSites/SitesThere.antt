@@ -1,4 +1,5 @@
 -- The lists of sites: what is in them, that each is there once, and that each superposition has its sites among them.
+use mathlib.Core.Bool.{beq}
 use Rattle.std.proofs.Common.{◌≡◌, ◌⊎◌, ℕ, zero, suc, ◌+◌, ◌<◌, ◌≤◌, Bool, true, false, ◌&&◌, not, Option, None, Some, List, [], ◌∷◌, length, map, refl, ap, sym, ◌∙◌, subst, inl, inr, ⊎_elim, arith}
 use Rattle.std.specs.Prelude.{flat_map, slice_get, option_and_then}
 use Rattle.std.specs.Option.{is_some}
@@ -10,21 +11,25 @@ use Rattle.fol_base.specs.Place.{subterm}
 use Rattle.fol_base.specs.Clause.{TreeLiteral, TreeClause}
 use Rattle.fol_base.specs.Canonical.{numbers_from}
 use Rattle.fol_base.specs.Selection.{SelectionMode, chosen, eligible}
+use Rattle.fol_base.specs.Kind.{is_literal}
 use Rattle.fol_base.specs.Sides.{side_of, other_side_of}
+use Rattle.fol_base.specs.WellFormed.{SymbolUse, are_literals_of}
 use Rattle.fol_base.specs.declared.clause.Side.{Side}
 use Rattle.fol_base.specs.declared.clause.Side.TheVariants.{Left, Right}
 use Rattle.kbo_order.proofs.AboutMultisets.MemberLemmas.{In, In-left, In-right, In-map, map-In}
 use Rattle.literal_selection.proofs.EligibleLemmas.{eligible_lifts}
 use Rattle.kernel_steps.specs.Inference.{NamedSuperposition, other_side_not_above}
+use Rattle.eq_rules.proofs.AboutConclusions.PremiseLemmas.{literal-kind}
 use Rattle.eq_rules.proofs.AboutConclusions.SideLemmas.{not_above_by}
 use Rattle.eq_rules.proofs.AboutConclusions.WideLemmas.{itself}
-use Rattle.superpose.specs.Sites.{all_sides, both_sides, places, places_from, below_path, is_usable, literal_starts, can_start, literal_enters, can_enter, start_sites, side_places, entered_places, enter_sites, AreSitesOf, SitesDiffer, SuperpositionsHaveSites}
+use Rattle.superpose.specs.Sites.{all_sides, both_sides, places, places_from, inner_places, below_path, is_usable, literal_starts, can_start, literal_enters, can_enter, start_sites, is_positive_atom, open_places, side_places, entered_places, enter_sites, AreSitesOf, SitesDiffer, SuperpositionsHaveSites}
 use Rattle.superpose.specs.declared.sites.Sites.{Sites}
 use Rattle.literal_selection.specs.Mode.{mode_of}
-use Rattle.superpose.specs.Superposing.{StartsAt, EntersAt}
+use Rattle.superpose.specs.Superposing.{StartsAt, EntersAt, is_root}
 use Rattle.eq_rules.specs.declared.concluding.LiteralSide.{LiteralSide}
 use Rattle.superpose.specs.declared.sites.LiteralPlace.{LiteralPlace}
-use Rattle.superpose.proofs.AboutSites.AllowLemmas.{named-allowed, into_unchosen, from_positive, from_no_truth, into_no_truth}
+use Rattle.superpose.proofs.AboutSites.AllowLemmas.{named-allowed, into_unchosen, from_positive, from_no_truth, into_no_truth, atoms_coincide}
+use Rattle.superpose.proofs.AboutSites.KindLemmas.{kinds-alike}
 use Rattle.superpose.proofs.AboutLists.ListLemmas.{In-either, In-flat_map, In-flat_mapped, In-filter, In-filtered, In-contained, Once, Once-append, Once-map, Once-filter, Once-flat_map, Once-place}
 use Rattle.kbo_order.proofs.AboutMultisets.ClauseLoops.{In-index}
 
@@ -171,6 +176,43 @@ mutual
       let same : first ≡ suc first + other.0 = head_same first (suc first + other.0) one.0 other.1 (sym one.2 ∙ other.3) in
       absurd (omega (arith, same)))
 
+-- ---- the places into which something can go
+
+inner_once : (t : Tree) → Once (inner_places t)
+inner_once (variable v) = tt
+inner_once (application f ts) = arguments_once 0 ts
+
+inner_among : (t : Tree) (place : List ℕ) → In place (inner_places t) → In place (places t)
+inner_among (variable v) place h = h
+inner_among (application f ts) place h = inr h
+
+-- a place that isn't the root is one below it
+inner_in : (t : Tree) (place : List ℕ) → In place (places t) → (place ≡ [] → ⊥) → In place (inner_places t)
+inner_in (variable v) place h below = h
+inner_in (application f ts) place h below = ⊎_elim (λ root. absurd (below root)) (λ inner. inner) h
+
+open_among : (s : Side) (l : TreeLiteral) (place : List ℕ) → In place (open_places s l) → In place (places (side_of s l))
+open_among s l place h =
+    ⊎_elim
+    (λ atom.
+    inner_among (side_of s l) place
+    (subst (λ (ps : List (List ℕ)). In place ps) (cond-true (is_positive_atom s l) (inner_places (side_of s l)) (places (side_of s l)) atom) h))
+    (λ other.
+    subst (λ (ps : List (List ℕ)). In place ps) (cond-false (is_positive_atom s l) (inner_places (side_of s l)) (places (side_of s l)) other) h)
+    (cases_Bool (is_positive_atom s l))
+
+open_in :
+    (s : Side) (l : TreeLiteral) (place : List ℕ) → In place (places (side_of s l))
+    → (is_positive_atom s l ≡ true → place ≡ [] → ⊥) → In place (open_places s l)
+open_in s l place h below =
+    ⊎_elim
+    (λ atom.
+    subst (λ (ps : List (List ℕ)). In place ps) (sym (cond-true (is_positive_atom s l) (inner_places (side_of s l)) (places (side_of s l)) atom))
+    (inner_in (side_of s l) place h (below atom)))
+    (λ other.
+    subst (λ (ps : List (List ℕ)). In place ps) (sym (cond-false (is_positive_atom s l) (inner_places (side_of s l)) (places (side_of s l)) other)) h)
+    (cases_Bool (is_positive_atom s l))
+
 -- ---- the lists
 
 pub starts_once : (mode : SelectionMode) (ls : List TreeLiteral) → Once (start_sites mode ls)
@@ -195,7 +237,15 @@ entered mode ls s t h =
 
 side_places_once : (s : Side) (o : Option TreeLiteral) → Once (side_places s o)
 side_places_once s None = tt
-side_places_once s (Some l) = places_once (side_of s l)
+side_places_once s (Some l) =
+    ⊎_elim
+    (λ atom.
+    subst (λ (ps : List (List ℕ)). Once ps) (sym (cond-true (is_positive_atom s l) (inner_places (side_of s l)) (places (side_of s l)) atom))
+    (inner_once (side_of s l)))
+    (λ other.
+    subst (λ (ps : List (List ℕ)). Once ps) (sym (cond-false (is_positive_atom s l) (inner_places (side_of s l)) (places (side_of s l)) other))
+    (places_once (side_of s l)))
+    (cases_Bool (is_positive_atom s l))
 
 entered_once : (mode : SelectionMode) (ls : List TreeLiteral) (s : LiteralSide) → Once (entered_places mode ls s)
 entered_once mode ls s =
@@ -247,8 +297,9 @@ enter_there mode ls t h =
     let passes : can_enter mode ls t.at ≡ true = ap (can_enter mode ls) is.1 ∙ is.0 in
     let literal = entering_there ls (chosen mode ls) t.at (slice_get ls t.at.literal) passes in
     let place : In t.place (places (side_of t.at.side literal.0)) =
-    subst (λ (o : Option TreeLiteral). In t.place (side_places t.at.side o)) literal.1
-    (subst (λ (z : LiteralSide). In t.place (side_places z.side (slice_get ls z.literal))) (sym is.1) is.2) in
+    open_among t.at.side literal.0 t.place
+    (subst (λ (o : Option TreeLiteral). In t.place (side_places t.at.side o)) literal.1
+    (subst (λ (z : LiteralSide). In t.place (side_places z.side (slice_get ls z.literal))) (sym is.1) is.2)) in
     let stands = places_there (side_of t.at.side literal.0) t.place place in (
       passes,
       record {
@@ -313,21 +364,56 @@ module _
       (sides_in (length c.literals) 0 s.literal s.side (omega arith) (let h = slice_get_within c.literals s.literal n.from n.from_there in omega (arith, h)))
       starts_here
 
-  pub enter_in : In t (enter_sites mode d.literals)
-  enter_in =
+  -- nothing goes into the root of a positive atom, since the two other sides would both be `$true`
+  below_atom :
+      is_literal p n.from ≡ true → is_literal p n.into ≡ true → is_positive_atom t.at.side n.into ≡ true → t.place ≡ [] → ⊥
+  below_atom from_kind into_kind atom root =
+      let truth : Bool = is_truth (other_side_of s.side n.from) in
+      let truth_here : Bool = is_truth (other_side_of t.at.side n.into) in
+      let parts = and_parts n.into.positive truth_here atom in
+      let alike =
+      kinds-alike p s t n.from n.into n.old from_kind into_kind (from_no_truth p mode c s d t e n) (into_no_truth p mode c s d t e n)
+      n.old_there n.one_kind in
+      let here : is_root t.place ≡ true = ap is_root root in
+      let marked : truth ≡ true =
+      true_by truth (is_root t.place && truth_here)
+      (and_parts (not (is_truth n.old)) (beq truth (is_root t.place && truth_here)) alike).1
+      (and_from (is_root t.place) truth_here here parts.1) in
+      true≢false
+      (sym
+      (atoms_coincide s t n.first_unifier n.second_unifier n.from n.into (and_from n.into.positive (is_root t.place) parts.0 here) marked parts.1)
+      ∙ (named-allowed p mode c s d t e n).differ)
+    where
+      true_by : (a b : Bool) → beq a b ≡ true → b ≡ true → a ≡ true
+      true_by true b h k = refl
+      true_by false true h k = h
+      true_by false false h k = k
+
+  enter_in : is_literal p n.from ≡ true → is_literal p n.into ≡ true → In t (enter_sites mode d.literals)
+  enter_in from_kind into_kind =
       let there : In t.place (side_places t.at.side (slice_get d.literals t.at.literal)) =
       subst (λ (o : Option TreeLiteral). In t.place (side_places t.at.side o)) (sym n.into_there)
-      (places_in t.place (side_of t.at.side n.into) n.old n.old_there n.no_variable) in
+      (open_in t.at.side n.into t.place (places_in t.place (side_of t.at.side n.into) n.old n.old_there n.no_variable)
+      (below_atom from_kind into_kind)) in
       In-flat_map (entered_places mode d.literals) t.at t (all_sides (length d.literals))
       (sides_in (length d.literals) 0 t.at.literal t.at.side (omega arith) (let h = slice_get_within d.literals t.at.literal n.into n.into_there in omega (arith, h)))
       (subst (λ (ts : List LiteralPlace). In t ts)
       (sym (cond-true (can_enter mode d.literals t.at) (map (below_path t.at []) (side_places t.at.side (slice_get d.literals t.at.literal))) [] enters_here))
       (In-map (below_path t.at []) t.place (side_places t.at.side (slice_get d.literals t.at.literal)) there))
 
+-- of well-formed clauses
+pub formed_in :
+    (usage : SymbolUse) (mode : SelectionMode) (c : TreeClause) (s : LiteralSide) (d : TreeClause) (t : LiteralPlace) (e : TreeClause)
+    → are_literals_of usage c.literals ≡ true → are_literals_of usage d.literals ≡ true
+    → NamedSuperposition usage.is_predicate mode c s.literal s.side d t.at.literal t.at.side t.place e → In t (enter_sites mode d.literals)
+formed_in usage mode c s d t e used second_used n =
+    enter_in usage.is_predicate mode c s d t e n
+    (literal-kind usage c s.literal n.from used n.from_there) (literal-kind usage d t.at.literal n.into second_used n.into_there)
+
 pub superpositions_have_sites : SuperpositionsHaveSites
-superpositions_have_sites p mode c d s t e n = (
-  In-contained s (start_sites mode c.literals) (start_in p mode c s d t e n),
-  In-contained t (enter_sites mode d.literals) (enter_in p mode c s d t e n),
+superpositions_have_sites usage mode c d s t e used second_used n = (
+  In-contained s (start_sites mode c.literals) (start_in usage.is_predicate mode c s d t e n),
+  In-contained t (enter_sites mode d.literals) (formed_in usage mode c s d t e used second_used n),
 )
 
 -- ---- a site by its index

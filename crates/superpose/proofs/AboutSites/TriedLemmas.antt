@@ -19,7 +19,7 @@ use Rattle.kernel_steps.specs.declared.key.Key.{Key}
 use Rattle.kernel_steps.specs.declared.key.Key.TheVariants.{Para, Refl, Factor, Replaced}
 use Rattle.bank_clause.specs.Clause.{clause_at}
 use Rattle.bank_clause.specs.declared.member.Member.{Member}
-use Rattle.eq_rules.specs.Inferences.{IsMade, AreInferences, alone}
+use Rattle.eq_rules.specs.Inferences.{IsMade, AreInferences, AreSomeInferences, alone, is_enough}
 use Rattle.eq_rules.specs.Trying.{IsTried}
 use Rattle.eq_rules.specs.declared.inference.Made.{Made}
 use Rattle.eq_rules.specs.declared.inference.Inference.{Inference}
@@ -28,11 +28,11 @@ use Rattle.literal_selection.specs.Mode.{mode_of}
 use Rattle.superpose.specs.Sites.{start_sites, enter_sites, AreSitesOf}
 use Rattle.superpose.specs.declared.sites.Sites.{Sites}
 use Rattle.superpose.specs.Superposing.{para_key, IsSuperposition}
-use Rattle.superpose.specs.Pairing.{entry_of, AreTried, keys_from, keys_between, AddsSuperpositions, AddsTried, Begins, pair_keys, two, is_between, is_from_into, is_superposition}
+use Rattle.superpose.specs.Pairing.{entry_of, AreTried, keys_from, keys_between, AddsSomeSuperpositions, AddsSuperpositions, AddsSuperpositionsUpTo, AddsTried, Begins, TriesUpTo, pair_keys, two, is_between, is_from_into, is_superposition}
 use Rattle.eq_rules.specs.declared.concluding.LiteralSide.{LiteralSide}
 use Rattle.superpose.specs.declared.sites.LiteralPlace.{LiteralPlace}
-use Rattle.superpose.proofs.AboutLists.ListLemmas.{In-either, In-flat_map, In-flat_mapped, Once, Once-append, Once-map, Once-flat_map}
-use Rattle.superpose.proofs.AboutSites.SitesThere.{starts_once, enters_once, start_in, enter_in}
+use Rattle.superpose.proofs.AboutLists.ListLemmas.{In-either, In-flat_map, In-flat_mapped, Once, Once-append, Once-front, Once-map, Once-flat_map}
+use Rattle.superpose.proofs.AboutSites.SitesThere.{starts_once, enters_once, start_in, formed_in}
 
 -- ---- one after another
 
@@ -164,6 +164,16 @@ module _ (p : ℕ → Bool) (mode : SelectionMode) (clauses : ℕ → Option Tre
     once = tried-once keys found once h;
   }
 
+  -- some that have names that pass
+  pub tried-some :
+      (passes : Key → Bool) (keys : List Key) (found : List Inference)
+      → Once keys → ((key : Key) → In key keys → passes key ≡ true) → AreTried p mode clauses keys found
+      → AreSomeInferences p mode clauses passes found
+  tried-some passes keys found once pass h = record {
+    made = tried-made passes keys found pass h;
+    once = tried-once keys found once h;
+  }
+
 -- ---- as a list grows
 
 pub adds-nothing : (mode : SelectionMode) (m n : Member) (found : List Inference) → AddsTried mode m n [] found found
@@ -232,7 +242,92 @@ adds-next mode m n from into i initial before now less adds step =
     let at : slice_get from i ≡ Some s = slice_get-get_or from i any less in
     adds-side mode m n from into i s initial before now less (sym (get_or_from_slice_get from i s s at)) adds (step s at)
 
+-- ---- until there are enough
+
+-- where there aren't enough, all were tried
+pub tried-whole :
+    (most : Option ℕ) (mode : SelectionMode) (m n : Member) (keys : List Key) (before now : List Inference)
+    → is_enough most (length now) ≡ false → TriesUpTo most mode m n keys before now → AddsTried mode m n keys before now
+tried-whole most mode m n keys before now few h = ⊎_elim (λ all. all) (λ some. absurd (true≢false (sym some.0 ∙ few))) h
+
+-- the first places of a row, and the rest
+row-rest :
+    (a b : ℕ) (s : LiteralSide) (into : List LiteralPlace) (k : ℕ)
+    → (rest : List Key) × (keys_from a s b into ≡ keys_from a s b (take k into) ++ rest)
+row-rest a b s [] zero = ([], refl)
+row-rest a b s [] (suc k) = ([], refl)
+row-rest a b s (t ∷ ts) zero = (keys_from a s b (t ∷ ts), refl)
+row-rest a b s (t ∷ ts) (suc k) =
+    let later = row-rest a b s ts k in (later.0, ap (λ (ks : List Key). para_key a s b t ∷ ks) later.1)
+
+-- the places up to one are enough
+pub row-enough :
+    (most : Option ℕ) (mode : SelectionMode) (m n : Member) (s : LiteralSide) (into : List LiteralPlace) (k : ℕ) (before now : List Inference)
+    → is_enough most (length now) ≡ true → AddsTried mode m n (keys_from m.number s n.number (take k into)) before now
+    → TriesUpTo most mode m n (keys_from m.number s n.number into) before now
+row-enough most mode m n s into k before now enough adds =
+    let rest = row-rest m.number n.number s into k in
+    inr (enough, (keys_from m.number s n.number (take k into), rest.0, rest.1, adds))
+
+-- the rows before a side, the first names of its own row, and the rest
+sides-rest :
+    (a b : ℕ) (from : List LiteralSide) (into : List LiteralPlace) (i : ℕ) (s : LiteralSide) (row more : List Key)
+    → slice_get from i ≡ Some s → keys_from a s b into ≡ row ++ more
+    → (rest : List Key) × (keys_between a from b into ≡ (keys_between a (take i from) b into ++ row) ++ rest)
+sides-rest a b [] into i s row more at is = absurd (cc)
+sides-rest a b (z ∷ zs) into zero s row more at is =
+    let later : List Key = keys_between a zs b into in (
+      more ++ later,
+      ap (λ (x : LiteralSide). keys_from a x b into ++ later) (same_Some z s at) ∙ ap (λ (ks : List Key). ks ++ later) is ∙ append_assoc row more later,
+    )
+sides-rest a b (z ∷ zs) into (suc i) s row more at is =
+    let first : List Key = keys_from a z b into in
+    let before : List Key = keys_between a (take i zs) b into in
+    let later = sides-rest a b zs into i s row more at is in (
+      later.0,
+      ap (λ (ks : List Key). first ++ ks) later.1 ∙ sym (append_assoc first (before ++ row) later.0)
+          ∙ ap (λ (ks : List Key). ks ++ later.0) (sym (append_assoc first before row)),
+    )
+
+-- the sides before one, and its own as far as it was tried, are enough
+pub sides-enough :
+    (most : Option ℕ) (mode : SelectionMode) (m n : Member) (from : List LiteralSide) (into : List LiteralPlace) (i : ℕ)
+    (initial before now : List Inference)
+    → i < length from → AddsTried mode m n (keys_between m.number (take i from) n.number into) initial before
+    → ((s : LiteralSide) → slice_get from i ≡ Some s → TriesUpTo most mode m n (keys_from m.number s n.number into) before now)
+    → is_enough most (length now) ≡ true
+    → TriesUpTo most mode m n (keys_between m.number from n.number into) initial now
+sides-enough most mode m n from into i initial before now less adds step enough =
+    let any : LiteralSide = record { literal = 0; side = Left } in
+    let s : LiteralSide = get_or from i any in
+    let at : slice_get from i ≡ Some s = slice_get-get_or from i any less in
+    let row : List Key = keys_from m.number s n.number into in
+    inr (
+      enough,
+      ⊎_elim
+          (λ whole. part s at row [] (sym (append-nil row)) whole)
+          (λ some. part s at some.1.0 some.1.1 some.1.2 some.1.3)
+          (step s at),
+    )
+  where
+    part :
+        (s : LiteralSide) → slice_get from i ≡ Some s → (row more : List Key) → keys_from m.number s n.number into ≡ row ++ more
+        → AddsTried mode m n row before now
+        → (tried : List Key) × (rest : List Key) × (keys_between m.number from n.number into ≡ tried ++ rest) × AddsTried mode m n tried initial now
+    part s at row more is own =
+        let rows : List Key = keys_between m.number (take i from) n.number into in
+        let rest = sides-rest m.number n.number from into i s row more at is in
+        (rows ++ row, rest.0, rest.1, adds-more mode m n rows row initial before now adds own)
+
 -- all sites of both clauses
+pub all-keys :
+    (m n : Member) (sites others : Sites) → AreSitesOf (clause_at m.clause) sites → AreSitesOf (clause_at n.clause) others → sites.mode ≡ others.mode
+    → keys_between m.number sites.from.items n.number others.into.items ≡ pair_keys (mode_of sites.mode) m n
+all-keys m n sites others are others_are same =
+    let into_is : others.into.items ≡ enter_sites (mode_of sites.mode) (clause_at n.clause).literals =
+    others_are.into ∙ ap (λ k. enter_sites (mode_of k) (clause_at n.clause).literals) (sym same) in
+    ap₂ (λ ss ts. keys_between m.number ss n.number ts) are.from into_is
+
 pub adds-all :
     (m n : Member) (sites others : Sites) → AreSitesOf (clause_at m.clause) sites → AreSitesOf (clause_at n.clause) others → sites.mode ≡ others.mode
     → (from : List LiteralSide) (initial now : List Inference) → from ≡ sites.from.items
@@ -286,15 +381,20 @@ key_of_pair a b from into key h =
 
 -- an inference of two clauses has its name among theirs
 inference_key :
-    (p : ℕ → Bool) (mode : SelectionMode) (clauses : ℕ → Option TreeClause) (m n : Member) (s : LiteralSide) (t : LiteralPlace) (c : TreeClause)
+    (usage : SymbolUse) (mode : SelectionMode) (clauses : ℕ → Option TreeClause) (m n : Member) (s : LiteralSide) (t : LiteralPlace) (c : TreeClause)
+    → are_literals_of usage (clause_at m.clause).literals ≡ true → are_literals_of usage (clause_at n.clause).literals ≡ true
     → clauses m.number ≡ Some (clause_at m.clause) → clauses n.number ≡ Some (clause_at n.clause)
-    → IsInference p mode clauses (para_key m.number s n.number t) c → In (para_key m.number s n.number t) (pair_keys mode m n)
-inference_key p mode clauses m n s t c there second_there it =
+    → IsInference usage.is_predicate mode clauses (para_key m.number s n.number t) c → In (para_key m.number s n.number t) (pair_keys mode m n)
+inference_key usage mode clauses m n s t c used second_used there second_there it =
     let first_same : it.first_clause ≡ clause_at m.clause = same_Some it.first_clause (clause_at m.clause) (sym it.first_there ∙ there) in
     let second_same : it.second_clause ≡ clause_at n.clause = same_Some it.second_clause (clause_at n.clause) (sym it.second_there ∙ second_there) in
     key_in m.number n.number (start_sites mode (clause_at m.clause).literals) (enter_sites mode (clause_at n.clause).literals) s t
-    (subst (λ (q : TreeClause). In s (start_sites mode q.literals)) first_same (start_in p mode it.first_clause s it.second_clause t c it.infers))
-    (subst (λ (q : TreeClause). In t (enter_sites mode q.literals)) second_same (enter_in p mode it.first_clause s it.second_clause t c it.infers))
+    (subst (λ (q : TreeClause). In s (start_sites mode q.literals)) first_same (start_in usage.is_predicate mode it.first_clause s it.second_clause t c it.infers))
+    (subst (λ (q : TreeClause). In t (enter_sites mode q.literals)) second_same
+    (formed_in usage mode it.first_clause s it.second_clause t c
+    (subst (λ (q : TreeClause). are_literals_of usage q.literals ≡ true) (sym first_same) used)
+    (subst (λ (q : TreeClause). are_literals_of usage q.literals ≡ true) (sym second_same) second_used)
+    it.infers))
 
 -- ---- of one clause into another
 
@@ -331,11 +431,41 @@ pair_all mode m n before now h usage clauses used second_used there second_there
         let same : Para first i s second j z place ≡ para_key m.number from n.number into =
         ap₂ (λ (a b : ℕ). para_key a from b into) numbers.0 numbers.1 in
         subst (λ (key : Key). In key (pair_keys mode m n)) (sym same)
-        (inference_key usage.is_predicate mode clauses m n from into c there second_there
+        (inference_key usage mode clauses m n from into c used second_used there second_there
         (subst (λ (key : Key). IsInference usage.is_predicate mode clauses key c) same it))
     back (Refl q i) c passes it = absurd (true≢false (sym passes))
     back (Factor q i s j z) c passes it = absurd (true≢false (sym passes))
     back (Replaced q) c passes it = absurd (true≢false (sym passes))
+
+pub pair_some :
+    (mode : SelectionMode) (m n : Member) (before now : List Inference) (tried rest : List Key)
+    → pair_keys mode m n ≡ tried ++ rest → AddsTried mode m n tried before now → AddsSomeSuperpositions mode m n before now
+pair_some mode m n before now tried rest is h usage clauses used second_used there second_there =
+    let froms : List LiteralSide = start_sites mode (clause_at m.clause).literals in
+    let intos : List LiteralPlace = enter_sites mode (clause_at n.clause).literals in
+    let are = h usage clauses used second_used there second_there in (
+      are.0,
+      are.1,
+      tried-some usage.is_predicate mode clauses (is_from_into m.number n.number) tried are.0
+          (Once-front tried rest
+          (subst (λ (ks : List Key). Once ks) is
+          (keys_once m.number n.number froms intos (starts_once mode (clause_at m.clause).literals) (enters_once mode (clause_at n.clause).literals))))
+          (λ key here.
+          let named =
+          key_of_pair m.number n.number froms intos key (subst (λ (ks : List Key). In key ks) (sym is) (In-left key tried rest here)) in
+          ap (is_from_into m.number n.number) named.2
+          ∙ and_from (m.number == m.number) (n.number == n.number) (eq-eqb m.number m.number refl) (eq-eqb n.number n.number refl))
+          are.2,
+    )
+
+pub pairs_up_to :
+    (most : Option ℕ) (mode : SelectionMode) (m n : Member) (before now : List Inference)
+    → TriesUpTo most mode m n (pair_keys mode m n) before now → AddsSuperpositionsUpTo most mode m n before now
+pairs_up_to most mode m n before now h =
+    ⊎_elim
+    (λ all. inl (pair_all mode m n before now all))
+    (λ some. inr (some.0, pair_some mode m n before now some.1.0 some.1.1 some.1.2 some.1.3))
+    h
 
 -- ---- what a list begins with
 
@@ -389,7 +519,7 @@ within_all mode m found h usage used =
         let same : Para first i s second j z place ≡ para_key m.number from m.number into =
         ap₂ (λ (a b : ℕ). para_key a from b into) first_is second_is in
         subst (λ (key : Key). In key (pair_keys mode m m)) (sym same)
-        (inference_key usage.is_predicate mode (alone m) m m from into c (alone_there m) (alone_there m)
+        (inference_key usage mode (alone m) m m from into c used used (alone_there m) (alone_there m)
         (subst (λ (key : Key). IsInference usage.is_predicate mode (alone m) key c) same it))
     back (Refl q i) c passes it = absurd (true≢false (sym passes))
     back (Factor q i s j z) c passes it = absurd (true≢false (sym passes))
@@ -457,16 +587,17 @@ module _ (m n : Member) (differ : m.number ≡ n.number → ⊥) where
 
       named_in :
           (a b : Member) (first second i j : ℕ) (s z : Side) (place : List ℕ) (c : TreeClause)
+          → are_literals_of usage (clause_at a.clause).literals ≡ true → are_literals_of usage (clause_at b.clause).literals ≡ true
           → two m n a.number ≡ Some (clause_at a.clause) → two m n b.number ≡ Some (clause_at b.clause)
           → first ≡ a.number → second ≡ b.number
           → IsInference usage.is_predicate mode (two m n) (Para first i s second j z place) c → In (Para first i s second j z place) (pair_keys mode a b)
-      named_in a b first second i j s z place c a_there b_there first_is second_is it =
+      named_in a b first second i j s z place c a_used b_used a_there b_there first_is second_is it =
           let from : LiteralSide = record { literal = i; side = s } in
           let into : LiteralPlace = record { at = record { literal = j; side = z }; place = place } in
           let same : Para first i s second j z place ≡ para_key a.number from b.number into =
           ap₂ (λ (x y : ℕ). para_key x from y into) first_is second_is in
           subst (λ (key : Key). In key (pair_keys mode a b)) (sym same)
-          (inference_key usage.is_predicate mode (two m n) a b from into c a_there b_there
+          (inference_key usage mode (two m n) a b from into c a_used b_used a_there b_there
           (subst (λ (key : Key). IsInference usage.is_predicate mode (two m n) key c) same it))
 
       back :
@@ -481,13 +612,13 @@ module _ (m n : Member) (differ : m.number ≡ n.number → ⊥) where
           (λ second_m. absurd (true≢false (sym (eq-eqb first second (first_m ∙ sym second_m)) ∙ distinct)))
           (λ second_n.
           In-left key (pair_keys mode m n) (pair_keys mode n m)
-          (named_in m n first second i j s z place c two_first two_second first_m second_n it))
+          (named_in m n first second i j s z place c used second_used two_first two_second first_m second_n it))
           (one_of_two second it.second_clause it.second_there))
           (λ first_n.
           ⊎_elim
           (λ second_m.
           In-right key (pair_keys mode m n) (pair_keys mode n m)
-          (named_in n m first second i j s z place c two_second two_first first_n second_m it))
+          (named_in n m first second i j s z place c second_used used two_second two_first first_n second_m it))
           (λ second_n. absurd (true≢false (sym (eq-eqb first second (first_n ∙ sym second_n)) ∙ distinct)))
           (one_of_two second it.second_clause it.second_there))
           (one_of_two first it.first_clause it.first_there)

@@ -1,23 +1,20 @@
 -- Terms for the first variables of two sides, most general among all that unify two trees of different variables, with their variables
 -- numbered anew, make a most general unifier: beyond them each variable of a side becomes one that is new.
-use Rattle.std.proofs.Common.{◌≡◌, ℕ, suc, ◌+◌, ◌*◌, ◌-◌, ◌<◌, ◌≤◌, true, ◌==◌, nat_lt, get_or, if◌then◌else◌, Option, Some, List, [], ◌∷◌, length, ap, sym, ◌∙◌, inl, inr, ⊎_elim, arith}
-use Rattle.std.specs.Prelude.{unwrap_or}
+use Rattle.std.proofs.Common.{◌≡◌, ℕ, ◌+◌, ◌*◌, ◌<◌, ◌≤◌, nat_lt, if◌then◌else◌, List, length, ap, sym, ◌∙◌, inl, inr}
 use Rattle.std.specs.List.{AllByRecursion}
-use Rattle.std.specs.Option.{is_some, option_map}
-use Rattle.std.proofs.lemmas.Bool.{true≢false, cases_Bool, cond-true, cond-false, eqb-true, lt-ltb, cases_lt}
+use Rattle.std.proofs.lemmas.Bool.{cond-true, cond-false, lt-ltb, cases_lt}
 use Rattle.fol_base.specs.Tree.{Tree, variable, tree_variables, trees_variables, trees_of, VariablesBelow}
 use Rattle.fol_base.specs.Instance.{Substitution, instance, substitution}
 use Rattle.fol_base.specs.InstanceLaws.{after}
 use Rattle.fol_base.specs.Clause.{TreeLiteral, LiteralVariablesBelow}
 use Rattle.fol_base.specs.Ground.{literals_instance}
-use Rattle.fol_base.specs.Canonical.{place_of, renaming}
+use Rattle.fol_base.specs.Canonical.{renaming}
 use Rattle.fol_base.specs.Unifier.{IsUnifierApart, IsMostGeneralUnifierApart}
-use Rattle.fol_base.proofs.AboutInstances.InstanceLemmas.{Agree, instance-agree, instances_of_instances, instances_agree_below, literals_instance-again}
+use Rattle.fol_base.proofs.AboutInstances.InstanceLemmas.{instance-agree, instances_of_instances, instances_agree_below, literals_instance-again}
 use Rattle.unifier.proofs.AboutEquations.UnifyLemmas.{joint_of, joint_of-left, joint_of-right}
 use Rattle.eq_rules.proofs.AboutConclusions.PremiseLemmas.{has-literals}
 use Rattle.eq_rules.proofs.AboutConclusions.WideLemmas.{Has, Has-item, numbered, literals_back, literals-below, onward-agrees, onward-past, onward}
 use Rattle.list_lemmas.proofs.Numbers.{not-less}
-use Rattle.list_lemmas.proofs.Results.{some-mapped}
 
 -- terms for the first variables of each side that make two trees equal, and after which every two substitutions go on that do so
 pub record IsGeneralApart (s : Tree) (t : Tree) (left : List Tree) (right : List Tree) : Type 0 where

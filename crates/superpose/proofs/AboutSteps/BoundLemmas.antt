@@ -1,6 +1,6 @@
 -- What the terms of a most general unifier of two trees of different variables are like: no larger than what is unified, and of its
 -- symbols alone.
-use Rattle.std.proofs.Common.{◌≡◌, ℕ, ◌<◌, ◌≤◌, true, List, [], ◌∷◌, length, Some, ap, sym, ◌∙◌, ⊎_elim, arith}
+use Rattle.std.proofs.Common.{◌≡◌, ℕ, ◌<◌, ◌≤◌, true, List, length, ap, sym, ◌∙◌, ⊎_elim, arith}
 use Rattle.fol_base.specs.Tree.{Tree, tree_size}
 use Rattle.fol_base.specs.Instance.{Substitution, instance, substitution}
 use Rattle.kernel_steps.specs.Symbols.{symbols_pass}

@@ -6,7 +6,7 @@ use Rattle.std.proofs.lemmas.Bool.{true≢false, and_parts, cases_lt, le-ltb, lt
 use Rattle.std.proofs.Math.Nat.{mul-add, le-mul_of_pos_right}
 use Rattle.plain_types.specs.Capped.{capped}
 use Rattle.fol_base.specs.Tree.{Tree, tree_size}
-use Rattle.fol_base.specs.Instance.{Substitution, instance, substitution}
+use Rattle.fol_base.specs.Instance.{instance, substitution}
 use Rattle.fol_base.specs.Clause.{TreeLiteral, TreeClause, literal_size, clause_size, clause_instance, clause_variables}
 use Rattle.fol_base.specs.Literal.{clause_of}
 use Rattle.fol_base.specs.Ground.{literals_instance}
@@ -33,7 +33,7 @@ use Rattle.eq_rules.proofs.AboutConclusions.MadeLemmas.{size_above}
 use Rattle.eq_rules.proofs.AboutConclusions.PremiseLemmas.{literal-kind}
 use Rattle.eq_rules.proofs.AboutConclusions.SideLemmas.{Kinds}
 use Rattle.superpose.specs.Sites.{is_usable, can_start, can_enter, literal_starts, literal_enters}
-use Rattle.superpose.specs.Superposing.{para_key, IsSuperposition, AreSites, allows, are_alike, are_positive_atoms, is_heavy, size_under, StartsAt, EntersAt, SuperposesBy}
+use Rattle.superpose.specs.Superposing.{para_key, IsSuperposition, AreSites, allows, are_alike, is_heavy, size_under, StartsAt, EntersAt, SuperposesBy}
 use Rattle.superpose.specs.Concluding.{IsSuperpositionStep, GivesNumbered}
 use Rattle.eq_rules.specs.declared.concluding.LiteralSide.{LiteralSide}
 use Rattle.superpose.specs.declared.sites.LiteralPlace.{LiteralPlace}
@@ -41,7 +41,8 @@ use Rattle.superpose.proofs.AboutSites.KindLemmas.{alike-kinds}
 use Rattle.superpose.proofs.AboutSteps.TermsLemmas.{general, left-below, right-below, left-size, left-tree_size, right-size, s-bound, plain, plain_size}
 use Rattle.superpose.proofs.AboutSteps.BoundLemmas.{left_terms_small, right_terms_small}
 use Rattle.superpose.proofs.AboutSteps.GrowthLemmas.{literals_grow}
-use Rattle.superpose.proofs.AboutLists.SuperposeLemmas.{atoms_refused, unlike_refused, apart_refused, superposition_not_allowed, superposition_heavy, superposition_concluded}
+use Rattle.superpose.proofs.AboutSteps.OwnLemmas.{allows-own}
+use Rattle.superpose.proofs.AboutLists.SuperposeLemmas.{unlike_refused, apart_refused, superposition_not_allowed, superposition_heavy, superposition_concluded}
 use Rattle.kbo_order.proofs.AboutMultisets.ClauseLoops.{item-size, mapped-size}
 
 -- ---- what sites say
@@ -73,10 +74,6 @@ enter_unchosen mode ls s l there h positive =
 module _
     (m n : Member) (s : LiteralSide) (t : LiteralPlace)
     (starts : StartsAt (clause_at m.clause).literals s) (enters : EntersAt (clause_at n.clause).literals t) (mode : SelectionMode) where
-  pub atoms_none : are_positive_atoms s t starts.literal enters.literal ≡ true → IsSuperposition mode m s n t None
-  atoms_none atoms usage clauses used second_used there second_there =
-      atoms_refused usage.is_predicate mode clauses m.number (clause_at m.clause) there n.number (clause_at n.clause) second_there s t starts enters atoms
-
   pub unlike_none : are_alike s t starts.literal enters.literal enters.old ≡ false → IsSuperposition mode m s n t None
   unlike_none refused usage clauses used second_used there second_there =
       unlike_refused usage.is_predicate mode clauses m.number (clause_at m.clause) there n.number (clause_at n.clause) second_there s t starts enters
@@ -105,17 +102,17 @@ made_by_superposition p mode clauses number c s partner d t left right (Conclusi
 
 -- ---- by a unifier
 
--- where the order allows it whatever is put in, a clause that is too large need not be built
-pub heavy_settled :
+-- where the order allows it under the unifier, a clause that is too large need not be built
+pub heavy_allowed :
     (m n : Member) (s : LiteralSide) (t : LiteralPlace) (b : SolvedForm) (r : SuperposesBy b (clause_at m.clause) s (clause_at n.clause) t)
     (left_told right_told : ℕ)
     → left_told ≡ capped (clause_size (clause_instance (substitution_of b Left) (clause_at m.clause)))
     → right_told ≡ capped (clause_size (clause_instance (substitution_of b Right) (clause_at n.clause)))
     → MOST_SYMBOLS < max left_told right_told
     → (mode : SelectionMode) (choice : Option ℕ) → AreSites mode (clause_at m.clause) s (clause_at n.clause) t choice
-    → ((σ τ : Substitution) → allows (clause_at m.clause).literals s (clause_at n.clause).literals t choice σ τ ≡ true)
+    → allows (clause_at m.clause).literals s (clause_at n.clause).literals t choice (substitution_of b Left) (substitution_of b Right) ≡ true
     → IsSuperposition mode m s n t (Some Heavy)
-heavy_settled m n s t b r left_told right_told left_is right_is over mode choice sites allowed usage clauses used second_used there second_there =
+heavy_allowed m n s t b r left_told right_told left_is right_is over mode choice sites allowed usage clauses used second_used there second_there =
     let c : TreeClause = clause_at m.clause in
     let d : TreeClause = clause_at n.clause in
     let first_bound : ℕ = bound_of (clause_variables c) in
@@ -131,7 +128,7 @@ heavy_settled m n s t b r left_told right_told left_is right_is over mode choice
     (literal-kind usage d t.at.literal r.enters.literal second_used r.enters.there)
     r.starts.no_truth r.enters.no_truth r.enters.old_there r.alike)
     (ap (λ o. allows c.literals s d.literals t o (substitution left) (substitution right)) (sym sites.choice_is)
-    ∙ allowed (substitution left) (substitution right))
+    ∙ allows-own c s d t b r choice ∙ allowed)
     (elim (cases_lt MOST_SYMBOLS left_told) [
       | inl first ↦ inl (size_above left_told (clause_size (clause_instance (substitution_of b Left) c)) MOST_SYMBOLS left_is first)
       | inr first ↦
@@ -251,6 +248,20 @@ module _
         (enter_unchosen mode d.literals t.at r.enters.literal r.enters.there sites.enters)
         (kinds_here usage used second_used) allowed_here
         (omega (arith, small)) (omega (arith, small)) (omega (arith, small, made_size)))
+
+-- where the order doesn't allow it under the unifier, there is none
+pub refused_own :
+    (m n : Member) (s : LiteralSide) (t : LiteralPlace) (b : SolvedForm) (r : SuperposesBy b (clause_at m.clause) s (clause_at n.clause) t)
+    (mode : SelectionMode) (choice : Option ℕ) → AreSites mode (clause_at m.clause) s (clause_at n.clause) t choice
+    → allows (clause_at m.clause).literals s (clause_at n.clause).literals t choice (substitution_of b Left) (substitution_of b Right) ≡ false
+    → IsSuperposition mode m s n t None
+refused_own m n s t b r mode choice sites refused =
+    let c : TreeClause = clause_at m.clause in
+    let d : TreeClause = clause_at n.clause in
+    let first_bound : ℕ = bound_of (clause_variables c) in
+    let second_bound : ℕ = bound_of (clause_variables d) in
+    allowed_none m n s t b r (terms_from 0 first_bound (substitution_of b Left)) (terms_from 0 second_bound (substitution_of b Right))
+    (own_terms_are_named b first_bound second_bound) mode choice sites (allows-own c s d t b r choice ∙ refused)
 
 -- a clause that is surely small is not heavy
 pub small_not_heavy : (left right side : ℕ) → left + right ≤ MOST_SYMBOLS → is_heavy left right side ≡ false

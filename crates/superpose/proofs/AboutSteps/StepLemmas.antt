@@ -4,8 +4,7 @@ use Rattle.std.specs.Prelude.{flat_map}
 use Rattle.std.specs.List.{AllByRecursion}
 use Rattle.std.specs.Option.{is_some}
 use Rattle.std.proofs.lemmas.Bool.{true≢false}
-use Rattle.std.proofs.lemmas.Grind.{flat_map-append}
-use Rattle.fol_base.specs.Tree.{Tree, variable, application, trees_of, list_of, tree_variables, trees_variables}
+use Rattle.fol_base.specs.Tree.{Tree, variable, application, trees_of, list_of, trees_variables}
 use Rattle.fol_base.specs.Instance.{instance, substitution}
 use Rattle.fol_base.specs.Clause.{TreeLiteral, TreeClause, LiteralVariablesBelow, literal_variables, clause_variables}
 use Rattle.fol_base.specs.Ground.{literals_instance}
@@ -22,7 +21,6 @@ use Rattle.eq_rules.proofs.AboutConclusions.WideLemmas.{renamed-literals}
 use Rattle.superpose.specs.Concluding.{superposed_at, GivesNumbered}
 use Rattle.eq_rules.specs.declared.concluding.LiteralSide.{LiteralSide}
 use Rattle.superpose.specs.declared.sites.LiteralPlace.{LiteralPlace}
-use Rattle.superpose.proofs.AboutSites.PlaceLemmas.{trees_variables-listed}
 use Rattle.list_lemmas.proofs.Results.{some-there}
 use Rattle.eq_rules.proofs.AboutConclusions.ConclusionLemmas.{appended_variables}
 

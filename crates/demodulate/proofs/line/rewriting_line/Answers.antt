@@ -26,6 +26,6 @@ returns c =
     (c.in_ok-own.ensures ∙ ap (λ n. terms_from 0 n variable) c.variable_bound.ensures.value)
     (c.in_ok-terms.ensures.terms ∙ ap (λ n. terms_from 0 n (by_pairs f.rewrite.terms)) c.variable_bound-2.ensures.variables)
     c.new-numbers.ensures (c.len.ensures ∙ sym (length-map c.in_ok-made.made.literals literal_of))
-    c.in_ok-number_literals.ensures
+    c.in_ok-number_literals.ensures.met
     c.in_ok-first_bind.ensures.met c.in_ok-first_bind.ensures.form
     c.in_ok-second_bind.ensures.met c.in_ok-second_bind.ensures.form

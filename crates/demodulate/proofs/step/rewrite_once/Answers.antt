@@ -15,7 +15,7 @@ returns-in-None-clause-ok c =
       same = refl;
       normal = λ usage.
           left-normal usage by.units.now by.left_out by.asserted.now old c.requires.asserted
-          (subst (λ (o : Option NextLine). IsNext (usable_by by) old c.in_ok-parent.parent o) c.in-None.is c.in_ok-next_line.ensures);
+          (subst (λ (o : Option NextLine). IsNext (usable_by by) old c.in_ok-parent.parent o) c.in-None.is c.in_ok-next_line.ensures.next);
     }
 
 pub returns-in_ok-extend-in-Some-clause-ok : goal.returns-in_ok-extend-in-Some-clause-ok
@@ -24,5 +24,5 @@ returns-in_ok-extend-in-Some-clause-ok c =
     let old = clause_of c.args.reduced.now.clause in
     rewritten by.units.now by.left_out by.asserted.now c.args.reduced.now c.extend.new.reduced c.in_ok-parent.parent c.in-Some.next
     c.requires.asserted c.requires.names c.requires.size c.in_ok-parent.ensures
-    (subst (λ (o : Option NextLine). IsNext (usable_by by) old c.in_ok-parent.parent o) c.in-Some.is c.in_ok-next_line.ensures)
+    (subst (λ (o : Option NextLine). IsNext (usable_by by) old c.in_ok-parent.parent o) c.in-Some.is c.in_ok-next_line.ensures.next)
     c.in_ok-extend-in-Some.ensures.ok

@@ -30,3 +30,6 @@ returns c =
     reduced-by by.equations.now by.units.now by.left_out (clause_at c.args.member.now.clause) c.unreduced-reduced.result c.reduce.new.reduced c.in_ok-reduce.field-0 e
     (λ q looked. subst (λ (d : TreeClause). IsReduced q looked d c.unreduced-reduced.result) c.in_ok-clause.ensures.same (c.unreduced-reduced.ensures.reduced q looked))
     c.in_ok-reduce.ensures.further c.in_ok-reduce.ensures.ok
+
+pub reduce-requires-clause-memory : goal.reduce-requires-clause-memory
+reduce-requires-clause-memory c = c.new-memory.ensures c.args.by.now.equations.now c.args.by.now.left_out

@@ -12,7 +12,7 @@ entries_of-requires-clause-of_bank c =
 pub entries_of-requires-clause-made : goal.entries_of-requires-clause-made
 entries_of-requires-clause-made c =
     let slots = c.args.known.now.store.now.slots.items in
-    all-made c.args.known.now.store.now.partners.mode (members_in slots) c.args.known.now.sets.now c.args.given.now.member.now.number (before_place slots c.args.place)
+    all-made c.args.left c.args.known.now.store.now.partners.mode (members_in slots) c.args.known.now.sets.now c.args.given.now.member.now.number (before_place slots c.args.place)
     c.in_ok-inferences.inferences.items c.requires.told c.requires.kept.kept c.requires.kept.numbered c.in_ok-inferences.ensures
 
 pub removals_of-requires-clause-given : goal.removals_of-requires-clause-given

@@ -12,4 +12,7 @@ find-requires-clause-size c =
 pub returns : goal.returns
 returns c = λ usage of_unit of_member.
     answer-is usage c.args.units.now c.args.unit.now c.args.member.now c.names.result.now c.lend-literals.result c.in_ok-found.found c.is_some.result
-    c.requires.alone c.names.ensures.names c.lend-literals.ensures c.in_ok-found.ensures c.is_some.ensures of_unit of_member
+    c.requires.alone c.names.ensures.names c.lend-literals.ensures c.in_ok-found.ensures.found c.is_some.ensures of_unit of_member
+
+pub find-requires-clause-remembers : goal.find-requires-clause-remembers
+find-requires-clause-remembers c = c.new-normal.ensures _

@@ -29,6 +29,7 @@ returns-clause-sound c =
     (sym (c.set_sides.ensures.most ∙ ap (λ (d : Division). d.most) given ∙ c.empty_division.ensures.most))
     c.set_sides.ensures.low c.set_sides.ensures.high (rw c.in-Some.is at c.widest.ensures)
     (All-front IsEntry low high all) (All-back IsEntry low high all) c.share_out.ensures.low c.share_out.ensures.high
+    c.set_sides.ensures.bound
 
 pub returns-clause-members : goal.returns-clause-members
 returns-clause-members c =

@@ -8,7 +8,7 @@ use Rattle.subsume.proofs.searching.backward.Goals as goal
 pub returns : goal.returns
 returns c = λ usage wf all.
     let Does = IsSubsumedBy usage c.args.by.now in
-    let ms = c.set.inside.tree.0 in
+    let ms = c.set.inside.members in
     let adds = c.in_ok-collect.ensures in
     let found : c.collect.new.found.items ≡ adds.numbers = adds.added ∙ ap (λ (xs : List ℕ). xs ++ adds.numbers) c.new-found.ensures.items in
     subst (AreNumbersOf Does c.args.set.now) (sym c.from_vec.ensures)

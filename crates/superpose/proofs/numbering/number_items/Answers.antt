@@ -7,4 +7,4 @@ pub loop-index-preserved : goal.loop-index-preserved
 loop-index-preserved g c =
     items_met (g.T.LendsTerms.meaning c.args.bind.now) c.args.items.now c.args.start c.loop-index.index c.index-items-index.result
     c.args.numbers.now c.loop-index.numbers c.number_instance.new.numbers (slice_get_read c.args.items.now (length c.args.items.now) c.loop-index.index c.index-items-index.result refl (omega arith) c.index-items-index.is) c.loop-index.auto.index c.loop-index.invariant
-    c.in_ok-number_instance.ensures
+    c.in_ok-number_instance.ensures.met

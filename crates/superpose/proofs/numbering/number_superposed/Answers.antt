@@ -30,5 +30,5 @@ returns g c =
     c.count-first_count.result c.count-second_count.result
     c.args.numbers.now c.number_literals.new.numbers c.number_target.new.numbers c.number_literals-2.new.numbers others last
     c.literal.ensures c.literal-target.ensures c.other_side-new.ensures c.count-first_count.ensures c.count-second_count.ensures
-    c.in_ok-number_literals.ensures c.in_ok-number_target.ensures c.in_ok-number_literals-2.ensures c.in_ok-number_literals-3.ensures last_met)
-    c.number_literals-4.ensures
+    c.in_ok-number_literals.ensures.met c.in_ok-number_target.ensures c.in_ok-number_literals-2.ensures.met c.in_ok-number_literals-3.ensures.met last_met)
+    c.number_literals-4.ensures.met

@@ -14,9 +14,9 @@ use Rattle.unifier.specs.Renaming.{fits}
 use Rattle.unifier.specs.SolvedForm.{SolvedForm}
 use Rattle.eq_rules.proofs.AboutConclusions.PremiseLemmas.{literal-below}
 use Rattle.eq_rules.proofs.AboutConclusions.SideLemmas.{side-below}
-use Rattle.superpose.specs.Superposing.{are_alike, are_positive_atoms}
+use Rattle.superpose.specs.Superposing.{are_alike}
 use Rattle.superpose.proofs.AboutSteps.TermsLemmas.{subterm-below}
-use Rattle.superpose.proofs.AboutSteps.SizeLemmas.{atoms_none, unlike_none, apart_none}
+use Rattle.superpose.proofs.AboutSteps.SizeLemmas.{unlike_none, apart_none}
 use Rattle.superpose.proofs.superposing.superposition_at.Goals as goal
 
 pub unreachable-requires : goal.unreachable-requires
@@ -36,23 +36,6 @@ unreachable-requires c =
     let none : None ≡ Some enters.old =
     c.in_default.ensures ∙ ap (subterm t.place) (c.side.ensures ∙ ap (side_of t.at.side) m_is) ∙ enters.old_there in
     absurd (cc (none))
-
-pub returns-then-are_positive_atoms : goal.returns-then-are_positive_atoms
-returns-then-are_positive_atoms c mode sites =
-    let m = c.args.first.now.member.now in
-    let n = c.args.second.now.member.now in
-    let s = c.args.from in
-    let t = c.args.into.now in
-    let starts = c.requires.starts in
-    let enters = c.requires.enters in
-    let l_is : lent_of c.literal-equation.result ≡ starts.literal =
-    same_Some (lent_of c.literal-equation.result) starts.literal
-    (sym c.literal-equation.ensures ∙ ap (λ (ls : List TreeLiteral). slice_get ls s.literal) c.lend-first_literals.ensures ∙ starts.there) in
-    let m_is : lent_of c.literal-target.result ≡ enters.literal =
-    same_Some (lent_of c.literal-target.result) enters.literal
-    (sym c.literal-target.ensures ∙ ap (λ (ls : List TreeLiteral). slice_get ls t.at.literal) c.lend-second_literals.ensures ∙ enters.there) in
-    atoms_none m n s t starts enters mode
-    (ap₂ (are_positive_atoms s t) (sym l_is) (sym m_is) ∙ sym c.if-are_positive_atoms.ensures)
 
 pub returns-then-not-are_alike : goal.returns-then-not-are_alike
 returns-then-not-are_alike c mode sites =

@@ -1,5 +1,5 @@
-use Rattle.std.proofs.Common.{◌≡◌, ◌≤◌, ◌+◌, List, length, arith, ap, ap₂, sym, ◌∙◌}
-use Rattle.std.specs.Prelude.{sum_by, slice_get}
+use Rattle.std.proofs.Common.{◌≡◌, ◌≤◌, ◌+◌, List, length, arith, ap, ap₂, sym, ◌∙◌, subst}
+use Rattle.std.specs.Prelude.{sum_by, slice_get, IfSome}
 use Rattle.std.proofs.lemmas.Option.{slice_get_within, same_Some}
 use Rattle.plain_types.specs.Capped.{capped}
 use Rattle.fol_base.specs.Tree.{Tree, tree_size}
@@ -16,8 +16,8 @@ use Rattle.bank_clause.specs.Clause.{clause_at}
 use Rattle.unifier.specs.Renaming.{AreNamedTerms}
 use Rattle.unifier.specs.SolvedForm.{substitution_of}
 use Rattle.unifier.proofs.AboutClasses.SharedLemmas.{own_terms_are_named}
-use Rattle.superpose.specs.Superposing.{is_heavy, size_under}
-use Rattle.superpose.proofs.AboutSteps.SizeLemmas.{heavy_settled, made_size, side_low, side_size, small_not_heavy, stays, surely_small}
+use Rattle.superpose.specs.Superposing.{allows, is_heavy, size_under}
+use Rattle.superpose.proofs.AboutSteps.SizeLemmas.{heavy_allowed, made_size, refused_own, side_low, side_size, small_not_heavy, stays, surely_small}
 use Rattle.superpose.proofs.superposing.superposition_by.Goals as goal
 
 pub literal-equation-requires : goal.literal-equation-requires
@@ -97,8 +97,8 @@ ordered_superposition-requires-clause-heavy c l there =
     surely_small m n s t b r left right h c.in_ok-unified_size.unified_size told_is (c.are_surely_small.ensures.0 c.if-are_surely_small.true) in
     sym (small_not_heavy (size_under b Left first) (size_under b Right second) (tree_size (instance (substitution_of b Left) (side_of s.side l))) small)
 
-pub returns-then-are_settled : goal.returns-then-are_settled
-returns-then-are_settled c mode sites =
+pub returns-in-Some-true : goal.returns-in-Some-true
+returns-in-Some-true c mode sites =
     let m = c.args.first.now.member.now in
     let n = c.args.second.now.member.now in
     let first = clause_at m.clause in
@@ -115,9 +115,23 @@ returns-then-are_settled c mode sites =
     c.in_ok-left_size.ensures ∙ ap (λ ls. capped (sum_by literal_size (literals_instance (substitution_of b Left) (literals_at ls)))) c.literals.ensures.literals in
     let right_is : right_told ≡ capped (size_under b Right second) =
     c.in_ok-right_size.ensures ∙ ap (λ ls. capped (sum_by literal_size (literals_instance (substitution_of b Right) (literals_at ls)))) c.literals-2.ensures.literals in
-    heavy_settled m n s t b r left_told right_told left_is right_is
+    heavy_allowed m n s t b r left_told right_told left_is right_is
     (omega (arith, c.max.ensures, c.if-max-gt-MOST_SYMBOLS.true)) mode c.args.second.now.sites.now.choice sites
-    (c.are_settled.ensures c.if-are_settled.true)
+    (subst (λ o. IfSome o (λ allowed. allows first.literals s second.literals t c.args.second.now.sites.now.choice
+    (substitution_of b Left) (substitution_of b Right) ≡ allowed)) c.in-Some-true.is c.in_ok-allowed_by_sizes.ensures
+    ∙ c.in-Some-true.field-0-test)
+
+pub returns-in-Some-false : goal.returns-in-Some-false
+returns-in-Some-false c mode sites =
+    let m = c.args.first.now.member.now in
+    let n = c.args.second.now.member.now in
+    let s = c.args.from in
+    let t = c.args.into.now in
+    let b = c.args.unifier.now in
+    refused_own m n s t b c.requires.unified mode c.args.second.now.sites.now.choice sites
+    (subst (λ o. IfSome o (λ allowed. allows (clause_at m.clause).literals s (clause_at n.clause).literals t c.args.second.now.sites.now.choice
+    (substitution_of b Left) (substitution_of b Right) ≡ allowed)) c.in-Some-false.is c.in_ok-allowed_by_sizes.ensures
+    ∙ c.in-Some-false.field-0-test)
 
 pub is_heavy-heavy-requires-clause-unified : goal.is_heavy-heavy-requires-clause-unified
 is_heavy-heavy-requires-clause-unified c =

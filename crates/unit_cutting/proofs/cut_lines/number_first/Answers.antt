@@ -6,4 +6,4 @@ use Rattle.unit_cutting.proofs.cut_lines.number_first.Goals as goal
 pub returns : goal.returns
 returns c =
     numbered-first (clause_of c.args.clause.now) c.args.index c.count-count.result c.args.own.now (tree_of c.args.kept.now) c.requires.inside c.count-count.ensures
-    c.requires.own c.args.numbers.now c.number_term.new.numbers c.number_term-2.new.numbers c.number_literals.new.numbers c.number_literals-2.new.numbers c.in_ok-number_term.ensures c.in_ok-number_term-2.ensures c.in_ok-number_literals.ensures c.in_ok-number_literals-2.ensures
+    c.requires.own c.args.numbers.now c.number_term.new.numbers c.number_term-2.new.numbers c.number_literals.new.numbers c.number_literals-2.new.numbers c.in_ok-number_term.ensures.met c.in_ok-number_term-2.ensures.met c.in_ok-number_literals.ensures.met c.in_ok-number_literals-2.ensures.met

@@ -1,12 +1,13 @@
-use Rattle.std.proofs.Common.{◌≡◌, List, ℕ, length, ap₂, refl, sym, ◌∙◌, subst, arith}
+use Rattle.std.proofs.Common.{◌≡◌, List, ℕ, ◌+◌, length, take, ap, ap₂, refl, sym, ◌∙◌, subst, inl, inr, arith}
 use Rattle.std.proofs.lemmas.List.{take_all}
 use Rattle.std.proofs.lemmas.Option.{same_Some, slice_get_read}
 use Rattle.fol_base.specs.Term.{tree_of}
+use Rattle.eq_rules.specs.Inferences.{is_enough}
 use Rattle.superpose.proofs.AboutSites.TriedLemmas.{begins-again, begins-self}
 use Rattle.partners.specs.Meeting.{AddsNamed, name_from, names}
 use Rattle.partners.specs.SiteTerms.{place_term}
 use Rattle.partners.proofs.NamedLemmas.{named-next, named-nothing}
-use Rattle.partners.proofs.TryLemmas.{starts-met, starts-none}
+use Rattle.partners.proofs.TryLemmas.{starts-met, starts-none, starts-some}
 use Rattle.partners.proofs.partners.Partners.push_into_place.Goals as goal
 
 pub loop-candidate-init : goal.loop-candidate-init
@@ -27,14 +28,40 @@ loop-candidate-preserved c =
           c.try_start.ensures.begins,
     )
 
+-- the candidates up to this one are enough
+pub returns-then-is_enough-clause-ok : goal.returns-then-is_enough-clause-ok
+returns-then-is_enough-clause-ok c = λ t at.
+    let g = c.args.given.now.member.now in
+    let items = c.as_slice-candidate-items.result.now in
+    let k = c.loop-candidate.candidate-index in
+    inr (
+      ap (is_enough c.args.most) (sym (c.len.ensures ∙ c.try_start.new.found.ok.0)) ∙ sym c.is_enough.ensures ∙ c.if-is_enough.true,
+      starts-some c.args.bound c.args.self.now g t (tree_of c.in-Some.term.now) c.in_ok-candidates.candidates (k + 1) c.args.found.now.items
+          c.try_start.new.found.items c.in_ok-candidates.ensures
+          (subst
+          (λ (es : List ℕ).
+          AddsNamed c.args.bound c.args.self.now g (names (name_from c.args.bound c.args.self.now g.number t) (take (k + 1) es)) c.args.found.now.items
+          c.try_start.new.found.items)
+          c.as_slice-candidate-items.ensures
+          (named-next c.args.bound c.args.self.now g (name_from c.args.bound c.args.self.now g.number t) items k
+          c.args.found.now.items c.loop-candidate.found.items c.try_start.new.found.items c.loop-candidate-test.true
+          (c.loop-candidate.invariant.0 t at) (c.in_ok-try_start.ensures.ok t at))),
+    )
+
+pub returns-then-is_enough-clause-begins : goal.returns-then-is_enough-clause-begins
+returns-then-is_enough-clause-begins c =
+    begins-again c.args.found.now.items c.loop-candidate.found.items c.try_start.new.found.items c.loop-candidate.invariant.1
+    c.try_start.ensures.begins
+
 pub returns-in_default-clause-ok : goal.returns-in_default-clause-ok
 returns-in_default-clause-ok c = λ t at.
     let sites = c.args.given.now.sites.now in
     let read = c.index.result.now in
     let same : read ≡ t =
     same_Some read t (sym (slice_get_read sites.into.items (length sites.into.items) c.args.into read refl c.requires.inside c.index.ensures) ∙ at) in
-    starts-none c.args.bound c.args.self.now c.args.given.now.member.now t c.args.found.now.items
-    (ap₂ place_term (sym c.lend-literals.ensures) (sym same) ∙ sym c.in_default.ensures)
+    inl
+    (starts-none c.args.bound c.args.self.now c.args.given.now.member.now t c.args.found.now.items
+    (ap₂ place_term (sym c.lend-literals.ensures) (sym same) ∙ sym c.in_default.ensures))
 
 pub returns-clause-ok : goal.returns-clause-ok
 returns-clause-ok c = λ t at.
@@ -44,7 +71,8 @@ returns-clause-ok c = λ t at.
     let read = c.index.result.now in
     let same : read ≡ t =
     same_Some read t (sym (slice_get_read sites.into.items (length sites.into.items) c.args.into read refl c.requires.inside c.index.ensures) ∙ at) in
-    starts-met c.args.bound c.args.self.now g t (tree_of c.in-Some.term.now) c.in_ok-candidates.candidates c.args.found.now.items
+    inl
+    (starts-met c.args.bound c.args.self.now g t (tree_of c.in-Some.term.now) c.in_ok-candidates.candidates c.args.found.now.items
     c.loop-candidate.found.items
     (ap₂ place_term (sym c.lend-literals.ensures) (sym same) ∙ sym c.in-Some.ensures) c.in_ok-candidates.ensures
     (subst
@@ -52,4 +80,4 @@ returns-clause-ok c = λ t at.
     AddsNamed c.args.bound c.args.self.now g (names (name_from c.args.bound c.args.self.now g.number t) es) c.args.found.now.items
     c.loop-candidate.found.items)
     (take_all c.loop-candidate.candidate-index items (omega arith) ∙ c.as_slice-candidate-items.ensures)
-    (c.loop-candidate.invariant.0 t at))
+    (c.loop-candidate.invariant.0 t at)))

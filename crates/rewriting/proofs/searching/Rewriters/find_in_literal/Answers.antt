@@ -7,8 +7,8 @@ use Rattle.rewriting.specs.declared.searching.Found.{Found}
 use Rattle.rewriting.proofs.AboutSearches.SearchLemmas.{literal-found}
 use Rattle.rewriting.proofs.searching.Rewriters.find_in_literal.Goals as goal
 
-pub returns-in_ok-found-in-None : goal.returns-in_ok-found-in-None
-returns-in_ok-found-in-None c =
+pub returns-in_ok-found-in-None-clause-found : goal.returns-in_ok-found-in-None-clause-found
+returns-in_ok-found-in-None-clause-found c =
     literal-found (usable_by c.args.self.now) (lent_of c.args.literal) c.args.index c.in_ok-found-in-None.found
-    (subst (λ (o : Option Found). IsFoundOfSide (usable_by c.args.self.now) (lent_of c.args.literal) c.args.index Left o) c.in-None.is c.in_ok-found.ensures)
-    c.in_ok-found-in-None.ensures
+    (subst (λ (o : Option Found). IsFoundOfSide (usable_by c.args.self.now) (lent_of c.args.literal) c.args.index Left o) c.in-None.is c.in_ok-found.ensures.found)
+    c.in_ok-found-in-None.ensures.found

@@ -19,16 +19,16 @@ loop-entry-preserved c =
     c.in_default.is c.in_ok-rewrite.ensures in
     one-more-tried P items i (slice_index items i) (take_more items i 0 c.loop-entry-test.true) c.loop-entry.invariant refused
 
-pub returns : goal.returns
-returns c =
+pub returns-clause-found : goal.returns-clause-found
+returns-clause-found c =
     let items = c.as_slice-entry-items.result.now in
     let P = λ (x : ℕ). NotBy (usable_by c.args.self.now) (spot_of c.args.spot) (tree_of c.args.term.now) x in
     none-found c.args.self.now.units.now c.args.self.now.left_out c.args.self.now.asserted.now (spot_of c.args.spot) (tree_of c.args.term.now)
     c.in_ok-found.found c.in_ok-found.ensures
     (λ x there. c.loop-entry.invariant x (subst (IsIn x) (sym (take_all c.loop-entry.entry-index items (omega arith) ∙ c.as_slice-entry-items.ensures)) there))
 
-pub returns-then-is_empty : goal.returns-then-is_empty
-returns-then-is_empty c =
+pub returns-then-is_empty-clause-found : goal.returns-then-is_empty-clause-found
+returns-then-is_empty-clause-found c =
     none-found c.args.self.now.units.now c.args.self.now.left_out c.args.self.now.asserted.now (spot_of c.args.spot) (tree_of c.args.term.now)
     c.in_ok-found.found c.in_ok-found.ensures
     (λ x there. absurd (subst (IsIn x) (c.is_empty.ensures.0 c.if-is_empty.true) there))
