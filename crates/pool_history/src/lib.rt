@@ -54,7 +54,7 @@ mod ticket;
 
 pub use batch::{Batch, Entry, Fate, MetEntries, Redundancy, Removal, Removals, Work};
 pub use event::Event;
-pub use options::Options;
+pub use options::{MOST_WORKERS, Options};
 pub use outcome::Outcome;
 pub use ticket::{Back, Change, Claimed, News, PropTicket, Ticket};
 

@@ -1,4 +1,4 @@
-// The options of a pool.
+// The options of a pool, and how many workers it may have.
 
 use literal_selection::Selection;
 
@@ -12,3 +12,6 @@ pub struct Options {
     /// The number of counted inferences at which the pool gives up.
     pub inferences: u32,
 }
+
+/// The greatest number of workers of a pool.
+pub const MOST_WORKERS: u32 = 16;

@@ -85,6 +85,8 @@ use Rattle.rewriting.specs.contracts.units.Units as units
 use Rattle.rewriting.specs.contracts.units.Units.TheInside as units-inside
 use Rattle.unit_cutting.specs.contracts.index.UnitIndex as cutting
 use Rattle.unit_cutting.specs.contracts.index.UnitIndex.TheInside as cutting-inside
+use Rattle.subsume.specs.contracts.parted.PartedMembers as parted
+use Rattle.subsume.specs.contracts.parted.PartedMembers.TheInside as parted-inside
 use Rattle.subsume.specs.contracts.subsumers.Subsumers as subsumers
 use Rattle.subsume.specs.contracts.subsumers.Subsumers.TheInside as subsumers-inside
 use Rattle.given_work.specs.contracts.store.Store as store
@@ -254,8 +256,14 @@ cutting-within = let T = cutting-inside.the_type in recorded_send (Struct (struc
 pub cutting-send : IsSend cutting.the_row
 cutting-send = search (sendable, cutting-within) depth 12
 
+parted-within : IsSend parted-inside.the_row
+parted-within = let T = parted-inside.the_type in recorded_send (Struct (struct.shape T)) T.D T.to T.to_one (struct_send (struct.shape parted-inside.the_type) (search (base, features-cross, kept-send) depth 12, (search (base, features-cross, kept-send) depth 12, tt)))
+
+parted-send : IsSend parted.the_row
+parted-send = search (sendable, parted-within) depth 12
+
 subsumers-within : IsSend subsumers-inside.the_row
-subsumers-within = let T = subsumers-inside.the_type in recorded_send (Struct (struct.shape T)) T.D T.to T.to_one (struct_send (struct.shape subsumers-inside.the_type) (search base, (search (base, features-cross, kept-send) depth 12, (search (base, index-send, features-send, hasher-send, fold-send) depth 12, tt))))
+subsumers-within = let T = subsumers-inside.the_type in recorded_send (Struct (struct.shape T)) T.D T.to T.to_one (struct_send (struct.shape subsumers-inside.the_type) (search base, (search (base, parted-send) depth 12, (search (base, index-send, features-send, hasher-send, fold-send) depth 12, tt))))
 
 pub subsumers-send : IsSend subsumers.the_row
 subsumers-send = search (sendable, subsumers-within) depth 12
@@ -273,7 +281,7 @@ pub sets-send : IsSend sets.the_row
 sets-send = let T = sets.the_type in recorded_send (Struct (struct.shape T)) T.D T.to T.to_one sets-field
 
 known-within : IsSend known-inside.the_row
-known-within = let T = known-inside.the_type in recorded_send (Struct (struct.shape T)) T.D T.to T.to_one (struct_send (struct.shape known-inside.the_type) (search (base, options-field) depth 12, (search base, (search (base, store-field) depth 12, (search (base, sets-field) depth 12, tt)))))
+known-within = let T = known-inside.the_type in recorded_send (Struct (struct.shape T)) T.D T.to T.to_one (struct_send (struct.shape known-inside.the_type) (search (base, options-field) depth 12, (search base, (search (base, store-send) depth 12, (search (base, sets-send) depth 12, tt)))))
 
 pub known-send : IsSend known.the_row
 known-send = search (sendable, known-within) depth 12

@@ -6,10 +6,11 @@ ghost use Rattle.pool_history.specs.Inputs.{AreInputs, IsLimit};
 ghost use Rattle.worker_team.specs.Proved.{IsProvedFrom};
 
 use crate::gate::Gate;
-use crate::team::{MOST_WORKERS, run_team};
+use crate::team::run_team;
 use fol_base::Clauses;
 use plain_types::Mem;
 use pool_core::{Options, Outcome, Pool};
+use pool_history::MOST_WORKERS;
 use std::alloc::Global;
 use std::sync::Wait;
 use std::thread::Threads;

@@ -16,15 +16,13 @@ use crate::gate::Gate;
 use crate::worker::Worker;
 use plain_types::{Mem, NoMemory};
 use pool_core::{Options, Pool};
+use pool_history::MOST_WORKERS;
 use std::alloc::Global;
 use std::sync::Wait;
 use std::thread;
 use std::thread::Threads;
 use term_bank::Bank;
 use turn_lock::{Pass, TurnLock};
-
-/// The most workers of a team.
-pub const MOST_WORKERS: u32 = 16;
 
 /// Works on a pool by several workers until an outcome stands. The pool that comes began as the given one, and its history begins with that of
 /// the given one. Out of memory is told where no worker reached an outcome.
@@ -52,7 +50,10 @@ pub fn run_team<R: Threads + Wait + Sync, G: Gate + Sync>(
     let pool = lock.close(pass);
     match pool.outcome() {
         Some(_) => Ok(pool),
-        None => Err(NoMemory),
+        None => {
+            drop(pool);
+            Err(NoMemory)
+        }
     }
 }
 
