@@ -9,7 +9,7 @@ use Rattle.fol_base.specs.Covered.{InstanceOf}
 use Rattle.kernel_steps.specs.Derivation.{IsDerivation, IsRefutation}
 use Rattle.kernel_steps.specs.Soundness.{BindsOver}
 use Rattle.kernel_steps.specs.declared.step.Line.{Line}
-use Rattle.herbrand_list.specs.GroundList.{any_names, ground_list}
+use Rattle.herbrand_list.specs.GroundList.{any_names, ground_list, first_constant}
 
 -- no interpretation makes the ground list of a refutation without names true, whatever constant stands in for free variables
 abbrev pub GroundListsAreRefuted : Type 0
@@ -24,3 +24,9 @@ GroundListsAreInstances =
     (is_predicate : ℕ → Bool) (functions : FunctionSymbols is_predicate) (constant : Tree) (form : List TreeClause) (lines : List Line)
     → IsTrue (ground_over functions.symbols constant) → BindsOver functions.symbols lines → IsDerivation form lines
     → All (InstanceOf functions (Contains form)) (ground_list constant lines)
+
+-- the first constant of function symbols is a ground term over them
+abbrev pub FirstConstantsAreGround : Type 0
+FirstConstantsAreGround =
+    (is_predicate : ℕ → Bool) (functions : FunctionSymbols is_predicate)
+    → IsTrue (ground_over functions.symbols (first_constant functions.symbols))

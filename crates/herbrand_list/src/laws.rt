@@ -5,7 +5,7 @@ ghost use Rattle.fol_base.specs.Examples.{a, b, c, f, p, q, equation};
 ghost use Rattle.fol_base.specs.Rules.{disequation};
 ghost use Rattle.kernel_steps.specs.Examples.{implication_lines, rewrites_lines, components_lines, not_p, not_q};
 ghost use Rattle.herbrand_list.specs.GroundList.{ground_list, weight, names_line};
-ghost use Rattle.herbrand_list.specs.GroundLaws.{GroundListsAreRefuted, GroundListsAreInstances};
+ghost use Rattle.herbrand_list.specs.GroundLaws.{GroundListsAreRefuted, GroundListsAreInstances, FirstConstantsAreGround};
 ghost use Rattle.herbrand_list.specs.Examples.{open_lines};
 
 /// The ground lists of worked derivations, with their weights.
@@ -31,4 +31,9 @@ pub fn ground_lists_are_refuted()
 /// The ground list of a derivation has ground instances of the form alone.
 pub fn ground_lists_are_instances()
     ensures { GroundListsAreInstances }
+{}
+
+/// The first constant of function symbols is a ground term over them.
+pub fn first_constants_are_ground()
+    ensures { FirstConstantsAreGround }
 {}

@@ -6,6 +6,7 @@ pub mod Causes
 pub mod Lines
 pub mod Reading
 pub mod Checking
+pub mod AcceptedLines
 pub mod Taken
 pub mod Classes
 pub mod Verdicts

@@ -1,21 +1,25 @@
-// The check of a derivation's text.
+// The check of a derivation's text, and the lines that an accepted one has.
 
 ghost use Rattle.std.specs.Prelude.{◌≡◌, ◌<◌, ◌≤◌, IfOk, IfErr, IsTrue, length};
 ghost use Rattle.tptp_token.specs.Lexing.{lexed_of};
 ghost use Rattle.signature.specs.Form.{clausal_form};
 ghost use Rattle.clausal_form.specs.Form.{form_of};
-ghost use Rattle.clausal_form.specs.FormFunctions.{IsHerbrandRefuted};
+ghost use Rattle.kernel_steps.specs.Derivation.{IsRefutation};
+ghost use Rattle.kernel_steps.specs.Soundness.{BindsOver};
+ghost use Rattle.clausal_form.specs.FormFunctions.{functions_of, IsHerbrandRefuted};
 ghost use Rattle.clausal_form.specs.DerivationTexts.{IsAcceptedDerivation};
 ghost use Rattle.laws_meaning.specs.Meaning.{are_closed, ConjectureFollows};
 ghost use Rattle.clausal_form.specs.DerivationLine.{nothing_taken};
 ghost use Rattle.clausal_form.specs.DerivationLines.{accepted, refused_line};
 ghost use Rattle.tstp_checker.specs.Lines.{line_meant, setting_in, taken_in, IsReady, IsJudged};
+ghost use Rattle.tstp_checker.specs.AcceptedLines.{AreAcceptedLines};
 ghost use Rattle.tstp_checker.specs.Checking.{IsRefusalWhere, IsTakenAt, IsRefusedAt, ending_answer, IsCheckFault};
 
 use crate::cause::Cause;
 use crate::lines::Lines;
 use crate::reading::{ReadLine, line_at};
 use clausal_form::Clausal;
+use kernel_steps::Derivation;
 use plain_types::{Mem, NoMemory};
 use std::alloc::Global;
 use tptp_token::{Lexed, MOST_TEXT_BYTES, tokens};
@@ -66,9 +70,33 @@ pub fn check(
     ensures follows { IfOk result (λ _. IsTrue (are_closed problem.now.formulas) → ConjectureFollows problem.now.formulas) }
     ensures refused { IfErr result (IsCheckFault problem.now.formulas text.now) }
 {
+    let lines = read_lines(alloc, problem, form, text)?;
+    Ok(Accepted {
+        lines: lines.len() as u32,
+    })
+}
+
+/// The lines of an accepted derivation, by the same check: each with its step and its clause, where parents are numbers of lines, from 0.
+/// The line of a formula that stands in the problem more than once has the first of its places.
+pub fn read_lines(
+    alloc: Global,
+    problem: &Problem,
+    form: &Clausal,
+    text: &[u8],
+) -> Result<Derivation, CheckFault>
+    requires form { form_of form.now ≡ clausal_form problem.now.formulas }
+    requires small { length text.now ≤ MOST_TEXT_BYTES }
+    ensures lines { IfOk result (AreAcceptedLines problem.now.formulas text.now) }
+    ensures few { IfOk result (λ lines. length lines ≤ MOST_TEXT_BYTES) }
+    ensures refutation { IfOk result (IsRefutation (clausal_form problem.now.formulas).clauses) }
+    ensures binds { IfOk result (BindsOver (functions_of (clausal_form problem.now.formulas).symbols)) }
+    ensures refused { IfErr result (IsCheckFault problem.now.formulas text.now) }
+{
     let lexed = tokens(alloc, text)?;
     let mut lines = Lines::new(alloc, problem.formulas.as_slice(), form)?;
-    check_lines(alloc, text, &lexed, &mut lines)
+    check_lines(alloc, text, &lexed, &mut lines)?;
+    let Lines { taken, .. } = lines;
+    Ok(taken.lines)
 }
 
 /// Takes the lines of a text one after another, up to the end of its tokens.
@@ -77,13 +105,14 @@ fn check_lines(
     text: &[u8],
     lexed: &Lexed,
     lines: &mut Lines<'_>,
-) -> Result<Accepted, CheckFault>
+) -> Result<(), CheckFault>
     requires lexed { lexed.now ≡ lexed_of text.now }
     requires small { length text.now ≤ MOST_TEXT_BYTES }
     requires ready { IsReady lines.old }
     requires none { taken_in lines.old ≡ nothing_taken }
     requires form { (setting_in lines.old).form ≡ clausal_form (setting_in lines.old).problem }
-    ensures accepted { IfOk result (λ a. IsAcceptedDerivation (setting_in lines.old).problem text.now a.lines) }
+    ensures accepted { IfOk result (λ _. AreAcceptedLines (setting_in lines.old).problem text.now lines.new.taken.lines) }
+    ensures few { IfOk result (λ _. length lines.new.taken.lines ≤ MOST_TEXT_BYTES) }
     ensures refused { IfErr result (IsCheckFault (setting_in lines.old).problem text.now) }
 {
     let mut next = 0;
@@ -143,9 +172,10 @@ fn judge_line(alloc: Global, lines: &mut Lines<'_>, line: ReadLine) -> Mem<Optio
 }
 
 /// The answer after the last token, where all lines are taken.
-fn ending(lexed: &Lexed, lines: &Lines<'_>) -> Result<Accepted, CheckFault>
+fn ending(lexed: &Lexed, lines: &Lines<'_>) -> Result<(), CheckFault>
     requires few { length (taken_in lines.now).lines ≤ MOST_TEXT_BYTES }
-    ensures accepted { IfOk result (λ a. ending_answer lexed.now.fault (taken_in lines.now).lines ≡ accepted a.lines) }
+    ensures accepted { IfOk result (λ _. ending_answer lexed.now.fault (taken_in lines.now).lines
+        ≡ accepted (length (taken_in lines.now).lines)) }
     ensures refused { IfErr result (IsRefusalWhere (λ line cause.
         ending_answer lexed.now.fault (taken_in lines.now).lines ≡ refused_line line cause)) }
 {
@@ -162,5 +192,5 @@ fn ending(lexed: &Lexed, lines: &Lines<'_>) -> Result<Accepted, CheckFault>
             cause: Cause::NoEmptyClause,
         });
     }
-    Ok(Accepted { lines: last })
+    Ok(())
 }

@@ -8,6 +8,7 @@ ghost use Rattle.tstp_checker.specs.Inputs.{KnowsAll};
 
 use crate::entries::{Entry, entry_of};
 use indexmap::IndexMap;
+use name_hash::NameHash;
 use plain_types::{Mem, NoMemory};
 use std::alloc::Global;
 use tptp_tree::Annotated;
@@ -20,7 +21,7 @@ const MOST_FORMULAS: usize = 1 << 32;
 pub(crate) struct Inputs<'a> {
     pub formulas: &'a [Annotated],
     /// The first place of each formula.
-    first: IndexMap<Entry<'a>, u32>,
+    first: IndexMap<Entry<'a>, u32, NameHash>,
 }
 
 impl<'a> Inputs<'a> {
@@ -32,7 +33,7 @@ impl<'a> Inputs<'a> {
         if formulas.len() > MOST_FORMULAS {
             return Err(NoMemory);
         }
-        let mut first = IndexMap::new(alloc);
+        let mut first = IndexMap::with_hasher(alloc, NameHash::new());
         // From the last back, so that the first of equal ones stays.
         let mut place = formulas.len();
         while place > 0 {

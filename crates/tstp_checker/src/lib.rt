@@ -30,7 +30,7 @@
 //! **What is proved.** `check` answers Ok exactly where the text is an accepted derivation (`IsAcceptedDerivation` of `clausal_form`); this is
 //! the definition that the reader of a theorem must believe. Then the clausal form is refuted by finitely many ground instances, and by the
 //! laws of `laws_meaning` the conjecture follows from the axioms in every finite interpretation. Otherwise it answers exactly the first bad
-//! line and cause. No hint is involved: nothing that the checker keeps may be wrong without changing an answer, and all of it is proved.
+//! line and cause. `read_lines` is the same check, and its Ok has the lines. No hint is involved: nothing that the checker keeps may be wrong without changing an answer, and all of it is proved.
 //!
 //! **Invariant.** Between lines (`IsReady`): the names in the table are those of the lines, in order; each introduced name has the place of its
 //! component line; the numbers of symbols are again those of the form; and the table of formulas knows every formula of the problem.
@@ -54,4 +54,4 @@ mod rule_lines;
 mod taken;
 
 pub use cause::Cause;
-pub use derivation::{Accepted, CheckFault, check};
+pub use derivation::{Accepted, CheckFault, check, read_lines};

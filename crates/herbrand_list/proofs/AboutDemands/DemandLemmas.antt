@@ -49,14 +49,14 @@ list_of-trees_of : (ts : List Tree) → list_of (trees_of ts) ≡ ts
 list_of-trees_of [] = refl
 list_of-trees_of (t ∷ ts) = ap (λ us. t ∷ us) (list_of-trees_of ts)
 
-same-terms : (d e : Demand) → same_demand d e ≡ true → d.terms ≡ e.terms
+pub same-terms : (d e : Demand) → same_demand d e ≡ true → d.terms ≡ e.terms
 same-terms d e h =
     let both = and_parts (d.line == e.line) (trees_eq (trees_of d.terms) (trees_of e.terms)) h in
     sym (list_of-trees_of d.terms)
     ∙ ap list_of (trees_eq-true (trees_of d.terms) (trees_of e.terms) both.1)
     ∙ list_of-trees_of e.terms
 
-same-line : (d e : Demand) → same_demand d e ≡ true → d.line ≡ e.line
+pub same-line : (d e : Demand) → same_demand d e ≡ true → d.line ≡ e.line
 same-line d e h = eqb-true d.line e.line (and_parts (d.line == e.line) (trees_eq (trees_of d.terms) (trees_of e.terms)) h).0
 
 -- ---- one that arrives

@@ -142,7 +142,7 @@ below-of form lines n (Opposite name) c h = tt
 below-of form lines n (Split m definitions parts) c h = tt
 below-of form lines n (Chain numbers pivots) c h = tt
 
-parents-below : (form : List TreeClause) (lines : List Line) → IsDerivation form lines → AllParentsBelow lines (length lines)
+pub parents-below : (form : List TreeClause) (lines : List Line) → IsDerivation form lines → AllParentsBelow lines (length lines)
 parents-below form lines derived n within =
     let there = there-below lines n within in
     subst (ParentsBelow n) (sym (step-there lines n there.0 there.1))

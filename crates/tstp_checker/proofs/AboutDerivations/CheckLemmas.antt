@@ -1,6 +1,6 @@
 -- The check of a derivation, line by line.
 use Rattle.std.proofs.Common.{◌≡◌, inl, inr, ℕ, zero, suc, ◌+◌, ◌-◌, ◌<◌, ◌≤◌, Option, None, Some, Result, Ok, Err, List, [], ◌∷◌, ◌++◌, length, drop, refl, ap, sym, ◌∙◌, subst, arith}
-use Rattle.std.specs.Prelude.{IfOk, IfErr, IsTrue}
+use Rattle.std.specs.Prelude.{IfOk, IfErr}
 use Rattle.std.proofs.lemmas.List.{length-append, length-map, drop_all, length-drop}
 use Rattle.tptp_token.specs.Lexemes.{Lexeme, lexeme_at}
 use Rattle.tptp_token.specs.Lexing.{with_piece, piece_length, lexed_from, lexed_of}
@@ -11,23 +11,27 @@ use Rattle.tptp_token.specs.declared.piece.Piece.{Piece}
 use Rattle.tptp_token.specs.declared.piece.Piece.TheVariants.{Token, Space, Bad, Unclosed}
 use Rattle.tptp_tree.specs.declared.problem.Annotated.{Annotated}
 use Rattle.signature.specs.Form.{ClausalForm, clausal_form}
-use Rattle.clausal_form.specs.FormFunctions.{IsHerbrandRefuted}
-use Rattle.laws_meaning.specs.Meaning.{are_closed, ConjectureFollows}
-use Rattle.laws_meaning.proofs.AboutForms.ConsequenceLemmas.{accepted_derivations_prove}
-use Rattle.clausal_form.specs.DerivationLine.{LineTree, NamedLine, Taken, nothing_taken}
+use Rattle.kernel_steps.specs.Derivation.{IsRefutation}
+use Rattle.kernel_steps.specs.Soundness.{BindsOver}
+use Rattle.kernel_steps.specs.declared.step.Line.{Line}
+use Rattle.clausal_form.specs.FormFunctions.{functions_of}
+use Rattle.clausal_form.specs.DerivationLine.{LineTree, NamedLine, Taken, nothing_taken, kernel_lines}
 use Rattle.clausal_form.specs.DerivationParts.{Setting, setting_of}
 use Rattle.clausal_form.specs.DerivationCauses.{Cause, LineVerdict, refused, taken, line_verdict}
-use Rattle.clausal_form.specs.DerivationLines.{all_taken, after_line, then_line, lines_verdict_from, lines_verdict, Answer, accepted, refused_line}
+use Rattle.clausal_form.specs.DerivationLines.{all_taken, after_line, then_line, lines_verdict_from, lines_verdict, ended, Answer, accepted, refused_line}
 use Rattle.clausal_form.specs.DerivationTexts.{SpellsLines, text_tokens, IsEnd, NoLineBegins, IsAcceptedDerivation, IsRefusedDerivation, IsAnswerOn}
 use Rattle.clausal_form.proofs.AboutDerivations.TextLemmas.{joined, verdict-joined}
 use Rattle.clausal_form.proofs.AboutDerivations.SpelledLemmas.{answered}
-use Rattle.clausal_form.proofs.AboutDerivations.RefutationLemmas.{accepted_derivations_refute}
+use Rattle.clausal_form.proofs.AboutDerivations.RefutationLemmas.{taken_lines_are_steps, accepted_lines_refute}
 use Rattle.tstp_checker.specs.Causes.{cause_meant}
+use Rattle.tstp_checker.specs.AcceptedLines.{AreAcceptedLines}
+use Rattle.tstp_checker.specs.Taken.{taken_of}
+use Rattle.tstp_checker.specs.declared.taken.TakenLines.{TakenLines}
 use Rattle.tstp_checker.specs.Checking.{IsRefusalWhere, IsTakenAt, IsRefusedAt, ending_answer, IsCheckFault}
-use Rattle.tstp_checker.specs.declared.derivation.Accepted.{Accepted}
 use Rattle.tstp_checker.specs.declared.derivation.CheckFault.{CheckFault}
 use Rattle.tstp_checker.specs.declared.derivation.CheckFault.TheVariants.{NoMemory, Refused}
 use Rattle.tstp_checker.proofs.AboutDerivations.ReadingLemmas.{line-phrase}
+use Rattle.tstp_checker.proofs.AboutDerivations.TakenLemmas.{lines-of, named-length}
 
 -- ---- a text has at most one token for each byte
 
@@ -49,6 +53,11 @@ tokens-few place zero (b ∷ bs) =
 pub text-tokens-few : (bytes : List ℕ) → length (lexed_of bytes).tokens ≤ length bytes
 unfolding lexed_of
 text-tokens-few bytes = tokens-few 0 0 bytes
+
+-- what holds of every answer holds of a right one
+pub always : {T E : Type 0} (result : Result T E) (P : T → Type 0) → ((x : T) → P x) → IfOk result P
+always (Ok x) P h = h x
+always (Err e) P h = tt
 
 -- ---- the lines before a token
 
@@ -211,16 +220,39 @@ answer-to bytes lexed s next e x same own all p h =
     answer-so s.problem bytes s e x (own-setting s own) (ended-to bytes lexed s next e same all p)
     (ap (λ (y : Lexed). ending_answer y.fault e.lines) (sym same) ∙ h)
 
+-- the lines that are accepted, for the kernel
+accepted-lines :
+    (problem : List Annotated) (bytes : List ℕ) (s : Setting) (e : Taken) (lines : List Line)
+    → s ≡ setting_of problem → AreTakenTo bytes s (length (lexed_of bytes).tokens) e → kernel_lines e ≡ lines
+    → ending_answer (lexed_of bytes).fault e.lines ≡ accepted (length lines) → AreAcceptedLines problem bytes lines
+accepted-lines problem bytes s e lines same p kernel answer = by (lexed_of bytes).fault refl answer
+  where
+    by :
+        (fault : Option LexFault) → (lexed_of bytes).fault ≡ fault → ending_answer fault e.lines ≡ accepted (length lines)
+        → AreAcceptedLines problem bytes lines
+    by None whole h = record {
+      trees = p.before;
+      spelled = (drop (length (lexed_of bytes).tokens) (text_tokens bytes), p.spelled, (at-end bytes, whole));
+      taken = e;
+      all = ap (λ x. lines_verdict x p.before) (sym same) ∙ p.are_taken;
+      ends = h;
+      same = kernel;
+    }
+    by (Some fault) some h = absurd (cc)
+
 pub ended-accepted :
-    (bytes : List ℕ) (lexed : Lexed) (s : Setting) (next : ℕ) (e : Taken) (result : Result Accepted CheckFault)
-    → lexed ≡ lexed_of bytes → s.form ≡ clausal_form s.problem → length lexed.tokens ≤ next → AreTakenTo bytes s next e
-    → IfOk result (λ a. ending_answer lexed.fault e.lines ≡ accepted a.lines)
-    → IfOk result (λ a. IsAcceptedDerivation s.problem bytes a.lines)
-ended-accepted bytes lexed s next e (Ok a) same own all p h = answer-to bytes lexed s next e (accepted a.lines) same own all p h
-ended-accepted bytes lexed s next e (Err fault) same own all p h = tt
+    {T : Type 0} (bytes : List ℕ) (lexed : Lexed) (s : Setting) (next : ℕ) (x : TakenLines) (result : Result T CheckFault)
+    → lexed ≡ lexed_of bytes → s.form ≡ clausal_form s.problem → length lexed.tokens ≤ next → AreTakenTo bytes s next (taken_of x)
+    → IfOk result (λ _. ending_answer lexed.fault (taken_of x).lines ≡ accepted (length (taken_of x).lines))
+    → IfOk result (λ _. AreAcceptedLines s.problem bytes x.lines)
+ended-accepted bytes lexed s next x (Ok a) same own all p h =
+    accepted-lines s.problem bytes s (taken_of x) x.lines (own-setting s own) (ended-to bytes lexed s next (taken_of x) same all p)
+    (lines-of x.names x.lines)
+    (ap (λ (y : Lexed). ending_answer y.fault (taken_of x).lines) (sym same) ∙ h ∙ ap accepted (named-length x.names x.lines))
+ended-accepted bytes lexed s next x (Err fault) same own all p h = tt
 
 pub ended-refused :
-    (bytes : List ℕ) (lexed : Lexed) (s : Setting) (next : ℕ) (e : Taken) (result : Result Accepted CheckFault)
+    {T : Type 0} (bytes : List ℕ) (lexed : Lexed) (s : Setting) (next : ℕ) (e : Taken) (result : Result T CheckFault)
     → lexed ≡ lexed_of bytes → s.form ≡ clausal_form s.problem → length lexed.tokens ≤ next → AreTakenTo bytes s next e
     → IfErr result (IsRefusalWhere (λ line cause. ending_answer lexed.fault e.lines ≡ refused_line line cause))
     → IfErr result (IsCheckFault s.problem bytes)
@@ -229,27 +261,17 @@ ended-refused bytes lexed s next e (Err NoMemory) same own all p h = tt
 ended-refused bytes lexed s next e (Err (Refused line cause)) same own all p h =
     answer-to bytes lexed s next e (refused_line line (cause_meant cause)) same own all p h
 
--- ---- the problem's own answer
+-- ---- what accepted lines are
 
-pub accepted-so :
-    (problem other : List Annotated) (bytes : List ℕ) (result : Result Accepted CheckFault) → other ≡ problem
-    → IfOk result (λ a. IsAcceptedDerivation other bytes a.lines) → IfOk result (λ a. IsAcceptedDerivation problem bytes a.lines)
-accepted-so problem other bytes result same h =
-    subst (λ fs. IfOk result (λ (a : Accepted). IsAcceptedDerivation fs bytes a.lines)) same h
+pub accepted-counted : (problem : List Annotated) (bytes : List ℕ) (lines : List Line) → AreAcceptedLines problem bytes lines → IsAcceptedDerivation problem bytes (length lines)
+accepted-counted problem bytes lines a = (a.trees, a.spelled, ap ended a.all ∙ a.ends)
 
-pub refused-so :
-    (problem other : List Annotated) (bytes : List ℕ) (result : Result Accepted CheckFault) → other ≡ problem
-    → IfErr result (IsCheckFault other bytes) → IfErr result (IsCheckFault problem bytes)
-refused-so problem other bytes result same h = subst (λ fs. IfErr result (IsCheckFault fs bytes)) same h
+pub accepted-refute : (problem : List Annotated) (bytes : List ℕ) (lines : List Line) → AreAcceptedLines problem bytes lines → IsRefutation (clausal_form problem).clauses lines
+accepted-refute problem bytes lines a =
+    subst (IsRefutation (clausal_form problem).clauses) a.same (accepted_lines_refute problem a.trees a.taken (length lines) a.all a.ends)
 
-pub accepted-refutes :
-    (problem : List Annotated) (bytes : List ℕ) (result : Result Accepted CheckFault)
-    → IfOk result (λ a. IsAcceptedDerivation problem bytes a.lines) → IfOk result (λ a. IsHerbrandRefuted problem)
-accepted-refutes problem bytes (Ok a) h = accepted_derivations_refute problem bytes a.lines h
-accepted-refutes problem bytes (Err fault) h = tt
-
-pub accepted-proves :
-    (problem : List Annotated) (bytes : List ℕ) (result : Result Accepted CheckFault)
-    → IfOk result (λ a. IsAcceptedDerivation problem bytes a.lines) → IfOk result (λ a. IsTrue (are_closed problem) → ConjectureFollows problem)
-accepted-proves problem bytes (Ok a) h = λ closed. accepted_derivations_prove problem bytes a.lines closed h
-accepted-proves problem bytes (Err fault) h = tt
+pub accepted-bind :
+    (problem : List Annotated) (bytes : List ℕ) (lines : List Line) → AreAcceptedLines problem bytes lines
+    → BindsOver (functions_of (clausal_form problem).symbols) lines
+accepted-bind problem bytes lines a =
+    subst (BindsOver (functions_of (clausal_form problem).symbols)) a.same (taken_lines_are_steps problem a.trees a.taken a.all).1

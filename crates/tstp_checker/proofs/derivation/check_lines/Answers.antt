@@ -1,8 +1,10 @@
 use Rattle.std.proofs.Common.{◌≤◌, ◌∙◌, length, subst, arith, ap}
 use Rattle.tptp_token.specs.declared.token.Lexed.{Lexed}
+use Rattle.tptp_token.specs.declared.limits.TheConstants.{MOST_TEXT_BYTES}
 use Rattle.tstp_checker.specs.Lines.{setting_in, taken_in}
 use Rattle.tstp_checker.specs.Checking.{IsTakenAt}
-use Rattle.tstp_checker.proofs.AboutDerivations.CheckLemmas.{text-tokens-few, one-more, ended-accepted, ended-refused, fault-told}
+use Rattle.tstp_checker.proofs.AboutDerivations.CheckLemmas.{text-tokens-few, one-more, ended-accepted, ended-refused, fault-told, always}
+use Rattle.tstp_checker.proofs.AboutDerivations.TakenLemmas.{named-length}
 use Rattle.list_lemmas.proofs.Results.{err-passed}
 use Rattle.tstp_checker.proofs.derivation.check_lines.Goals as goal
 
@@ -38,8 +40,22 @@ ending-requires c = record {
 pub returns-clause-accepted : goal.returns-clause-accepted
 returns-clause-accepted c =
     let left : length c.args.lexed.now.tokens ≤ c.loop-next.next = omega (arith, c.loop-next-test.false, c.len.ensures) in
-    ended-accepted c.args.text.now c.args.lexed.now (setting_in c.args.lines.now) c.loop-next.next (taken_in c.loop-next.lines) c.ending.result
+    ended-accepted c.args.text.now c.args.lexed.now (setting_in c.args.lines.now) c.loop-next.next c.loop-next.lines.taken c.ending.result
     c.requires.lexed c.requires.form left c.loop-next.invariant.taken c.ending.ensures.accepted
+
+pub returns-clause-few : goal.returns-clause-few
+returns-clause-few c =
+    let taken = c.loop-next.lines.taken in
+    let few : length taken.lines ≤ MOST_TEXT_BYTES =
+    omega (
+      arith,
+      named-length taken.names taken.lines,
+      c.loop-next.invariant.taken.few,
+      c.loop-next.invariant.taken.within,
+      text-tokens-few c.args.text.now,
+      c.requires.small,
+    ) in
+    always c.ending.result (λ _. length taken.lines ≤ MOST_TEXT_BYTES) (λ _. few)
 
 pub returns-clause-refused : goal.returns-clause-refused
 returns-clause-refused c =

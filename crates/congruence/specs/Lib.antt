@@ -1,0 +1,5 @@
+pub mod Congruence
+pub mod Joined
+pub mod Keys
+pub mod Models
+pub mod Examples
