@@ -1,46 +1,21 @@
-//! The program: `prove`, `check` and `model` as one call, `run`, over any library of files and any sink for the report.
+//! The program: the words of the command line are run as a command, over real files and standard output.
 //!
-//! There are five stages, and the first that fails reports: the words of the command line (`words.rt`); reading and clausal form
-//! (`problem.rt`); the proof (`prove.rt` on `proved.rt` and `derivation.rt`), the check (`check.rt`) or the search for a model (`model.rt`); the
-//! report, a status and a text (`report.rt` on `report_lines.rt`, `report_words.rt` and `names.rt`; a command's own in `prove_reports.rt`,
-//! `check_reports.rt` and `model_reports.rt`); its writes (`run.rt`;
-//! when out of memory in pieces that take none, `memory_out.rt`).
+//! What a command answers, and what is proved of it, is the crate `commands`: `run` is called here once, in a thread whose stack is large
+//! enough for what one worker does on every input that the limits allow. Workers beyond the first have the system's default stack.
 //!
-//! **What is proved.** The clauses of `run`: one for each row of the table of answers (`specs/Rows.antt`; the rows of one command in
-//! `specs/ProveRows.antt`, `specs/CheckRows.antt` and `specs/ModelRows.antt`), that every valid input is answered, and which writes deliver the report.
-//!
-//! **What isn't.** That the words which `main` hands over are those of the command line, and that the process ends with the status. A stored
-//! run shows it.
+//! **What isn't proved.** That the words which `main` hands over are those of the command line, and that the process ends with the status. A
+//! stored run shows it.
 #![tactic(auto)]
 
-mod check;
-mod check_reports;
-mod derivation;
-pub mod laws;
-mod memory_out;
-mod model;
-mod model_reports;
-mod names;
-mod problem;
-mod prove;
-mod prove_reports;
-mod proved;
-mod report;
-mod report_lines;
-mod report_words;
-mod run;
-mod status;
-mod words;
-
+use command_reports::MEMORY_OUT;
+use command_words::{Command, Words};
+use commands::run;
 use outside::{FileLibrary, StdoutSink};
 use plain_types::{Mem, NoMemory};
-pub use proved::{ProveFault, Proved, ProvedPart, prove_part, prove_problem};
-pub use run::run;
-use status::MEMORY_OUT;
 use std::env;
 use std::io::ErrorKind;
 use std::process::ExitCode;
-pub use words::Words;
+use std::thread::{self, Builder};
 use worker_team::NoGate;
 
 /// The words after the program's name. Words of which one is no text are as none, which is usage.
@@ -58,14 +33,37 @@ fn command_words(rt: &HostRuntime) -> Mem<Words> {
     Ok(words)
 }
 
+/// The stack of the thread in which a command runs, in bytes. Of what the limits allow, the reading of a derivation whose terms are nested
+/// 5,000 deep needs most: 8 MiB at -O3 and 29 MiB at -O0. The stack that the system hands to a process is often smaller, and its environment
+/// and its words lie on it.
+const STACK_BYTES: usize = 64 << 20;
+
+/// `ground` has more: the terms of a list nest as deep as its weight allows, some 300,000 levels, of up to 1,450 bytes each at -O0.
+const GROUND_STACK_BYTES: usize = 512 << 20;
+
+/// How large a stack a command takes.
+fn stack_bytes(words: &Words) -> usize {
+    match words.command() {
+        Some(Command::Ground { .. }) => GROUND_STACK_BYTES,
+        _ => STACK_BYTES,
+    }
+}
+
+/// The command runs in a thread whose stack is large enough. Where the system has no room for that, the program ends as out of memory.
 fn main(rt: HostRuntime) -> ExitCode {
     let Ok(words) = command_words(&rt) else {
         return ExitCode::from(MEMORY_OUT);
     };
-    let mut library = FileLibrary::new(&rt);
-    let mut sink = StdoutSink::new(&rt);
-    ExitCode::from(run(&rt, rt.alloc(), &words, &mut library, &mut sink, &NoGate))
+    let stack = Builder::new().stack_size(stack_bytes(&words));
+    let run_command = || {
+        let mut library = FileLibrary::new(&rt);
+        let mut sink = StdoutSink::new(&rt);
+        run(&rt, rt.alloc(), &words, &mut library, &mut sink, &NoGate)
+    };
+    ExitCode::from(thread::scope(thread::scope_env(), &rt, |scope| {
+        match stack.spawn_scoped(scope, run_command) {
+            Ok(handle) => handle.join(&rt),
+            Err(_) => MEMORY_OUT,
+        }
+    }))
 }
-
-#[cfg(test)]
-mod tests;

@@ -10,6 +10,3 @@ pub use numbers::Random;
 pub use random::{random_term, random_terms};
 pub use terms::{atom, binary, constant, unary, unit};
 pub use text::{clause, clauses};
-
-#[cfg(test)]
-mod tests;

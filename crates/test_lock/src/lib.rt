@@ -5,5 +5,3 @@
 mod notes;
 #[cfg(test)]
 mod pairs;
-#[cfg(test)]
-mod team;

@@ -9,7 +9,7 @@ use std::sync::Wait;
 use turn_lock::{Historied, Pass, Turn, TurnLock};
 
 /// A note of a worker. Its place is its key.
-#[derive(Clone, Copy, Debug, PartialEq, Drop)]
+#[derive(Clone, Copy, PartialEq, Drop)]
 pub struct Note {
     pub key: u64,
     pub worker: u64,
@@ -101,24 +101,4 @@ pub fn leave_note<R: Wait>(
 {
     let turn = lock.take(rt, pass);
     end_with_note(lock, turn, worker, number)
-}
-
-/// Leaves as many notes, with the numbers from 0 on, each in a turn of its own.
-pub fn leave_notes<R: Wait>(
-    rt: &R,
-    lock: &TurnLock<Notes>,
-    pass: Pass<Notes>,
-    worker: u64,
-    count: u64,
-) -> Pass<Notes>
-    requires { pass.lock ≡ lock.now }
-    ensures lock { result.lock ≡ lock.now }
-    ensures shares { result.shares ≡ pass.shares }
-    ensures start { result.start ≡ pass.start }
-{
-    let mut pass = pass;
-    for number in 0..count {
-        pass = leave_note(rt, lock, pass, worker, number).0;
-    }
-    pass
 }

@@ -7,7 +7,6 @@ use crate::notes::{Note, Notes, leave_note};
 use std::alloc::Global;
 use std::snapshot::Snapshot;
 use std::sync::Wait;
-use std::test::Fail;
 use turn_lock::{Pass, TurnLock};
 
 /// Two passes of 512 shares each leave a note, and are joined, and the lock is closed. What comes back is the notes and what the joined pass knew: it owns the place of each note.
@@ -24,8 +23,8 @@ fn two_notes<R: Wait>(rt: &R, alloc: Global) -> Option<(Notes, Snapshot<Pass<Not
 }
 
 #[test]
-fn two_passes_own_the_places_of_their_notes(rt: HostRuntime) -> Result<(), Fail> {
-    let (closed, _known) = two_notes(&rt, rt.alloc()).ok_or("no memory")?;
+fn two_passes_own_the_places_of_their_notes(rt: HostRuntime) {
+    let (closed, _known) = two_notes(&rt, rt.alloc()).expect(&rt, "memory");
     let numbers = [
         Note {
             key: 0,
@@ -40,5 +39,4 @@ fn two_passes_own_the_places_of_their_notes(rt: HostRuntime) -> Result<(), Fail>
     ];
     assert!(rt; closed.notes.as_slice() == numbers.as_slice());
     assert_eq!(rt; closed.name, 7);
-    Ok(())
 }

@@ -1,3 +1,0 @@
-pub mod Inputs
-pub mod Returns
-pub mod Splitting

@@ -1,16 +1,17 @@
-// The tests of the pool of clauses. They stand apart, since a crate with tests is proved twice, with them and without. That a batch is
-// void or stale, and that a return removes clauses, is tested with batches that were worked out, in `test_work`.
+// The tests of batches of the work on given clauses that are given back to a pool, and, since they read problems too, of the forms with which pools begin and
+// of the lines that are written of a derivation. They stand apart, since a crate with tests is proved twice, with them and without.
+//
+// What claims and the answers of the solver are is said by the contracts of `pool_core`, and shown by worked examples in `laws_pool_examples` and by rows
+// through real files, in .ci.
 #![tactic(auto)]
 
 #[cfg(test)]
-mod batches;
-#[cfg(test)]
-mod calls;
-#[cfg(test)]
-mod claiming;
+mod forms;
 #[cfg(test)]
 mod inputs;
 #[cfg(test)]
+mod jobs;
+#[cfg(test)]
 mod returning;
 #[cfg(test)]
-mod splitting;
+mod written;

@@ -1,191 +1,132 @@
-// Returns of batches: an equal clause, the limit, and the empty clause at the limit.
+// The batches of two jobs that are out together, and what is answered where they come back.
 
-ghost use Rattle.std.specs.Prelude.{◌≡◌, ◌≤◌, [], ◌∷◌, map};
-ghost use Rattle.fol_base.specs.Literal.{clause_of};
-ghost use Rattle.plain_types.specs.declared.limits.TheConstants.{MOST_INFERENCES};
+ghost use Rattle.std.specs.Prelude.{◌≡◌};
 ghost use Rattle.term_bank.specs.Bank.{identity};
-ghost use Rattle.term_bank.specs.Table.{IsTableOf};
-ghost use Rattle.pool_history.specs.declared.event.Event.TheVariants.{Claim};
-ghost use Rattle.test_pool.specs.Returns.{doubled, doubled_out, first_doubled, second_doubled, second_history, trivial, resolved};
+ghost use Rattle.pool_history.specs.Inputs.{IsRightBatch};
 
-use crate::batches::{atom, both, empty, of_one, of_two, only, resolved_batch, unequal_to_itself};
-use crate::calls::{give, take};
-use crate::inputs::OPTIONS;
-use fol_base::Clauses;
-use pool_core::{Batch, Options, Outcome, Pool};
+use crate::inputs::pool_of;
+use crate::jobs::{answer, next_batch, next_batch_beside, take_beside};
+use pool_core::{Back, Batch, Pool};
 use std::alloc::Global;
 use std::process::Abort;
 use std::sync::Wait;
-use term_bank::{Bank, Table};
+use term_bank::Bank;
 
-// The numbers of the constants.
-const A: u32 = 1;
-
-const B: u32 = 2;
-
-/// `r | a != a` and `r | b != b`.
-fn doubled_inputs(rt: &impl Abort, alloc: Global) -> Clauses
-    ensures { map clause_of result ≡ (doubled 10).inputs }
-{
-    let first = of_two(rt, alloc, atom(alloc), unequal_to_itself(alloc, A));
-    let second = of_two(rt, alloc, atom(alloc), unequal_to_itself(alloc, B));
-    both(rt, alloc, first, second)
+/// What the later one of two returns is answered.
+#[derive(Clone, Copy)]
+enum Wanted {
+    Taken,
+    /// The clause of that number has died, by which the given one would go.
+    Stale(u32),
+    /// The given clause has died in the event of that place.
+    Void(u64),
 }
 
-/// A pool of these, up to a limit on inferences. Both clauses are out.
-fn doubled_pool<W: Wait + Abort>(
-    rt: &W,
+/// A text, whether one clause of it is claimed before two jobs, which of these comes back first, and what the other one is answered.
+struct Row {
+    text: &'static [u8],
+    is_one_before: bool,
+    is_later_first: bool,
+    wanted: Wanted,
+}
+
+const ROWS: &[Row] = &[
+    // The second clause is rewritten by the first, whose job is out, and which wasn't told of the second.
+    Row {
+        text: b"cnf(a,axiom,f(a) = b). cnf(b,axiom,f(a) = c).",
+        is_one_before: false,
+        is_later_first: true,
+        wanted: Wanted::Taken,
+    },
+    // The first clause goes by the second, which was claimed before, while the job of the third is out, which would have gone by it.
+    Row {
+        text: b"cnf(a,axiom,f(a) = b). cnf(b,axiom,b = a). cnf(c,axiom,f(a) = c).",
+        is_one_before: true,
+        is_later_first: false,
+        wanted: Wanted::Stale(0),
+    },
+    // The second clause subsumes the first, whose job is out.
+    Row {
+        text: b"cnf(a,axiom,p(a)). cnf(b,axiom,p(X)).",
+        is_one_before: false,
+        is_later_first: true,
+        wanted: Wanted::Void(2),
+    },
+];
+
+/// Claims a clause, whose job isn't done, where one is to be claimed.
+fn claim_before(rt: &impl Abort, alloc: Global, pool: &mut Pool, is_one: bool)
+    ensures { pool.new.bank ≡ pool.old.bank }
+{
+    if is_one {
+        let _ = pool.claim(alloc, 0).expect(rt, "memory");
+    }
+}
+
+/// The answer to the last one of two batches, where the first one is taken.
+fn last_answer<R: Wait + Abort>(
+    rt: &R,
     alloc: Global,
     bank: &Bank,
-    table: Table,
-    inferences: u32,
-) -> Pool
-    requires table { IsTableOf bank.now table }
-    requires limit { (1 ≤ inferences) × (inferences ≤ MOST_INFERENCES) }
-    ensures bank { result.bank ≡ identity bank.now }
-    ensures origin { result.origin ≡ doubled inferences }
-    ensures history { result.history ≡ doubled_out }
+    pool: &mut Pool,
+    first: Batch,
+    last: Batch,
+) -> Back
+    requires bank { pool.old.bank ≡ identity bank.now }
+    requires first { IsRightBatch pool.old.origin pool.old.history first }
+    requires last { IsRightBatch pool.old.origin pool.old.history last }
 {
-    let options = Options {
-        inferences,
-        ..OPTIONS
-    };
-    let inputs = doubled_inputs(rt, alloc);
-    let mut pool = Pool::new(rt, alloc, bank, table, &inputs, options).expect(rt, "memory");
-    give(rt, alloc, &mut pool);
-    give(rt, alloc, &mut pool);
-    pool
+    take_beside(rt, alloc, bank, pool, first, &last);
+    answer(rt, alloc, bank, pool, last)
 }
 
-/// The first clause becomes `r`.
-fn first_batch(rt: &impl Abort, alloc: Global) -> Batch
-    ensures { result ≡ first_doubled }
-{
-    let left = of_one(rt, alloc, atom(alloc));
-    let brought = of_one(rt, alloc, atom(alloc));
-    resolved_batch(rt, alloc, 1, 0, 1, left, brought)
-}
-
-/// The second clause becomes `r`.
-fn second_batch(rt: &impl Abort, alloc: Global) -> Batch
-    ensures { result ≡ second_doubled }
-{
-    let left = of_one(rt, alloc, atom(alloc));
-    let brought = of_one(rt, alloc, atom(alloc));
-    resolved_batch(rt, alloc, 2, 1, 1, left, brought)
-}
-
-/// A pool of these, in which the first clause has become `r`.
-fn first_taken<W: Wait + Abort>(
-    rt: &W,
+/// The answer to the last one of the batches of two jobs, which are out together.
+fn answer_of_two<R: Wait + Abort>(
+    rt: &R,
     alloc: Global,
     bank: &Bank,
-    table: Table,
-    inferences: u32,
-) -> Pool
-    requires table { IsTableOf bank.now table }
-    requires limit { (1 ≤ inferences) × (inferences ≤ MOST_INFERENCES) }
-    ensures bank { result.bank ≡ identity bank.now }
-    ensures origin { result.origin ≡ doubled inferences }
-    ensures history { result.history ≡ second_history }
+    pool: &mut Pool,
+    is_later_first: bool,
+) -> Back
+    requires { pool.old.bank ≡ identity bank.now }
 {
-    let mut pool = doubled_pool(rt, alloc, bank, table, inferences);
-    let first = first_batch(rt, alloc);
-    take(rt, alloc, bank, &mut pool, first);
-    pool
+    let earlier = next_batch(rt, alloc, bank, pool);
+    let later = next_batch_beside(rt, alloc, bank, pool, &earlier);
+    if is_later_first {
+        last_answer(rt, alloc, bank, pool, later, earlier)
+    } else {
+        last_answer(rt, alloc, bank, pool, earlier, later)
+    }
 }
 
-/// A pool of these, in which both have.
-fn both_taken<W: Wait + Abort>(rt: &W, alloc: Global, bank: &Bank, table: Table) -> Pool
-    requires table { IsTableOf bank.now table }
-{
-    let mut pool = first_taken(rt, alloc, bank, table, 10);
-    let second = second_batch(rt, alloc);
-    take(rt, alloc, bank, &mut pool, second);
-    pool
+/// Whether this is the answer.
+fn is_as_wanted(back: &Back, wanted: Wanted) -> bool {
+    match back {
+        Back::Taken => matches!(wanted, Wanted::Taken),
+        Back::Stale { justifier, .. } =>
+            matches!(wanted, Wanted::Stale(number) if number == *justifier),
+        Back::Void(event) => matches!(wanted, Wanted::Void(place) if place == *event),
+    }
 }
 
-/// Whether a pool has these numbers of lines, living clauses and counted inferences.
-fn has(
-    rt: &impl Abort,
-    alloc: Global,
-    pool: &Pool,
-    lines: usize,
-    living: usize,
-    counted: u64,
-) -> bool {
-    let members = pool.members(alloc).expect(rt, "memory");
-    pool.derivation().len() == lines && members.len() == living && pool.counted() == counted
+/// Whether the last batch of a row is answered as it says.
+fn is_answered<R: Wait + Abort>(rt: &R, alloc: Global, row: &Row) -> bool {
+    let (bank, table) = Bank::new(alloc).expect(rt, "memory");
+    let mut pool = pool_of(rt, alloc, &bank, table, row.text);
+    claim_before(rt, alloc, &mut pool, row.is_one_before);
+    let back = answer_of_two(rt, alloc, &bank, &mut pool, row.is_later_first);
+    let is_right = is_as_wanted(&back, row.wanted);
+    // A value that is moved into a call costs the proof less than one that goes by itself.
+    drop(back);
+    drop(pool);
+    drop(bank);
+    is_right
 }
 
-/// Two clauses become one: it is registered once, and counted twice.
 #[test]
-fn an_equal_clause_is_registered_once(rt: HostRuntime) {
+fn batches_are_answered(rt: HostRuntime) {
     let alloc = rt.alloc();
-    let (bank, table) = Bank::new(alloc).expect(&rt, "memory");
-    let pool = both_taken(&rt, alloc, &bank, table);
-    assert!(rt; has(&rt, alloc, &pool, 3, 1, 2));
-    assert_eq!(rt; pool.outcome(), None);
-}
-
-/// The count reaches the limit: the result isn't registered, and the outcome tells the count.
-#[test]
-fn nothing_is_registered_at_the_limit(rt: HostRuntime) {
-    let alloc = rt.alloc();
-    let (bank, table) = Bank::new(alloc).expect(&rt, "memory");
-    let pool = first_taken(&rt, alloc, &bank, table, 1);
-    assert!(rt; has(&rt, alloc, &pool, 2, 1, 1));
-    assert_eq!(rt; pool.outcome(), Some(Outcome::Spent(1)));
-}
-
-/// `a != a`.
-fn trivial_inputs(rt: &impl Abort, alloc: Global) -> Clauses
-    ensures { map clause_of result ≡ (trivial).inputs }
-{
-    let input = of_one(rt, alloc, unequal_to_itself(alloc, A));
-    only(rt, alloc, input)
-}
-
-/// A pool of it, up to one inference. The clause is out.
-fn trivial_pool<W: Wait + Abort>(rt: &W, alloc: Global, bank: &Bank, table: Table) -> Pool
-    requires table { IsTableOf bank.now table }
-    ensures bank { result.bank ≡ identity bank.now }
-    ensures origin { result.origin ≡ trivial }
-    ensures history { result.history ≡ Claim 1 ∷ [] }
-{
-    let options = Options {
-        inferences: 1,
-        ..OPTIONS
-    };
-    let inputs = trivial_inputs(rt, alloc);
-    let mut pool = Pool::new(rt, alloc, bank, table, &inputs, options).expect(rt, "memory");
-    give(rt, alloc, &mut pool);
-    pool
-}
-
-/// The clause becomes the empty one.
-fn trivial_batch(rt: &impl Abort, alloc: Global) -> Batch
-    ensures { result ≡ resolved 1 0 0 [] }
-{
-    resolved_batch(rt, alloc, 1, 0, 0, empty(alloc), empty(alloc))
-}
-
-/// A pool in which it has.
-fn trivial_taken<W: Wait + Abort>(rt: &W, alloc: Global, bank: &Bank, table: Table) -> Pool
-    requires table { IsTableOf bank.now table }
-{
-    let mut pool = trivial_pool(rt, alloc, bank, table);
-    let batch = trivial_batch(rt, alloc);
-    take(rt, alloc, bank, &mut pool, batch);
-    pool
-}
-
-/// The empty clause is among the results that were just counted: it refutes, though the count has reached the limit.
-#[test]
-fn the_empty_clause_refutes_at_the_limit(rt: HostRuntime) {
-    let alloc = rt.alloc();
-    let (bank, table) = Bank::new(alloc).expect(&rt, "memory");
-    let pool = trivial_taken(&rt, alloc, &bank, table);
-    assert!(rt; pool.derivation().len() == 2 && pool.counted() == 1);
-    assert_eq!(rt; pool.outcome(), Some(Outcome::Refuted));
+    for (index, row) in ROWS.iter().enumerate() {
+        assert!(rt; is_answered(&rt, alloc, row), "row {index}");
+    }
 }

@@ -4,20 +4,14 @@ use std::alloc::Global;
 use std::process::Abort;
 use tptp_reader::{Read, ReadFault, annotated};
 use tptp_token::{MOST_TEXT_BYTES, tokens};
-use tptp_tree::{MOST_NESTING, Role, print_formula, same_formula};
+use tptp_tree::{MOST_NESTING, Role, print_formula};
 
-/// The answer for the entry that begins at a token of a text.
-fn answer(
-    rt: &impl Abort,
-    alloc: Global,
-    text: &[u8],
-    first: usize,
-    nesting: u32,
-) -> Result<Read, ReadFault> {
+/// The answer for the entry with which a text begins.
+fn answer(rt: &impl Abort, alloc: Global, text: &[u8], nesting: u32) -> Result<Read, ReadFault> {
     assert!(rt; text.len() <= MOST_TEXT_BYTES);
     let lexed = tokens(alloc, text).expect(rt, "memory");
-    assert!(rt; first < lexed.tokens.len());
-    annotated(alloc, text, &lexed, first, nesting)
+    assert!(rt; 0 < lexed.tokens.len());
+    annotated(alloc, text, &lexed, 0, nesting)
 }
 
 /// The formula as it is printed, or the cause that the entry isn't read for and its place.
@@ -35,14 +29,6 @@ fn shown(rt: &impl Abort, alloc: Global, answer: &Result<Read, ReadFault>) -> Ve
 
 /// A text, and what is shown of its answer.
 type Row = (&'static [u8], &'static [u8]);
-
-/// Each row's text has its answer at a limit of nesting.
-fn expect_answers(rt: &impl Abort, alloc: Global, rows: &[Row], nesting: u32) {
-    for (index, (text, wanted)) in rows.iter().enumerate() {
-        let found = shown(rt, alloc, &answer(rt, alloc, text, 0, nesting));
-        assert!(rt; found.as_slice() == *wanted, "row {index}");
-    }
-}
 
 /// How formulas are read, and at which connective they can't go on.
 const FORMULAS: &[Row] = &[
@@ -145,13 +131,6 @@ const CLAUSES: &[Row] = &[
     (b"cnf('1',plain,p).", b"p"),
 ];
 
-#[test]
-fn reads_entries(rt: HostRuntime) {
-    for rows in [FORMULAS, FAULTS, CLAUSES] {
-        expect_answers(&rt, rt.alloc(), rows, MOST_NESTING);
-    }
-}
-
 /// The answer at a limit of nesting of two.
 const LEVELS: &[Row] = &[
     (b"fof(a,axiom,~~p).", b"~~p"),
@@ -169,82 +148,26 @@ const LEVELS: &[Row] = &[
 ];
 
 #[test]
-fn limits_levels(rt: HostRuntime) {
-    expect_answers(&rt, rt.alloc(), LEVELS, 2);
-}
-
-/// Brackets, negations, quantifiers, terms, and connectives in turn round `p`, 5,000 levels deep: what opens and closes a level or
-/// two, how often, the limit within which they are read, the length of the printed formula, and where the reading ends within 500
-/// levels. A quantifier's bracket is a level more, so the last one needs 5,001.
-#[test]
-fn reads_deep_formulas(rt: HostRuntime) {
+fn reads_entries(rt: HostRuntime) {
     let alloc = rt.alloc();
-    for (open, close, times, limit, length, refused) in [
-        ("(", ")", 5_000, 5_000, 1, b"Nesting@512".as_slice()),
-        ("~", "", 5_000, 5_000, 5_001, b"Nesting@512"),
-        ("![X]:", "", 5_000, 5_001, 40_001, b"Nesting@2508"),
-        ("f(", ")", 5_000, 5_000, 15_001, b"Nesting@1013"),
-        ("p&(p|(", "))", 2_500, 5_000, 29_999, b"Nesting@1514"),
+    for (rows, nesting) in [
+        (FORMULAS, MOST_NESTING),
+        (FAULTS, MOST_NESTING),
+        (CLAUSES, MOST_NESTING),
+        (LEVELS, 2),
     ] {
-        let open = open.repeat(alloc, times).expect(&rt, "memory");
-        let close = close.repeat(alloc, times).expect(&rt, "memory");
-        let text = format!(in alloc; "fof(a,axiom,{open}p{close}).").expect(&rt, "memory");
-        let found = shown(&rt, alloc, &answer(&rt, alloc, text.as_bytes(), 0, limit));
-        assert!(rt; found.len() == length);
-        let stopped = answer(&rt, alloc, text.as_bytes(), 0, MOST_NESTING);
-        assert!(rt; shown(&rt, alloc, &stopped).as_slice() == refused);
+        for (index, (text, wanted)) in rows.iter().enumerate() {
+            let found = shown(&rt, alloc, &answer(&rt, alloc, text, nesting));
+            assert!(rt; found.as_slice() == *wanted, "row {index}");
+        }
     }
 }
 
-/// A copy of a formula with all connectives, both quantifiers and terms is the same.
 #[test]
-fn copies_formulas(rt: HostRuntime) {
+fn keeps_names_and_roles(rt: HostRuntime) {
     let alloc = rt.alloc();
-    let text =
-        b"fof(a,axiom,![X]:((p(f(X),c)=>X=c)&((?[Y]:(~X!=Y|$true))<=$false)&((p<=>q)<~>(p~|(q~&r))))).";
-    let read = answer(&rt, alloc, text, 0, MOST_NESTING)
-        .ok()
-        .expect(&rt, "a formula");
-    let copied = read.annotated.formula.copy(alloc).expect(&rt, "memory");
-    assert!(rt; same_formula(&read.annotated.formula, &copied));
-}
-
-/// The parts of the second entry besides its formula. It begins at the tenth token.
-#[test]
-fn keeps_names_roles_and_ranges(rt: HostRuntime) {
-    let alloc = rt.alloc();
-    let text = b"cnf(a,axiom,p). cnf(012,negated_conjecture,q,b(c)).".as_slice();
-    let refused = answer(&rt, alloc, text, 9, 0);
-    assert!(rt; shown(&rt, alloc, &refused).as_slice() == b"Nesting@46".as_slice());
-    let read = answer(&rt, alloc, text, 9, 1).ok().expect(&rt, "an entry");
-    assert!(rt; read.annotated.name.as_slice() == b"012".as_slice());
-    assert!(rt; read.annotated.clause && read.annotated.role == Role::NegatedConjecture);
-    assert!(rt; read.annotated.file.as_slice().is_empty() && read.annotated.place == 16);
-    assert!(rt; (read.notes_start, read.notes_end, read.next) == (17, 21, 23));
-}
-
-/// Sixty variables of one quantifier, more than are looked through: the first and the last are bound by it, and no other name is.
-#[test]
-fn binds_many_variables(rt: HostRuntime) {
-    let alloc = rt.alloc();
-    let mut names = String::new(alloc);
-    for number in 0..60 {
-        let comma = if number == 0 { "" } else { "," };
-        let name = format!(in alloc; "{comma}X{number}").expect(&rt, "memory");
-        names.push_str(name.as_str()).expect(&rt, "memory");
-    }
-    for (atom, wanted) in [
-        ("p(X0,X59)", b"! [".as_slice()),
-        ("p(X0,X60)", b"FreeVariable@250"),
-        ("((![X59]:p(X59))&q(X59))", b"! ["),
-        ("((![X60]:p(X60))&q(X60))", b"FreeVariable@264"),
-    ] {
-        let text = format!(in alloc; "fof(a,axiom,![{names}]:{atom}).").expect(&rt, "memory");
-        let found = shown(
-            &rt,
-            alloc,
-            &answer(&rt, alloc, text.as_bytes(), 0, MOST_NESTING),
-        );
-        assert!(rt; found.as_slice().starts_with(wanted), "{atom}");
-    }
+    let read = answer(&rt, alloc, b"cnf(12,hypothesis,p).", MOST_NESTING);
+    let entry = read.ok().expect(&rt, "an entry").annotated;
+    assert!(rt; entry.name.as_slice() == b"12".as_slice());
+    assert!(rt; entry.clause && entry.role == Role::Hypothesis);
 }

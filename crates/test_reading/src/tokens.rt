@@ -119,26 +119,3 @@ fn tells_tokens_apart(rt: HostRuntime) {
         }
     }
 }
-
-/// The name of a word, and how a name is printed.
-#[test]
-fn takes_quotes_off_and_puts_them_on(rt: HostRuntime) {
-    let alloc = rt.alloc();
-    for (word, name) in [
-        (b"a1".as_slice(), b"a1".as_slice()),
-        (b"'A b'", b"A b"),
-        (b"'it\\'s'", b"it's"),
-        (b"'\\\\'", b"\\"),
-        (b"'12'", b"12"),
-    ] {
-        assert!(rt; word.len() <= MOST_TEXT_BYTES);
-        let lexed = tokens(alloc, word).expect(&rt, "memory");
-        let token = TextToken::at(word, lexed.tokens.as_slice(), 0).expect(&rt, "a token");
-        assert!(rt; token.is_name() && !token.is_mark(b"("));
-        let found = token.name(alloc).expect(&rt, "memory");
-        assert!(rt; found.as_slice() == name);
-        let mut page = Vec::new(alloc);
-        push_name(&mut page, found.as_slice()).expect(&rt, "memory");
-        assert!(rt; page.as_slice() == word);
-    }
-}

@@ -1,15 +1,14 @@
 // Literals that go, on clauses worked out by hand.
 
-use crate::samples::{member, members};
+use crate::samples::{member_of, members};
 use fol_base::{Clause, same_clause};
 use kernel_steps::{Reduced, Step};
-use reduced_clause::unreduced;
 use sample::clause;
 use std::alloc::Global;
 use std::process::Abort;
 use std::sync::Wait;
 use term_bank::Bank;
-use unit_cutting::{cut_unit, cuttable, drop_trivial, is_tautology, merge_equal};
+use unit_cutting::{cut_unit, cuts, cuttable};
 
 /// The number of the unit.
 const UNIT: u32 = 3;
@@ -24,15 +23,17 @@ fn is_cut_to(reduced: &Reduced, wanted: &Clause) -> bool {
         && same_clause(&reduced.clause, wanted)
 }
 
-/// The clause that a unit cuts a clause to; None where it isn't cut.
-fn cut<R: Wait + Abort>(rt: &R, alloc: Global, unit: &Clause, given: &Clause) -> Option<Reduced> {
+/// The clause that the unit of a text cuts a clause to; None where it isn't cut.
+fn cut<R: Wait + Abort>(rt: &R, alloc: Global, unit: &str, given: &Clause) -> Option<Reduced> {
     let (bank, mut table) = Bank::new(alloc).expect(rt, "memory");
-    let unit = member(rt, alloc, &bank, &mut table, UNIT, unit);
+    let unit = member_of(rt, alloc, &bank, &mut table, UNIT, unit);
     cut_unit(alloc, &bank, &unit, given).expect(rt, "memory")
 }
 
 /// A unit, a clause, and what the clause is cut to; the clause itself where it isn't cut.
-const CUTS: &[(&str, &str, &str)] = &[
+type Row = (&'static str, &'static str, &'static str);
+
+const CUTS: &[Row] = &[
     ("~p(X0)", "p(a) | r", "r"),
     ("~p(X0)", "p(a) | ~p(a)", "~p(a)"),
     ("p(X0)", "r | ~p(f(X0))", "r"),
@@ -43,38 +44,22 @@ const CUTS: &[(&str, &str, &str)] = &[
     ("~$", "$", "$"),
 ];
 
-#[test]
-fn units_cut_literals(rt: HostRuntime) {
-    let alloc = rt.alloc();
-    for (index, (unit, given, wanted)) in CUTS.iter().enumerate() {
-        let unit = clause(alloc, unit).expect(&rt, "memory");
-        let given = clause(alloc, given).expect(&rt, "memory");
-        let wanted = clause(alloc, wanted).expect(&rt, "memory");
-        match cut(&rt, alloc, &unit, &given) {
-            Some(reduced) => assert!(rt; is_cut_to(&reduced, &wanted), "row {index}"),
-            None => assert!(rt; same_clause(&given, &wanted), "row {index}"),
-        }
+/// Whether the unit of a row cuts the clause as it says.
+fn cuts_as_told<R: Wait + Abort>(rt: &R, alloc: Global, row: &Row) -> bool {
+    let (unit, given, wanted) = row;
+    let given = clause(alloc, given).expect(rt, "memory");
+    let wanted = clause(alloc, wanted).expect(rt, "memory");
+    match cut(rt, alloc, unit, &given) {
+        Some(reduced) => is_cut_to(&reduced, &wanted),
+        None => same_clause(&given, &wanted),
     }
 }
 
 #[test]
-fn literals_go_one_after_another(rt: HostRuntime) {
-    let alloc = rt.alloc();
-    let given = clause(alloc, "p(X0) | ~$ | p(X0)").expect(&rt, "memory");
-    let wanted = clause(alloc, "p(X0)").expect(&rt, "memory");
-    let mut reduced = unreduced(alloc, given);
-    for is_there in [true, false] {
-        let dropped = drop_trivial(alloc, &mut reduced).expect(&rt, "memory");
-        assert!(rt; dropped == is_there);
+fn units_cut_literals(rt: HostRuntime) {
+    for (index, row) in CUTS.iter().enumerate() {
+        assert!(rt; cuts_as_told(&rt, rt.alloc(), row), "row {index}");
     }
-    for is_there in [true, false] {
-        let merged = merge_equal(alloc, &mut reduced).expect(&rt, "memory");
-        assert!(rt; merged == is_there);
-    }
-    assert!(rt; same_clause(&reduced.clause, &wanted));
-    assert!(rt; !is_tautology(&wanted));
-    let tautology = clause(alloc, "a = b | r | b != a").expect(&rt, "memory");
-    assert!(rt; is_tautology(&tautology));
 }
 
 /// The numbers of the clauses of a text that its first clause cuts.
@@ -87,4 +72,6 @@ fn a_unit_cuts_members(rt: HostRuntime) {
     let by = members.as_slice().first().expect(&rt, "a unit");
     let found = cuttable(alloc, &bank, by, &members).expect(&rt, "memory");
     assert!(rt; found.as_slice() == [1, 3].as_slice());
+    let itself = cuts(alloc, &bank, by, &by.clause).expect(&rt, "memory");
+    assert!(rt; !itself);
 }

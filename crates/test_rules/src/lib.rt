@@ -1,5 +1,5 @@
-// The tests of the generating and the simplifying rules. They stand apart and together, since a crate with tests is proved twice, with them
-// and without, and each crate of tests proves anew how a bank and a table are dropped.
+// The tests of the bank of terms, of unifying, and of the generating and the simplifying rules. They stand apart and together, since a crate with tests is
+// proved twice, with them and without, and each crate of tests proves anew how a bank and a table are dropped.
 #![tactic(auto)]
 
 #[cfg(test)]
@@ -7,22 +7,14 @@ mod conclusions;
 #[cfg(test)]
 mod cuts;
 #[cfg(test)]
-mod meetings;
+mod interning;
 #[cfg(test)]
 mod normal_forms;
-#[cfg(test)]
-mod plain_superposition;
-#[cfg(test)]
-mod random_clauses;
-#[cfg(test)]
-mod random_sets;
 #[cfg(test)]
 mod removals;
 #[cfg(test)]
 mod samples;
 #[cfg(test)]
-mod simplified;
-#[cfg(test)]
-mod small_pairs;
-#[cfg(test)]
 mod subsumption;
+#[cfg(test)]
+mod unifying;

@@ -1,25 +1,34 @@
 // Units, what they rewrite, and normal forms, on clauses worked out by hand. Letters rise in the order.
 
+ghost use Rattle.rewriting.specs.Units.{AreClausesOf};
+
 use crate::samples::{equations, members};
 use demodulate::normal_form;
 use fol_base::{Clause, MOST_SYMBOLS, is_canonical, same_clause};
 use kernel_steps::Reduced;
-use rewriting::{is_unit, rewritable};
+use rewriting::{Units, is_unit, rewritable};
 use sample::clause;
 use std::alloc::Global;
 use std::process::Abort;
 use std::sync::Wait;
 use term_bank::Bank;
 
-/// The normal form of a clause by the units of a text.
-fn normal<R: Wait + Abort>(rt: &R, alloc: Global, units: &str, given: &Clause) -> Reduced {
-    let (bank, mut table) = Bank::new(alloc).expect(rt, "memory");
-    let units = members(rt, alloc, &bank, &mut table, units);
-    let units = equations(rt, alloc, &bank, units.as_slice());
+/// The normal form of a clause by units.
+fn normal_by(rt: &impl Abort, alloc: Global, bank: &Bank, units: &Units, given: &Clause) -> Reduced
+    requires { AreClausesOf bank.now units.now }
+{
     assert!(rt; given.names.is_empty());
     assert!(rt; is_canonical(given));
     assert!(rt; given.size() <= MOST_SYMBOLS);
-    normal_form(alloc, &bank, given, &units, None).expect(rt, "memory")
+    normal_form(alloc, bank, given, units, None).expect(rt, "memory")
+}
+
+/// The normal form of a clause by the units of a text.
+fn normal<R: Wait + Abort>(rt: &R, alloc: Global, text: &str, given: &Clause) -> Reduced {
+    let (bank, mut table) = Bank::new(alloc).expect(rt, "memory");
+    let members = members(rt, alloc, &bank, &mut table, text);
+    let units = equations(rt, alloc, &bank, members.as_slice());
+    normal_by(rt, alloc, &bank, &units, given)
 }
 
 /// Units, a clause, its normal form, and the numbers of the units that are used.
@@ -44,17 +53,21 @@ const ROWS: &[Row] = &[
     ("X0 = a", "p(b)", "p(a)", &[0]),
 ];
 
-/// There are at least as many lines as units that are used.
+/// Whether a clause has its normal form by the units that are used, and at least as many lines as these.
+fn has_normal_form<R: Wait + Abort>(rt: &R, alloc: Global, row: &Row) -> bool {
+    let (units, given, wanted, used) = row;
+    let given = clause(alloc, given).expect(rt, "memory");
+    let wanted = clause(alloc, wanted).expect(rt, "memory");
+    let made = normal(rt, alloc, units, &given);
+    same_clause(&made.clause, &wanted)
+        && made.used.as_slice() == *used
+        && made.lines.len() >= used.len()
+}
+
 #[test]
 fn clauses_have_normal_forms(rt: HostRuntime) {
-    let alloc = rt.alloc();
-    for (index, (units, given, wanted, used)) in ROWS.iter().enumerate() {
-        let given = clause(alloc, given).expect(&rt, "memory");
-        let wanted = clause(alloc, wanted).expect(&rt, "memory");
-        let made = normal(&rt, alloc, units, &given);
-        assert!(rt; same_clause(&made.clause, &wanted), "row {index}");
-        assert!(rt; made.used.as_slice() == *used, "row {index}");
-        assert!(rt; made.lines.len() >= used.len(), "row {index}");
+    for (index, row) in ROWS.iter().enumerate() {
+        assert!(rt; has_normal_form(&rt, rt.alloc(), row), "row {index}");
     }
 }
 

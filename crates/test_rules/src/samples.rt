@@ -7,13 +7,12 @@ ghost use Rattle.rewriting.specs.Units.{AreClausesOf};
 use bank_clause::{BankClause, Member, Members};
 use fol_base::{Clause, SIZE_LIMIT, is_canonical};
 use rewriting::{Units, is_unit};
-use sample::clauses;
+use sample::{clause, clauses};
 use std::alloc::Global;
 use std::process::Abort;
 use std::sync::Wait;
 use subsume::Subsumers;
 use term_bank::{Bank, Table};
-use unit_cutting::{UnitIndex, has_one_literal};
 
 /// A clause as a member. It has to be one.
 pub(crate) fn member<R: Wait + Abort>(
@@ -33,6 +32,23 @@ pub(crate) fn member<R: Wait + Abort>(
     assert!(rt; clause.size() < SIZE_LIMIT);
     let clause = BankClause::of_clause(rt, alloc, bank, table, clause).expect(rt, "memory");
     Member { number, clause }
+}
+
+/// The clause of a text as a member.
+pub(crate) fn member_of<R: Wait + Abort>(
+    rt: &R,
+    alloc: Global,
+    bank: &Bank,
+    table: &mut Table,
+    number: u32,
+    text: &str,
+) -> Member
+    requires { IsTableOf bank.now table.old }
+    ensures made { IsMemberOf bank.now result }
+    ensures table { IsTableOf bank.now table.new }
+{
+    let spelled = clause(alloc, text).expect(rt, "memory");
+    member(rt, alloc, bank, table, number, &spelled)
 }
 
 /// The clauses of a text as members, numbered from 0.
@@ -62,7 +78,7 @@ pub(crate) fn members<R: Wait + Abort>(
 }
 
 /// Adds a member.
-pub(crate) fn put(rt: &impl Abort, members: &mut Members, bank: &Bank, member: Member)
+fn put(rt: &impl Abort, members: &mut Members, bank: &Bank, member: Member)
     requires of_bank { IsMemberOf bank.now member }
     requires members { AreMembersOf bank.now members.old }
     ensures { AreMembersOf bank.now members.new }
@@ -84,7 +100,7 @@ pub(crate) fn equations(rt: &impl Abort, alloc: Global, bank: &Bank, members: &[
 }
 
 /// Adds a member that is an equation.
-pub(crate) fn add_equation(rt: &impl Abort, equations: &mut Units, bank: &Bank, member: &Member)
+fn add_equation(rt: &impl Abort, equations: &mut Units, bank: &Bank, member: &Member)
     requires of_bank { IsMemberOf bank.now member.now }
     requires equations { AreClausesOf bank.now equations.old }
     ensures { AreClausesOf bank.now equations.new }
@@ -92,30 +108,6 @@ pub(crate) fn add_equation(rt: &impl Abort, equations: &mut Units, bank: &Bank, 
     if is_unit(&member.clause) {
         assert!(rt; equations.clause(u64::from(member.number)).is_none());
         equations.insert(bank, member).expect(rt, "memory");
-    }
-}
-
-/// Those with one literal.
-pub(crate) fn units(rt: &impl Abort, alloc: Global, bank: &Bank, members: &[Member]) -> UnitIndex
-    requires { AreMembersOf bank.now members.now }
-    ensures { AreClausesOf bank.now result }
-{
-    let mut units = UnitIndex::new(alloc).expect(rt, "memory");
-    for member in members {
-        add_unit(rt, &mut units, bank, member);
-    }
-    units
-}
-
-/// Adds a member that has one literal.
-fn add_unit(rt: &impl Abort, units: &mut UnitIndex, bank: &Bank, member: &Member)
-    requires of_bank { IsMemberOf bank.now member.now }
-    requires units { AreClausesOf bank.now units.old }
-    ensures { AreClausesOf bank.now units.new }
-{
-    if has_one_literal(&member.clause) {
-        assert!(rt; units.unit(u64::from(member.number)).is_none());
-        units.insert(bank, member).expect(rt, "memory");
     }
 }
 

@@ -1,24 +1,19 @@
 // Subsumption, on clauses worked out by hand.
 
-use crate::samples::{member, members, subsumers};
-use fol_base::Clause;
+use crate::samples::member_of;
 use sample::clause;
 use std::alloc::Global;
 use std::process::Abort;
 use std::sync::Wait;
-use subsume::{backward, features, forward, subsumes};
+use subsume::{features, subsumes};
 use term_bank::Bank;
 
-/// Whether the first clause subsumes the second.
-fn does_subsume<R: Wait + Abort>(
-    rt: &R,
-    alloc: Global,
-    general: &Clause,
-    special: &Clause,
-) -> bool {
+/// Whether the clause of the first text subsumes that of the second.
+fn does_subsume<R: Wait + Abort>(rt: &R, alloc: Global, general: &str, special: &str) -> bool {
+    let special = clause(alloc, special).expect(rt, "memory");
     let (bank, mut table) = Bank::new(alloc).expect(rt, "memory");
-    let general = member(rt, alloc, &bank, &mut table, 0, general);
-    let found = subsumes(alloc, &bank, &general.clause, special).expect(rt, "memory");
+    let general = member_of(rt, alloc, &bank, &mut table, 0, general);
+    let found = subsumes(alloc, &bank, &general.clause, &special).expect(rt, "memory");
     found.is_some()
 }
 
@@ -52,37 +47,17 @@ const PAIRS: &[(&str, &str, bool)] = &[
 
 #[test]
 fn clauses_subsume(rt: HostRuntime) {
-    let alloc = rt.alloc();
     for (index, (general, special, wanted)) in PAIRS.iter().enumerate() {
-        let general = clause(alloc, general).expect(&rt, "memory");
-        let special = clause(alloc, special).expect(&rt, "memory");
-        let found = does_subsume(&rt, alloc, &general, &special);
+        let found = does_subsume(&rt, rt.alloc(), general, special);
         assert!(rt; found == *wanted, "row {index}");
     }
-}
-
-/// The lower of two members that subsume a clause, and each member that the first one subsumes.
-#[test]
-fn a_set_tells_subsumers_and_subsumed(rt: HostRuntime) {
-    let alloc = rt.alloc();
-    let (bank, mut table) = Bank::new(alloc).expect(&rt, "memory");
-    let text = "p(X0);p(a) | r;q(a);p(b);q(X0)";
-    let members = members(&rt, alloc, &bank, &mut table, text);
-    let set = subsumers(&rt, alloc, &bank, members.as_slice());
-    let given = clause(alloc, "q(a) | r").expect(&rt, "memory");
-    let lowest = forward(alloc, &bank, &set, &given).expect(&rt, "memory");
-    assert!(rt; lowest == Some(2));
-    let by = members.as_slice().first().expect(&rt, "a member");
-    let found = backward(alloc, &bank, &set, by).expect(&rt, "memory");
-    assert!(rt; found.as_slice() == [1, 3].as_slice());
 }
 
 #[test]
 fn features_count_literals_and_symbols(rt: HostRuntime) {
     let alloc = rt.alloc();
     let (bank, mut table) = Bank::new(alloc).expect(&rt, "memory");
-    let given = clause(alloc, "p(f(a)) | q(b) | a != b").expect(&rt, "memory");
-    let given = member(&rt, alloc, &bank, &mut table, 0, &given);
+    let given = member_of(&rt, alloc, &bank, &mut table, 0, "p(f(a)) | q(b) | a != b");
     let found = features(alloc, &bank, &given.clause).expect(&rt, "memory");
     assert!(rt; found.as_slice() == [2, 1, 7, 2].as_slice());
 }

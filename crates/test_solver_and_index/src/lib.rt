@@ -4,8 +4,6 @@
 #[cfg(test)]
 mod index_trees;
 #[cfg(test)]
-mod many_terms;
-#[cfg(test)]
 mod queue;
 #[cfg(test)]
 mod solver;

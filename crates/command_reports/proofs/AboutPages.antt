@@ -1,0 +1,3 @@
+-- Texts and pages of a report, and the names in them.
+pub mod NameLemmas
+pub mod PageLemmas

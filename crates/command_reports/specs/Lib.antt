@@ -1,0 +1,11 @@
+pub mod Outside
+pub mod Names
+pub mod Meaning
+pub mod Parts
+pub mod ProveReports
+pub mod CheckReports
+pub mod ModelReports
+pub mod BenchReports
+pub mod GroundReports
+pub mod DecideReports
+pub mod Reports

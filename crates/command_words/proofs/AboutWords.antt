@@ -1,0 +1,2 @@
+-- Words after a command, and the values of options.
+pub mod WordLemmas

@@ -1,0 +1,14 @@
+pub mod Problems
+pub mod BenchProblem
+pub mod Answer
+pub mod AnswerShape
+pub mod Run
+pub mod Rows
+pub mod BenchRows
+pub mod ProveRows
+pub mod CheckRows
+pub mod ModelRows
+pub mod GroundRows
+pub mod DecideRows
+pub mod Laws
+pub mod Examples

@@ -1,5 +1,0 @@
-use Rattle.prover_main.proofs.AboutOutcomes.WholeLemmas.{nothing_left_out_is_whole}
-use Rattle.prover_main.proofs.laws.nothing_left_out_is_whole.Goals as goal
-
-pub returns : goal.returns
-returns c = nothing_left_out_is_whole

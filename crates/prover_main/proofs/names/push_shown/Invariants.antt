@@ -1,6 +1,0 @@
-use Rattle.std.proofs.Common.{◌≡◌, ◌++◌, take}
-use Rattle.prover_main.specs.Names.{shown}
-use Rattle.prover_main.proofs.names.push_shown.Given as goal
-
-abbrev pub invariant-loop-byte : goal.invariant-loop-byte
-invariant-loop-byte l = l.page ≡ l.initial.page ++ shown (take l.byte-index l.bytes)

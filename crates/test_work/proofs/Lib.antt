@@ -1,3 +1,0 @@
-mod InputLemmas
-mod StayLemmas
-mod ToldLemmas
