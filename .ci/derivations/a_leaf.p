@@ -1,0 +1,1 @@
+cnf(a,axiom,p). cnf(b,axiom,$false). cnf(c,axiom,q).

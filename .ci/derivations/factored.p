@@ -1,0 +1,1 @@
+cnf(a,axiom,p | p). cnf(b,axiom,~p).

@@ -1,0 +1,1 @@
+cnf(a,axiom,p(X) | p(a)). cnf(b,axiom,~p(a)).

@@ -1,0 +1,1 @@
+cnf(a,axiom,p(a)). cnf(b,axiom,~p(a)).

@@ -1,0 +1,1 @@
+fof(a,axiom,(p & p) | (p & p) | (p & p) | (p & p) | (p & p) | (p & p) | (p & p)). cnf(b,axiom,~p).

@@ -1,0 +1,1 @@
+cnf(a,axiom,p(X) | q(Y)). cnf(b,axiom,~p(a)). cnf(c,axiom,~q(b)).

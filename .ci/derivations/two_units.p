@@ -1,0 +1,1 @@
+cnf(a,axiom,p). cnf(b,negated_conjecture,~p).

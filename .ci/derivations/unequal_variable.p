@@ -1,0 +1,1 @@
+cnf(a,axiom,X != X).
