@@ -1,10 +1,9 @@
 #!/usr/bin/env python3
-"""map.py [--check]: fills two columns of the tables of crates in ARCHITECTURE.md (on which crates each stands, and how large it is), and their sum.
+"""map.py [--check]: fills the column of sizes in the tables of crates in ARCHITECTURE.md, and their sum.
 
-Rows and their other columns are written by hand: `| crate | what it does | stands on | size | open first |`. "Stands on" leaves out what a crate
-reaches through another one that is named. A size is in thousands of lines: code with its contracts, definitions (`specs/`), proofs. With --check nothing
-is written: each row that is wrong is told as FILE:LINE, a size only where it is off by more than a fifth and 200 lines; the status is then 1."""
-import functools
+Rows and their other columns are written by hand: `| crate | what it does | size | open first |`. A size is in thousands of lines: code with its contracts,
+definitions (`specs/`), proofs. With --check nothing is written: each row that is wrong is told as FILE:LINE, a size only where it is off by more than a fifth
+and 200 lines; the status is then 1."""
 import glob
 import os
 import re
@@ -12,7 +11,7 @@ import sys
 
 os.chdir(os.path.join(os.path.dirname(os.path.abspath(__file__)), ".."))
 DOCUMENT = "docs/ARCHITECTURE.md"
-ROW = re.compile(r"\| `(\w+)` \| ([^|]*) \| ([^|]*) \| ([^|]*) \| ([^|]*) \|$")
+ROW = re.compile(r"\| `(\w+)` \| ([^|]*) \| ([^|]*) \| ([^|]*) \|$")
 PARTS = [("src", ".rt"), ("specs", ".antt"), ("proofs", ".antt")]
 TOTAL = re.compile(r"All crates together have [\d./ ]+ thousand lines\.")
 ALLOWED_SHARE, ALLOWED_LINES = 0.2, 200
@@ -23,24 +22,11 @@ def read(path):
         return it.read()
 
 
-def uses_by_crate():
-    lines = [it.partition(":") for it in read("crates.txt").split("\n") if ":" in it and not it.startswith("#")]
-    return {name.split()[0]: needed.split() for name, _, needed in lines}
+def crates():
+    return [it.split(":")[0].split()[0] for it in read("crates.txt").split("\n") if ":" in it and not it.startswith("#")]
 
 
-USES = uses_by_crate()
-
-
-@functools.lru_cache(maxsize=None)
-def reached(crate):
-    """All crates below a crate."""
-    return frozenset(USES.get(crate, [])).union(*(reached(it) for it in USES.get(crate, [])))
-
-
-def stands_on(crate):
-    """The crates that are named for a crate, but for those that another of them reaches."""
-    used = USES[crate]
-    return [it for it in used if not any(it in reached(other) for other in used if other != it)]
+CRATES = crates()
 
 
 def lines_of(crate):
@@ -49,7 +35,7 @@ def lines_of(crate):
 
 
 def size_text(lines):
-    return " / ".join(f"{it / 1000:.1f}" for it in lines)
+    return "/".join(f"{it / 1000:.1f}" for it in lines)
 
 
 def is_near(text, lines):
@@ -63,7 +49,7 @@ def is_near(text, lines):
 def main():
     is_check = sys.argv[1:] == ["--check"]
     faults = 0
-    totals = [sum(it) for it in zip(*map(lines_of, USES))]
+    totals = [sum(it) for it in zip(*map(lines_of, CRATES))]
     text = read(DOCUMENT)
     total = TOTAL.search(text)
     if is_check and not (total and is_near(total[0], totals)):
@@ -74,14 +60,10 @@ def main():
     lines = text.split("\n")
     for at, line in enumerate(lines):
         row = ROW.match(line)
-        if not row or row[1] not in USES:
+        if not row or row[1] not in CRATES:
             continue
-        crate, does, used, size, first = row.groups()
-        right = ", ".join(f"`{it}`" for it in stands_on(crate)) or "none"
+        crate, does, size, first = row.groups()
         counted = lines_of(crate)
-        if is_check and used != right:
-            faults += 1
-            print(f"{DOCUMENT}:{at + 1}: {crate} stands on {right}")
         if is_check and not is_near(size, counted):
             faults += 1
             print(f"{DOCUMENT}:{at + 1}: {crate} has {size_text(counted)} thousand lines")
@@ -90,7 +72,7 @@ def main():
             print(f"{DOCUMENT}:{at + 1}: {crate} has no file {first}")
         if not is_near(size, counted):
             size = size_text(counted)
-        lines[at] = f"| `{crate}` | {does} | {right} | {size} | {first} |"
+        lines[at] = f"| `{crate}` | {does} | {size} | {first} |"
     if not is_check:
         with open(DOCUMENT, "w", encoding="utf-8") as out:
             out.write("\n".join(lines))

@@ -24,7 +24,12 @@ LISTS = [
     ("saturated", ["IsSaturated"]),
     ("selection", ["kept_places", "part_clauses"]),
     ("model", ["IsProblemModel", "HasNoModelBelow", "model_text", "form_measure"]),
+    ("ground", ["IsGroundListOf", "IsGroundRefuted", "IsGroundTrue"]),
+    ("bench", ["bench_formulas"]),
 ]
+
+# A list of more definitions has how many of each file are in it, and the names of those from which it begins.
+MOST_NAMES = 200
 
 WORD = r"[^\s(){}\[\],;]+"
 
@@ -46,35 +51,18 @@ class Spec:
 
     def __init__(self, path):
         self.path = path
-        self.head = ""
         self.items = {}
         self.imported = {}
         self.aliases = {}
         self.shown = {}
         with open(os.path.join(TOP, path), encoding="utf-8") as file:
             lines = file.read().split("\n")
-        comment = []
         at = 0
         while at < len(lines):
             line = lines[at]
-            if line.startswith("--"):
-                comment.append(line[2:].strip())
-                at += 1
-                continue
-            if not line.strip():
-                if at and not self.head and not self.imported and not self.items:
-                    self.head = " ".join(comment)
-                comment = []
-                at += 1
-                continue
             if re.match(r"(pub )?use ", line):
-                if comment and not self.head and not self.imported:
-                    self.head = " ".join(comment)
-                comment = []
                 self.read_use(line)
-                at += 1
-                continue
-            if re.match(r"pub mod ", line):
+            if not line.strip() or re.match(r"--|(pub )?use |pub mod ", line):
                 at += 1
                 continue
             end = at + 1
@@ -84,7 +72,6 @@ class Spec:
                 while end < len(lines) and (not lines[end].strip() or lines[end].startswith((" ", "--  "))):
                     end += 1
             self.add(lines[at:end], at)
-            comment = []
             at = end
 
     def add(self, lines, at):
@@ -304,23 +291,16 @@ def in_reading_order(sources, items, roots):
     return [(path, sorted(files[path], key=lambda it: it.place)) for path in order]
 
 
-def sentence(comment):
-    """A comment as it is printed: one line, with an end."""
-    comment = re.sub(r"^-+ .*?-* ?", "", comment) if comment.startswith("----") else comment
-    comment = comment.strip().rstrip(",;")
-    return comment
-
-
 def printed(sources, items, roots):
-    """A bullet for each file, in reading order: its head, and its definitions by name."""
+    """A bullet for each file, in reading order, with its definitions by name, or in a long list their number."""
     bullets = []
-    count = 0
+    count = sum(len(item.names) for item in items)
     for path, of_file in in_reading_order(sources, items, roots):
-        head = sources.spec(path).head if path.endswith(".antt") else ""
         crate, rest = path.split("/")[1], "/".join(path.split("/")[2:])
         names = [f"**`{name}`**" if item in roots else f"`{name}`" for item in of_file for name in item.names]
-        count += len(names)
-        bullets.append(f"- [`{crate}/{rest}`](../{path}){': ' + sentence(head) if head else ''}\n  {', '.join(names)}")
+        if count > MOST_NAMES:
+            names = [str(len(names))] + [name for name in names if name.startswith("*")]
+        bullets.append(f"- [`{crate}/{rest}`](../{path}): {', '.join(names)}")
     return count, "\n".join(bullets)
 
 
@@ -334,7 +314,7 @@ def lists(sources):
         earlier |= items
         count, text = printed(sources, items, roots)
         files = len({it.path for it in items})
-        texts[word] = f"{count} definitions in {files} files.\n\n{text}"
+        texts[word] = f"{count} definitions in {files} {'file' if files == 1 else 'files'}.\n\n{text}"
     return texts
 
 

@@ -12,12 +12,13 @@ _telmukhai() {
     before=${COMP_WORDS[COMP_CWORD - 2]}
   fi
   if [ "$COMP_CWORD" -eq 1 ]; then
-    mapfile -t COMPREPLY < <(compgen -W "prove check model try build batch draw explain help" -- "$word")
+    mapfile -t COMPREPLY < <(compgen -W "prove check model ground decide bench try build batch draw explain help" -- "$word")
     return
   fi
   case "${COMP_WORDS[1]}" in
     prove | try) options=$of_prove ;;
-    check) options="--tptp=" ;;
+    check | ground | decide) options="--tptp=" ;;
+    bench) return ;;
     model) options="--size= --tptp=" ;;
     batch) options="--timeout= --memory= --jobs= --results= --proofs= --hosts= --resume --help $of_prove" ;;
     draw) options="--format= --every-line --help" ;;
