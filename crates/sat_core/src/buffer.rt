@@ -1,4 +1,4 @@
-// Propositional clauses with room for more, so that clauses can be added where want of memory mustn't come any more.
+// Propositional clauses with room for more, so that clauses can be added where no memory can be asked for any more.
 
 ghost use Rattle.std.specs.Prelude.{◌≡◌, ◌+◌, ◌<◌, ◌≤◌, [], ◌∷◌, ◌++◌, length, IfOk, OnOk};
 

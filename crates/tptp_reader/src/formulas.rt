@@ -24,7 +24,7 @@ use tptp_tree::{Formula, FormulaBox, Formulas};
 impl<'a> Reader<'a> {
     /// Reads a formula: a unit; or at least two units between `&`, or between `|`; or two units with another connective.
     #[cycle(formulas)]
-    pub fn formula(
+    pub(crate) fn formula(
         &self,
         alloc: Global,
         bound: &mut Bound<'a>,
