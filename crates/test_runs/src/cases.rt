@@ -2,8 +2,9 @@
 
 use crate::problems::{
     APART, APART_SATURATED, EQUAL_TO_SOME, EQUIVALENCES, GROWN, IMPLICATION, NARROW, NARROW_SPLIT,
-    NARROW_WHOLE, NO_MEMBERS, TWO_AND_WIDE, TWO_UNITS, TWO_UNITS_DERIVATION, UNREACHED, USAGE,
+    NARROW_WHOLE, NO_MEMBERS, TWO_AND_WIDE, TWO_UNITS_DERIVATION, UNREACHED, USAGE,
 };
+use sample_runs::problems::TWO_UNITS;
 
 /// A run: its words, the files' names and bytes, the status, and the report.
 #[derive(Drop)]

@@ -1,8 +1,8 @@
 // Derivations that are checked, and changed ones. Where the lines of one are right and lead to no empty clause, they tell the clauses of a form.
 
-use crate::problems::TWO_UNITS;
-use crate::runs::outcome_of_derivation;
 use plain_types::Mem;
+use sample_runs::ended_on_derivation;
+use sample_runs::problems::TWO_UNITS;
 use std::alloc::Global;
 
 /// A problem, the lines of a derivation of it, and what is answered to the lines and to changed ones.
@@ -422,10 +422,13 @@ fn derivations_are_answered(rt: HostRuntime) {
         for (index, (place, other, wanted, report)) in example.rows.iter().enumerate() {
             let text = changed(alloc, example.lines, *place, other).expect(&rt, "memory");
             let text = text.as_slice();
-            let told = outcome_of_derivation(&rt, alloc, "check", example.problem, text);
-            let told = told.expect(&rt, "memory");
-            assert_eq!(rt; told.0, *wanted, "example {number}, row {index}");
-            assert!(rt; told.1.bytes() == *report, "example {number}, row {index}");
+            let told = ended_on_derivation(&rt, alloc, "check", example.problem, text);
+            let ended = told.expect(&rt, "memory");
+            assert_eq!(rt; ended.status, *wanted, "example {number}, row {index}");
+            assert!(rt;
+                ended.report.as_slice() == *report,
+                "example {number}, row {index}"
+            );
         }
     }
 }
@@ -436,12 +439,12 @@ fn beginnings_are_refused(rt: HostRuntime) {
     let alloc = rt.alloc();
     for left in 0..UNITS.lines.len() {
         let text = changed(alloc, &UNITS.lines[..left], NOWHERE, b"").expect(&rt, "memory");
-        let told = outcome_of_derivation(&rt, alloc, "check", UNITS.problem, text.as_slice());
-        let told = told.expect(&rt, "memory");
+        let told = ended_on_derivation(&rt, alloc, "check", UNITS.problem, text.as_slice());
+        let ended = told.expect(&rt, "memory");
         let refused = format!(in alloc; "% refused at line {left}: NoEmptyClause\n");
         let report = refused.expect(&rt, "memory");
-        assert_eq!(rt; told.0, 9, "{left}");
-        assert!(rt; told.1.bytes() == report.as_bytes(), "{left}");
+        assert_eq!(rt; ended.status, 9, "{left}");
+        assert!(rt; ended.report.as_slice() == report.as_bytes(), "{left}");
     }
 }
 
@@ -450,8 +453,8 @@ fn beginnings_are_refused(rt: HostRuntime) {
 fn names_have_no_ground_list(rt: HostRuntime) {
     let alloc = rt.alloc();
     let text = changed(alloc, COMPONENTS.lines, NOWHERE, b"").expect(&rt, "memory");
-    let told = outcome_of_derivation(&rt, alloc, "ground", COMPONENTS.problem, text.as_slice());
-    let told = told.expect(&rt, "memory");
-    assert_eq!(rt; told.0, 14);
-    assert!(rt; told.1.bytes() == b"% refused at line 7: Names\n".as_slice());
+    let told = ended_on_derivation(&rt, alloc, "ground", COMPONENTS.problem, text.as_slice());
+    let ended = told.expect(&rt, "memory");
+    assert_eq!(rt; ended.status, 14);
+    assert!(rt; ended.report.as_slice() == b"% refused at line 7: Names\n".as_slice());
 }

@@ -1,8 +1,7 @@
 // Problems that are refuted, whose printed derivations must be accepted.
 
-use crate::problems::{
-    CLAUSES, GROUP, GROUP_AXIOMS, IMPLICATION, IN_THREE_STEPS, LAST_PART, REACHED, TWO_PARTS,
-};
+use crate::problems::{CLAUSES, IMPLICATION, IN_THREE_STEPS, LAST_PART, REACHED, TWO_PARTS};
+use sample_runs::problems::{GROUP, GROUP_AXIOMS};
 
 /// Problems that are refuted, whose derivations must be accepted: the command that refutes them, the words that `check` has too, the files,
 /// and the word of the status.

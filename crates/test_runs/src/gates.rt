@@ -1,10 +1,7 @@
 // The workers of a run pass the gate that it is handed, and have their jobs side by side.
 
 use crate::problems::{APART, APART_SATURATED};
-use crate::runs::{ROOM, library_of, words_of};
-use commands::run;
-use outside::MemSink;
-use plain_types::Numbers;
+use sample_runs::Run;
 use std::sync::atomic::{AtomicBool, Ordering};
 use std::thread;
 use worker_team::Gate;
@@ -57,14 +54,11 @@ impl Gate for HoldingGate {
 // So the third job returns before the second does: its clause is what the fourth is on. The report is that of one worker.
 #[test]
 fn jobs_are_side_by_side(rt: HostRuntime) {
-    let alloc = rt.alloc();
-    let words = words_of(alloc, &["prove", "--workers=2", "r18.p"]).expect(&rt, "memory");
-    let mut library = library_of(alloc, &[("r18.p", APART)], &[]).expect(&rt, "memory");
-    let mut sink = MemSink::new(alloc, 64, ROOM, Numbers::new(alloc)).expect(&rt, "memory");
     let gate = HoldingGate::new();
-    let status = run(&rt, alloc, &words, &mut library, &mut sink, &gate);
-    assert_eq!(rt; status, 1);
-    assert!(rt; sink.bytes() == APART_SATURATED);
+    let run = Run::new(&["prove", "--workers=2", "r18.p"], &[("r18.p", APART)]);
+    let ended = run.ended_by(&rt, rt.alloc(), &gate).expect(&rt, "memory");
+    assert_eq!(rt; ended.status, 1);
+    assert!(rt; ended.report.as_slice() == APART_SATURATED);
     assert!(rt; gate.has_passed.load(Ordering::SeqCst));
     assert!(rt; !gate.has_given_up.load(Ordering::SeqCst));
 }

@@ -1,12 +1,10 @@
-// The problems of the tests, and what is printed of some of them.
+// The problems of these tests, and what is printed of some of them.
 
 /// What is printed where the words are no command.
 pub(crate) const USAGE: &[u8] =
     b"usage: prove FILE [--workers=K] [--inferences=N] [--tptp=DIR] [--select=none|negative] [--split=on|off] [--tolerance=T --depth=D]\n       \
 check FILE DERIVATION [--tptp=DIR]\n       bench N\n       model FILE [--size=S] [--tptp=DIR]\n       ground FILE DERIVATION [--tptp=DIR]\n       \
 decide FILE [--tptp=DIR]\n";
-
-pub(crate) const TWO_UNITS: &[u8] = b"cnf(a,axiom,p). cnf(b,negated_conjecture,~p).";
 
 pub(crate) const TWO_UNITS_DERIVATION: &[u8] = b"cnf(c0,axiom,p,file('r1.p',a)).\n\
 cnf(c1,negated_conjecture,~p,file('r1.p',b)).\n\
@@ -22,14 +20,6 @@ pub(crate) const CLAUSES: &[u8] =
 pub(crate) const TWO_PARTS: &[u8] =
     b"cnf(a,axiom,p(X) | q(Y)). cnf(b,axiom,~p(a)). cnf(c,axiom,~q(b)).";
 
-/// One clause, and the set that it is.
-pub(crate) const ANY: &[u8] = b"cnf(a,axiom,p(X)).";
-
-pub(crate) const ANY_SATURATED: &[u8] = b"% SZS status Satisfiable for r4\n\
-% SZS output start Saturation for r4\n\
-cnf(s0,plain,p(X0)).\n\
-% SZS output end Saturation for r4\n";
-
 pub(crate) const IMPLICATION: &[u8] =
     b"fof(a,axiom,! [X] : (p(X) => q(X))). fof(b,axiom,p(a)). fof(c,conjecture,q(a)).";
 
@@ -37,24 +27,6 @@ pub(crate) const IMPLICATION: &[u8] =
 pub(crate) const EQUIVALENCES: &[u8] =
     b"fof(a,axiom,p0 <=> (p1 <=> (p2 <=> (p3 <=> (p4 <=> (p5 <=> (p6 <=> (p7 <=> (p8 <=> (p9 <=> \
 (p10 <=> (p11 <=> (p12 <=> (p13 <=> (p14 <=> (p15 <=> (p16 <=> (p17 <=> (p18 <=> p19))))))))))))))))))).";
-
-/// What is printed of a problem `d.p` whose one clause is `p`.
-pub(crate) const MEMBER_P: &[u8] = b"% SZS status Satisfiable for d\n\
-% SZS output start Saturation for d\n\
-cnf(s0,plain,p).\n\
-% SZS output end Saturation for d\n";
-
-/// The problem of a right identity in groups, as it is ordinarily used.
-pub(crate) const GROUP: &[u8] = b"%--------------------------------------------------------------\n\
-% File     : r7.p\n\
-%--------------------------------------------------------------\n\
-include('Axioms/grp.ax').\n\
-fof(right_id,conjecture,! [X] : mult(X,e) = X).\n";
-
-pub(crate) const GROUP_AXIOMS: &[u8] =
-    b"fof(left_id,axiom,! [X] : mult(e,X) = X, file('grp.ax',left_id), [useful(1)]).\n\
-fof(left_inv,axiom,! [X] : mult(inv(X),X) = e).\n\
-cnf(assoc,axiom,( mult(mult(X,Y),Z) = mult(X,mult(Y,Z)) )).\n";
 
 /// Two constants, and a function of 24 arguments.
 pub(crate) const TWO_AND_WIDE: &[u8] =

@@ -1,8 +1,8 @@
 // Texts at a limit, and one over it, which no clause says as numbers.
 
 use crate::problems::{ANY, MEMBER_P};
-use crate::runs::{outcome, outcome_of_derivation};
 use plain_types::Mem;
+use sample_runs::{Run, ended_on_derivation};
 use std::alloc::Global;
 
 /// A text of which one part stands so many times before the middle and another as often after it, and what is answered to it: a problem, or a
@@ -95,11 +95,11 @@ fn limits_are_told(rt: HostRuntime) {
         let text = limit.text(alloc).expect(&rt, "memory");
         let text = text.as_slice();
         let told = match limit.problem {
-            None => outcome(&rt, alloc, &["prove", "d.p"], &[("d.p", text)]),
-            Some(problem) => outcome_of_derivation(&rt, alloc, "check", problem, text),
+            None => Run::new(&["prove", "d.p"], &[("d.p", text)]).ended(&rt, alloc),
+            Some(problem) => ended_on_derivation(&rt, alloc, "check", problem, text),
         };
-        let (status, sink) = told.expect(&rt, "memory");
-        assert_eq!(rt; status, limit.status, "{}", limit.count);
-        assert!(rt; sink.bytes() == limit.report, "{}", limit.count);
+        let ended = told.expect(&rt, "memory");
+        assert_eq!(rt; ended.status, limit.status, "{}", limit.count);
+        assert!(rt; ended.report.as_slice() == limit.report, "{}", limit.count);
     }
 }

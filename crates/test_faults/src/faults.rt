@@ -1,6 +1,6 @@
 // Runs that end early: texts that are cut off, and loads and writes that fail.
 
-use crate::problems::{GROUP, GROUP_AXIOMS};
+use sample_runs::problems::{GROUP, GROUP_AXIOMS};
 
 /// What is due to the first bytes of the two units, so many at least and at most.
 pub(crate) struct Cut {
