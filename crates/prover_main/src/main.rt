@@ -1,7 +1,8 @@
 //! The program: the words of the command line are run as a command, over real files and standard output.
 //!
 //! What a command answers, and what is proved of it, is the crate `commands`: `run` is called here once, in a thread whose stack is large
-//! enough for what one worker does on every input that the limits allow. Workers beyond the first have the system's default stack.
+//! enough for every input that the limits allow. The stack that the system hands to a process is often smaller, and its environment and its
+//! words lie on it. Workers beyond the first have stacks as large.
 //!
 //! **What isn't proved.** That the words which `main` hands over are those of the command line, and that the process ends with the status. A
 //! stored run shows it.
@@ -16,7 +17,7 @@ use std::env;
 use std::io::ErrorKind;
 use std::process::ExitCode;
 use std::thread::{self, Builder};
-use worker_team::NoGate;
+use worker_team::{NoGate, STACK_BYTES};
 
 /// The words after the program's name. Words of which one is no text are as none, which is usage.
 fn command_words(rt: &HostRuntime) -> Mem<Words> {
@@ -33,12 +34,7 @@ fn command_words(rt: &HostRuntime) -> Mem<Words> {
     Ok(words)
 }
 
-/// The stack of the thread in which a command runs, in bytes. Of what the limits allow, the reading of a derivation whose terms are nested
-/// 5,000 deep needs most: 8 MiB at -O3 and 29 MiB at -O0. The stack that the system hands to a process is often smaller, and its environment
-/// and its words lie on it.
-const STACK_BYTES: usize = 64 << 20;
-
-/// `ground` has more: the terms of a list nest as deep as its weight allows, some 300,000 levels, of up to 1,450 bytes each at -O0.
+/// The stack of `ground`, in bytes: the terms of a list nest as deep as its weight allows, some 300,000 levels, of up to 1,450 bytes each at -O0.
 const GROUND_STACK_BYTES: usize = 512 << 20;
 
 /// How large a stack a command takes.

@@ -1,11 +1,11 @@
 -- Turns of a worker as a whole, passes that are cut, and the workers of a team.
-use Rattle.std.proofs.Common.{◌≡◌, ℕ, suc, Bool, true, false, not, List, [], ◌∷◌, All, refl, ap, sym, ◌∙◌, subst, arith}
+use Rattle.std.proofs.Common.{◌≡◌, ℕ, suc, ◌+◌, Bool, true, false, not, List, [], ◌∷◌, ◌++◌, All, IfSome, option_to_list, length, length-append, refl, ap, sym, ◌∙◌, subst, arith}
 use Rattle.std.specs.Prelude.{Result, Ok, Err, Option, Some}
 use Rattle.std.specs.Option.{unwrap_or}
 use Rattle.std.specs.Result.{IsErr}
 use Rattle.std.proofs.lemmas.Bool.{true≢false}
 use Rattle.std.proofs.lemmas.Option.{same_Some}
-use Rattle.std.proofs.lemmas.List.Elements.{All-nil}
+use Rattle.std.proofs.lemmas.List.Elements.{All-nil, All-pop, All-push}
 use Rattle.plain_types.specs.declared.memory.NoMemory.{NoMemory}
 use Rattle.term_bank.specs.declared.bank.Bank.{Bank}
 use Rattle.term_bank.specs.Bank.{identity}
@@ -21,7 +21,7 @@ use Rattle.given_work.specs.View.{IndexView}
 use Rattle.given_work.specs.Learned.{HasLearned}
 use Rattle.worker_team.specs.Turns.{Adds}
 use Rattle.worker_team.specs.Passes.{IsIndexOf, IsPassOf, PoolPass, begun_of, no_pool, origin_of, seen_pool}
-use Rattle.worker_team.specs.Team.{HasEndedTurn, HasTakenTurn, IsDone, IsIdleAt, IsOfTeam, IsReadyInTeam, IsRun}
+use Rattle.worker_team.specs.Team.{HasEndedTurn, HasTakenTurn, IsDone, IsIdleAt, HaveRun, IsOfTeam, IsReadyInTeam, IsRun}
 use Rattle.worker_team.specs.Workers.{HasPass, IsReady}
 use Rattle.worker_team.specs.declared.job.Known.{Known}
 use Rattle.worker_team.specs.declared.worker.Worker.{Worker}
@@ -187,3 +187,28 @@ pub members :
     (lock : TableId) (bank : Bank) (begun : Option PoolView) (history : List Event) (team : List Worker)
     → All (IsReadyInTeam lock bank begun history) team → All (IsOfTeam lock bank begun history) team
 members lock bank begun history team all k d lt = (all k d lt).member
+
+-- the last worker of a team
+pub last-member :
+    (P : Worker → Type 0) (team olds : List Worker) (r : Option Worker) (old : Worker)
+    → team ≡ olds ++ option_to_list r → r ≡ Some old → All P team → All P olds × P old
+last-member P team olds r old is some all =
+    let parts = All-pop P team olds r is all in (parts.0, subst (λ (o : Option Worker). IfSome o P) some parts.1)
+
+-- the workers after all turns of each, where the last one ran apart from the others
+pub have-run :
+    (lock : TableId) (bank : Bank) (team olds news : List Worker) (r : Option Worker) (old new : Worker)
+    → team ≡ olds ++ option_to_list r → r ≡ Some old → HaveRun lock bank olds news → IsRun lock bank old new
+    → HaveRun lock bank team (news ++ new ∷ [])
+have-run lock bank team olds news r old new is some ran run = (
+  (
+      let whole : team ≡ olds ++ old ∷ [] = is ∙ ap (λ (o : Option Worker). olds ++ option_to_list o) some in
+      let long : length team ≡ length olds + 1 = ap (λ (l : List Worker). length l) whole ∙ length-append olds (old ∷ []) in
+      let longer : length (news ++ new ∷ []) ≡ length news + 1 = length-append news (new ∷ []) in
+      let same : length news ≡ length olds = ran.0 in
+      omega (arith, long, longer, same)
+      ),
+  (λ begun history all.
+      let parts = last-member (IsOfTeam lock bank begun history) team olds r old is some all in
+      All-push (IsOfTeam lock bank begun history) news new (ran.1 begun history parts.0) (run begun history parts.1)),
+)

@@ -1,5 +1,5 @@
 -- A turn of a worker as a whole, and a team.
-use Rattle.std.specs.Prelude.{◌≡◌, ℕ, ◌<◌, Bool, not, List, [], Option, Result, IfOk, OnErr, IsFalse, ⊤, None, Some, length}
+use Rattle.std.specs.Prelude.{◌≡◌, ℕ, ◌<◌, Bool, not, List, [], Option, Result, All, IfOk, OnErr, IsFalse, ⊤, None, Some, length}
 use Rattle.plain_types.specs.declared.memory.NoMemory.{NoMemory}
 use Rattle.term_bank.specs.declared.bank.Bank.{Bank}
 use Rattle.turn_lock.specs.Shown.{TableId}
@@ -14,6 +14,8 @@ use Rattle.worker_team.specs.Workers.{HasPass, IsReady}
 use Rattle.worker_team.specs.Jobs.{IsKnown}
 use Rattle.worker_team.specs.declared.job.Known.{Known}
 use Rattle.worker_team.specs.declared.worker.Worker.{Worker}
+use Rattle.worker_team.specs.declared.team.Begun.{Begun}
+use Rattle.worker_team.specs.declared.team.Begun.TheVariants.{Apart, Ended}
 
 -- No outcome stands, nothing is to be solved or given, and jobs are out.
 abbrev pub Waits : PoolPass → Type 0
@@ -77,3 +79,15 @@ pub record IsReadyInTeam (lock : TableId) (bank : Bank) (begun : Option PoolView
 abbrev pub IsRun : TableId → Bank → Worker → Worker → Type 0
 IsRun lock bank old new =
     (begun : Option PoolView) (history : List Event) → IsOfTeam lock bank begun history old → IsOfTeam lock bank begun history new
+
+-- the workers after all turns of each: as many, and of the same team
+abbrev pub HaveRun : TableId → Bank → List Worker → List Worker → Type 0
+HaveRun lock bank olds news =
+    (length news ≡ length olds)
+    × ((begun : Option PoolView) (history : List Event) → All (IsOfTeam lock bank begun history) olds → All (IsOfTeam lock bank begun history) news)
+
+-- the worker after its turns, as soon as its thread has kept the promise
+abbrev pub IsBegun : TableId → Bank → Worker → Begun → Type 0
+IsBegun lock bank old (Apart handle) =
+    let promise = handle.promise in (new : Worker) → IsRun promise.lock.now promise.bank.now promise.began.value new → IsRun lock bank old new
+IsBegun lock bank old (Ended new) = IsRun lock bank old new

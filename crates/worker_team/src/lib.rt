@@ -41,5 +41,5 @@ mod worker;
 pub use gate::{Gate, NoGate};
 pub use proved::{Proved, prove_clauses};
 pub use solving::{LastModel, Solved, solve_ticket};
-pub use team::run_team;
+pub use team::{STACK_BYTES, run_team};
 pub use worker::{Knowledge, Worker};

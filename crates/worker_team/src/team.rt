@@ -1,4 +1,8 @@
 // A team of workers on one pool, each in a thread of its own.
+//
+// The first worker runs in the thread of the caller, and each other in one whose stack is as large as that in which the program runs a command: what
+// the system would give it otherwise is often too small for a clause of thousands of symbols. Where the system has no thread for it, a worker takes
+// its turns before those that haven't begun yet.
 
 ghost use Rattle.std.specs.Prelude.{◌≡◌, ◌+◌, ◌≤◌, List, Option, All, IfOk, IsSome, length};
 ghost use mathlib.Core.List.{IsPrefix};
@@ -8,21 +12,29 @@ ghost use Rattle.pool_history.specs.declared.event.Event.{Event};
 ghost use Rattle.pool_history.specs.Outcomes.{outcome_of};
 ghost use Rattle.pool_history.specs.Replay.{replay};
 ghost use Rattle.pool_history.specs.View.{PoolView};
+ghost use Rattle.turn_lock.specs.Shown.{TableId};
+ghost use Rattle.worker_team.specs.declared.worker.Worker.{Worker};
 ghost use Rattle.worker_team.specs.Workers.{IsReady};
 ghost use Rattle.worker_team.specs.Passes.{IsPassOf, origin_of};
-ghost use Rattle.worker_team.specs.Team.{IsOfTeam, IsReadyInTeam, IsRun};
+ghost use Rattle.worker_team.specs.Team.{HaveRun, IsBegun, IsOfTeam, IsReadyInTeam, IsRun};
 
 use crate::gate::Gate;
 use crate::worker::Worker;
+use core::thread::Stack;
 use plain_types::{Mem, NoMemory};
 use pool_core::{Options, Pool};
 use pool_history::MOST_WORKERS;
 use std::alloc::Global;
+use std::snapshot::Snapshot;
 use std::sync::Wait;
 use std::thread;
-use std::thread::Threads;
+use std::thread::{Promise, PromisedHandle, Scope, Threads};
 use term_bank::Bank;
 use turn_lock::{Pass, TurnLock};
+
+/// The stack of a thread in which a command or a worker runs, in bytes. Of what the limits allow, the reading of a derivation whose terms are nested
+/// 5,000 deep needs most: 8 MiB at -O3 and 29 MiB at -O0.
+pub const STACK_BYTES: usize = 64 << 20;
 
 /// Works on a pool by several workers until an outcome stands. The pool that comes began as the given one, and its history begins with that of
 /// the given one. Out of memory is told where no worker reached an outcome.
@@ -44,8 +56,8 @@ pub fn run_team<R: Threads + Wait + Sync, G: Gate + Sync>(
     // The history is lawful, so what follows from it may be relied on.
     let _history = pool.history();
     let (lock, pass) = TurnLock::new(alloc, pool)?;
-    let (pass, mut team) = hire(alloc, &lock, pass, options, workers)?;
-    work(rt, alloc, &lock, bank, gate, team.as_mut_slice());
+    let (pass, team) = hire(alloc, &lock, pass, options, workers)?;
+    let team = work_apart(rt, alloc, &lock, bank, gate, team)?;
     let pass = join_all(&lock, pass, team);
     let pool = lock.close(pass);
     match pool.outcome() {
@@ -89,29 +101,119 @@ fn hire(
     Ok((pass, team))
 }
 
-/// All workers at once, each until it ends.
-fn work<R: Threads + Wait + Sync, G: Gate + Sync>(
+/// The promise of a worker's thread: the worker that comes back is the one that began, after all its turns.
+#[derive(Drop)]
+struct HasRun<'a> {
+    lock: &'a TurnLock<Pool>,
+    bank: &'a Bank,
+    began: Snapshot<Worker>,
+}
+
+impl<'a> Promise<Worker> for HasRun<'a> {
+    ghost kept_by = { λ promise worker. IsRun promise.lock.now promise.bank.now promise.began.value worker };
+}
+
+/// All workers at once, each until it ends, in their order.
+fn work_apart<R: Threads + Wait + Sync, G: Gate + Sync>(
     rt: &R,
     alloc: Global,
     lock: &TurnLock<Pool>,
     bank: &Bank,
     gate: &G,
-    team: &mut [Worker],
-)
-    requires ready { All (IsReady lock.now bank.now) team.old }
-    ensures ended { (begun : Option PoolView) (history : List Event) → All (IsOfTeam lock.now bank.now begun history) team.old
-        → All (IsOfTeam lock.now bank.now begun history) team.new }
-    ensures len { length team.new ≡ length team.old }
+    team: Vec<Worker>,
+) -> Mem<Vec<Worker>>
+    requires ready { All (IsReady lock.now bank.now) team.items }
+    ensures ended { IfOk result (λ ended. HaveRun lock.now bank.now team.items ended.items) }
 {
-    thread::for_each_mut(
+    thread::scope(
+        thread::scope_env(),
         rt,
-        team,
-        MOST_WORKERS as usize,
-        &|_, worker: &mut Worker|
-            requires { IsReady lock.now bank.now worker.old }
-            ensures { IsRun lock.entry.now bank.entry.now worker.old worker.new }
-        { worker.run(rt, alloc, lock, bank, gate) },
-    );
+        move |scope| -> Mem<Vec<Worker>>
+            requires { All (IsReady lock.now bank.now) team.items }
+            ensures { IfOk result (λ ended. HaveRun lock.entry.now bank.entry.now team.items ended.items) }
+        { work(scope, rt, alloc, lock, bank, gate, team) },
+    )
+}
+
+/// A worker that takes its turns in a thread of its own, or that has taken them in this one.
+#[derive(Drop)]
+enum Begun<'a> {
+    Apart(PromisedHandle<Worker, HasRun<'a>>),
+    Ended(Worker),
+}
+
+impl<'a> Begun<'a> {
+    /// The worker after all its turns.
+    fn ended<R: Threads>(self, rt: &R) -> Worker
+        ensures { (lock : TableId) (bank : Bank) (old : Worker) → IsBegun lock bank old self.entry → IsRun lock bank old result }
+    {
+        match self {
+            Begun::Apart(handle) => handle.join(rt),
+            Begun::Ended(worker) => worker,
+        }
+    }
+}
+
+/// A worker begins in a thread with a stack of its own. Where the system has no thread for it, it takes its turns here.
+fn begin<'s, E, R: Threads + Wait + Sync, G: Gate + Sync>(
+    scope: &Scope<'s, E>,
+    rt: &'s R,
+    alloc: Global,
+    lock: &'s TurnLock<Pool>,
+    bank: &'s Bank,
+    gate: &'s G,
+    worker: Worker,
+) -> Begun<'s>
+    requires ready { IsReady lock.now bank.now worker }
+    ensures { IsBegun lock.now bank.now worker result }
+{
+    let promise = HasRun {
+        lock,
+        bank,
+        began: Snapshot::of(&worker),
+    };
+    let turns = move || -> Worker
+        requires { IsReady lock.now bank.now worker }
+        ensures { IsRun lock.entry.now bank.entry.now worker result }
+    {
+        let mut worker = worker;
+        worker.run(rt, alloc, lock, bank, gate);
+        worker
+    };
+    let stack = Stack::new().stack_size(STACK_BYTES);
+    match stack.spawn_scoped_with(scope, promise, turns) {
+        Ok(handle) => Begun::Apart(handle),
+        Err(refused) => Begun::Ended((refused.value)()),
+    }
+}
+
+/// The last worker begins in a thread of its own, then those before it, and the first runs in this one.
+#[cycle(work)]
+fn work<'s, E, R: Threads + Wait + Sync, G: Gate + Sync>(
+    scope: &Scope<'s, E>,
+    rt: &'s R,
+    alloc: Global,
+    lock: &'s TurnLock<Pool>,
+    bank: &'s Bank,
+    gate: &'s G,
+    team: Vec<Worker>,
+) -> Mem<Vec<Worker>>
+    requires ready { All (IsReady lock.now bank.now) team.items }
+    ensures ended { IfOk result (λ ended. HaveRun lock.now bank.now team.items ended.items) }
+{
+    let mut team = team;
+    let Some(mut worker) = team.pop() else {
+        return Ok(team);
+    };
+    if team.is_empty() {
+        worker.run(rt, alloc, lock, bank, gate);
+        team.push(worker)?;
+        return Ok(team);
+    }
+    let begun = begin(scope, rt, alloc, lock, bank, gate, worker);
+    let mut ended = work(scope, rt, alloc, lock, bank, gate, team)?;
+    ended.push(begun.ended(rt))?;
+    Ok(ended)
 }
 
 /// The pass takes in those of the team.

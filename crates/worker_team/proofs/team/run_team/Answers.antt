@@ -1,7 +1,6 @@
-use Rattle.std.proofs.Common.{rules, ◌≡◌, ℕ, List, All, ◌++◌, take, drop, length, ap, sym, ◌∙◌, subst}
+use Rattle.std.proofs.Common.{List, All, ap, sym, ◌∙◌, subst}
 use Rattle.std.specs.Prelude.{Option}
 use Rattle.std.specs.Option.{unwrap_or}
-use Rattle.std.proofs.Math.Seq.{take-append_seam}
 use Rattle.pool_history.specs.View.{PoolView}
 use Rattle.pool_history.specs.declared.event.Event.{Event}
 use Rattle.worker_team.specs.Passes.{no_pool}
@@ -16,7 +15,6 @@ join_all-pass-requires-clause-team g c =
     let p = c.in_ok-lock.pass in
     let q = c.in_ok-pass.pass in
     let hired = c.in_ok-pass.team.items in
-    let ran = c.work.new.team in
     let of =
     first-pass bank c.args.pool p c.in_ok-lock.ensures.seen c.in_ok-lock.ensures.own c.in_ok-lock.ensures.origin c.requires.bank
     c.history-history.ensures.inputs c.history-history.ensures.lawful in
@@ -27,9 +25,4 @@ join_all-pass-requires-clause-team g c =
     subst (λ (o : Option PoolView). All (IsOfTeam lock bank o q.start) hired) (sym c.in_ok-pass.ensures.origin)
     (subst (λ (h : List Event). All (IsOfTeam lock bank p.origin h) hired) (sym c.in_ok-pass.ensures.start)
     (members lock bank p.origin p.start hired ready)) in
-    let ended : All (IsOfTeam lock bank q.origin q.start) ran =
-    c.work.ensures.ended q.origin q.start (subst (All (IsOfTeam lock bank q.origin q.start)) (sym c.as_mut_slice.ensures.value) team) in
-    let count : c.in_ok-pass.team.len ≡ length ran = search rules in
-    let whole : take c.in_ok-pass.team.len (ran ++ drop (length ran) hired) ≡ ran =
-    ap (λ (n : ℕ). take n (ran ++ drop (length ran) hired)) count ∙ take-append_seam ran (drop (length ran) hired) in
-    (bank, subst (All (IsOfTeam lock bank q.origin q.start)) (sym whole) ended)
+    (bank, c.in_ok-team.ensures.ended.1 q.origin q.start team)
