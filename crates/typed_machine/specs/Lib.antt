@@ -1,0 +1,2 @@
+pub mod TypedMachine
+pub mod Verdicts
