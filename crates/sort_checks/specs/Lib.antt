@@ -1,0 +1,5 @@
+pub mod Lent
+pub mod Tables
+pub mod Scopes
+pub mod Wanted
+pub mod Laws
