@@ -1,9 +1,8 @@
 -- Causes depend on what each word is declared as and on which words are sorts alone.
-use Rattle.std.proofs.Common.{◌≡◌, ℕ, zero, suc, Bool, true, false, List, [], ◌∷◌, length, if◌then◌else◌, refl, ap, ap₂, sym, ◌∙◌}
+use Rattle.std.proofs.Common.{◌≡◌, ℕ, Bool, List, [], ◌∷◌, if◌then◌else◌, refl, ap, ap₂, ◌∙◌}
 use Rattle.std.specs.Prelude.{Option, None, Some}
 use Rattle.tptp_tree.specs.Term.{TermTree, variable, application, TermTrees, no_terms, term_then}
 use Rattle.signature.specs.Occurrences.{terms_count}
-use Rattle.typed_tree.specs.declared.cause.TypedCause.{TypedCause}
 use Rattle.typed_tree.specs.declared.cause.TypedCause.TheVariants.{UnknownSort, SortClash}
 use Rattle.typed_tree.specs.Sorts.{SortTree, individuals, named_sort, same_sort, SymbolType, Declared, a_sort, a_symbol, DeclarationTree}
 use Rattle.typed_tree.specs.TypedFormula.{TypedVariable, TypedTree, truth, falsity, predicate, equation, negation, conjunction, disjunction, connected, quantified, TypedTrees, no_formulas, formula_then}

@@ -1,5 +1,5 @@
 -- Causes one after another: what comes after a part is put behind the part's own.
-use Rattle.std.proofs.Common.{◌≡◌, ℕ, zero, suc, ◌+◌, ◌<◌, ◌≤◌, List, [], ◌∷◌, ◌++◌, length, map, drop, get_or, append-nil, append_assoc, refl, ap, ap₂, sym, ◌∙◌, arith}
+use Rattle.std.proofs.Common.{◌≡◌, ℕ, zero, suc, ◌+◌, ◌<◌, ◌≤◌, List, [], ◌∷◌, ◌++◌, length, map, drop, get_or, append-nil, append_assoc, refl, ap, sym, ◌∙◌, arith}
 use Rattle.std.specs.Prelude.{Option, None, Some, slice_get, option_map}
 use denote.Ref.{Bor}
 use Rattle.std.proofs.lemmas.List.{drop_all}
@@ -14,7 +14,7 @@ use Rattle.typed_tree.specs.declared.sort.Declaration.{Declaration}
 use Rattle.typed_tree.specs.declared.sort.Sort.{Sort}
 use Rattle.typed_tree.specs.declared.sort.TypedVar.{TypedVar}
 use Rattle.typed_tree.specs.Shape.{sort_of, typed_of, variable_of}
-use Rattle.typed_tree.specs.Sorts.{SortTree, individuals, named_sort, SymbolType, DeclarationTree}
+use Rattle.typed_tree.specs.Sorts.{SortTree, individuals, named_sort, DeclarationTree}
 use Rattle.typed_tree.specs.TypedFormula.{TypedVariable, TypedTree, truth, falsity, predicate, equation, negation, conjunction, disjunction, connected, quantified, TypedTrees, no_formulas, formula_then, trees_of}
 use Rattle.typed_problem.specs.Declarations.{all_individuals, function_type, predicate_type}
 use Rattle.typed_problem.specs.SortFaults.{Causes, Sorting, sort_causes, sorts_causes, result_causes, clash, next_wanted, later_wanted, term_causes, terms_causes, term_sort, variables_causes, inside, formula_causes, formulas_causes}

@@ -1,5 +1,5 @@
 -- Where nothing is at fault each cause is none, declarations are consistent, and the problem is sorted.
-use Rattle.std.proofs.Common.{◌≡◌, ℕ, zero, suc, ◌+◌, Bool, true, false, List, [], ◌∷◌, ◌++◌, length, map, append-nil, append_assoc, subst, refl, ap, ap₂, sym, ◌∙◌, arith}
+use Rattle.std.proofs.Common.{◌≡◌, ℕ, suc, List, [], ◌∷◌, ◌++◌, length, append-nil, append_assoc, subst, refl, ap, sym, ◌∙◌, arith}
 use Rattle.std.specs.Prelude.{Option, None, Some}
 use Rattle.std.specs.List.{AllByRecursion}
 use Rattle.list_lemmas.proofs.Members.{each-weaker}
@@ -9,7 +9,7 @@ use Rattle.signature.specs.Occurrences.{terms_count}
 use Rattle.typed_tree.specs.Sorts.{SortTree, individuals, named_sort, Declared, a_sort, a_symbol, DeclarationTree}
 use Rattle.typed_tree.specs.TypedEntries.{TypedEntryTree, BodyTree, declaration_tree, formula_tree}
 use Rattle.typed_tree.specs.TypedFormula.{TypedVariable, TypedTree, truth, falsity, predicate, equation, negation, conjunction, disjunction, connected, quantified, TypedTrees, no_formulas, formula_then}
-use Rattle.typed_problem.specs.Declarations.{Entries, with_declaration, declarations_of, function_type, predicate_type, symbol_declarations, TypedAnnotatedTree, with_formula_of, formulas_among}
+use Rattle.typed_problem.specs.Declarations.{Entries, with_declaration, declarations_of, function_type, predicate_type, TypedAnnotatedTree, with_formula_of, formulas_among}
 use Rattle.typed_problem.specs.RightTyped.{IsNone}
 use Rattle.typed_problem.specs.SortFaults.{Causes, Sorting, SortFault, sort_causes, sorts_causes, result_causes, declared_causes, next_wanted, later_wanted, term_sort, term_causes, terms_causes, variables_causes, inside, formula_causes, formulas_causes, body_causes, first_fault, or_later, fault_among, sort_fault}
 use Rattle.sort_checks.specs.Laws.{HavePlaces, SortedEntries}

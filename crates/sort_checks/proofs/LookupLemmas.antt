@@ -1,5 +1,5 @@
 -- What the table tells of a word: its type as a function or a predicate, and its first declaration.
-use Rattle.std.proofs.Common.{◌≡◌, ℕ, ◌+◌, ◌<◌, ◌≤◌, ◌==◌, Bool, true, false, not, ◌&&◌, List, [], ◌∷◌, length, map, take, get_or, if◌then◌else◌, refl, ap, ap₂, sym, ◌∙◌, arith}
+use Rattle.std.proofs.Common.{◌≡◌, ℕ, ◌<◌, ◌≤◌, ◌==◌, Bool, true, false, not, ◌&&◌, List, length, take, get_or, if◌then◌else◌, refl, ap, ap₂, sym, ◌∙◌, arith}
 use Rattle.std.specs.Prelude.{Option, None, Some, slice_get, option_map}
 use denote.Ref.{Bor}
 use Rattle.std.specs.Option.{is_some}
@@ -8,9 +8,9 @@ use Rattle.std.proofs.lemmas.Option.{slice_get-map, slice_get_read, slice_get_wi
 use Rattle.typed_tree.specs.declared.sort.Declaration.{Declaration}
 use Rattle.typed_tree.specs.declared.sort.Sort.{Sort}
 use Rattle.typed_tree.specs.Shape.{sort_of, result_sort}
-use Rattle.typed_tree.specs.Sorts.{SymbolType, Declared, a_sort, a_symbol, DeclarationTree}
-use Rattle.typed_tree.specs.TypedEntries.{BodyTree, declaration_tree, formula_tree}
-use Rattle.typed_problem.specs.Declarations.{declared_as, declared_type, has_values, only_symbol, is_function_type, is_predicate_type, undeclared_function, undeclared_predicate, function_type, predicate_type}
+use Rattle.typed_tree.specs.Sorts.{SymbolType, Declared, DeclarationTree}
+use Rattle.typed_tree.specs.TypedEntries.{BodyTree, declaration_tree}
+use Rattle.typed_problem.specs.Declarations.{declared_as, declared_type, has_values, only_symbol, is_function_type, is_predicate_type}
 use Rattle.typed_problem.specs.ProblemShape.{type_of}
 use Rattle.typed_problem.proofs.TypeLemmas.{type_if, type-by}
 use Rattle.sort_checks.specs.declared.lent.LentDeclaration.{LentDeclaration}

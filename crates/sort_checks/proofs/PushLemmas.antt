@@ -1,5 +1,5 @@
 -- What is pushed for a declaration, a term and a formula, by what is told of their parts.
-use Rattle.std.proofs.Common.{◌≡◌, ℕ, zero, suc, ◌<◌, ◌≤◌, List, [], ◌∷◌, ◌++◌, length, map, drop, get_or, ◌⊎◌, append-nil, append_assoc, refl, ap, ap₂, sym, ◌∙◌, arith}
+use Rattle.std.proofs.Common.{◌≡◌, ℕ, zero, suc, ◌<◌, ◌≤◌, List, [], ◌∷◌, ◌++◌, length, map, get_or, append-nil, refl, ap, ap₂, sym, ◌∙◌, arith}
 use Rattle.std.specs.Prelude.{Option, None, Some}
 use denote.Ref.{Bor}
 use Rattle.std.proofs.lemmas.List.{length-map}
@@ -12,7 +12,7 @@ use Rattle.typed_tree.specs.declared.formula.TypedFormula.{TypedFormula}
 use Rattle.typed_tree.specs.declared.sort.Declaration.{Declaration}
 use Rattle.typed_tree.specs.Shape.{typed_of}
 use Rattle.typed_tree.specs.Sorts.{SortTree, individuals, SymbolType, DeclarationTree}
-use Rattle.typed_tree.specs.TypedFormula.{TypedVariable, TypedTree, predicate, equation, quantified, typed_size, all_typed_size, trees_of}
+use Rattle.typed_tree.specs.TypedFormula.{TypedVariable, TypedTree, predicate, quantified, typed_size, all_typed_size, trees_of}
 use Rattle.tptp_tree.specs.Formula.{Quantifier}
 use Rattle.typed_problem.specs.Declarations.{declared_as, all_individuals, undeclared_function, undeclared_predicate, function_type, predicate_type, result_of}
 use Rattle.typed_problem.specs.SortFaults.{Causes, Sorting, repeated_cause, declared_causes, declaration_causes, clash, term_causes, terms_causes, term_sort, variables_causes, inside, formula_causes}

@@ -1,13 +1,12 @@
 -- The variables in force.
-use Rattle.std.proofs.Common.{◌≡◌, ℕ, zero, suc, ◌+◌, ◌-◌, ◌<◌, ◌≤◌, Bool, true, false, List, [], ◌∷◌, ◌++◌, length, map, take, drop, get_or, if◌then◌else◌, ◌⊎◌, ⊎_elim, refl, ap, ap₂, sym, ◌∙◌, arith}
-use Rattle.std.specs.Prelude.{None, Some, bytes_eq}
+use Rattle.std.proofs.Common.{◌≡◌, ℕ, suc, ◌+◌, ◌-◌, ◌<◌, ◌≤◌, Bool, true, false, List, [], ◌∷◌, ◌++◌, length, map, take, drop, get_or, if◌then◌else◌, ⊎_elim, refl, ap, ap₂, sym, ◌∙◌, arith}
+use Rattle.std.specs.Prelude.{bytes_eq}
 use denote.Ref.{Bor}
 use Rattle.std.proofs.lemmas.Bool.{cases_lt}
 use Rattle.std.proofs.lemmas.List.{take_all, take_more, drop-drop, length-drop, take-append-drop}
 use Rattle.list_lemmas.proofs.Places.{drop-item}
 use Rattle.typed_tree.specs.declared.sort.TypedVar.{TypedVar}
 use Rattle.typed_tree.specs.Shape.{variable_of}
-use Rattle.typed_tree.specs.Sorts.{SortTree}
 use Rattle.typed_tree.specs.TypedFormula.{TypedVariable}
 use Rattle.typed_problem.specs.SortFaults.{Sorting, sort_in_force, inside}
 use Rattle.sort_checks.specs.Scopes.{put_before, innermost_first}

@@ -1,6 +1,6 @@
 -- A problem whose entries are without fault: each word is declared as one thing, and its sorts and symbols are listed by their first declarations.
-use Rattle.std.proofs.Common.{◌≡◌, ℕ, zero, suc, ◌+◌, Bool, true, false, not, ◌&&◌, ◌||◌, List, [], ◌∷◌, ◌++◌, length, map, if◌then◌else◌, append_assoc, ◌⊎◌, inl, inr, ⊎_elim, subst, refl, ap, ap₂, sym, ◌∙◌, arith}
-use Rattle.std.specs.Prelude.{Option, None, Some, bytes_eq, IsTrue, IsFalse}
+use Rattle.std.proofs.Common.{◌≡◌, ℕ, Bool, true, false, not, ◌&&◌, ◌||◌, List, [], ◌∷◌, ◌++◌, map, if◌then◌else◌, ◌⊎◌, inl, inr, ⊎_elim, refl, ap, ap₂, sym, ◌∙◌}
+use Rattle.std.specs.Prelude.{Option, None, Some, bytes_eq}
 use Rattle.std.specs.List.{AllByRecursion, list_any}
 use Rattle.std.proofs.lemmas.Bool.{and_parts, and_from, or_left, or_right, or_cases, true≢false, false_from_ne_true}
 use Rattle.std.proofs.lemmas.List.{map-append}
@@ -9,13 +9,10 @@ use Rattle.list_lemmas.proofs.Bools.{and-true, and-false, or-false, neither-true
 use Rattle.list_lemmas.proofs.Lists.{bytes-self, bytes-same, bytes-turned}
 use Rattle.list_lemmas.proofs.Members.{each-weaker}
 use Rattle.tptp_token.specs.Spelling.{is_one_of}
-use Rattle.tptp_problem.specs.Languages.{PlacedTree}
-use Rattle.typed_tree.specs.declared.cause.TypedCause.{TypedCause}
 use Rattle.typed_tree.specs.declared.cause.TypedCause.TheVariants.{TwoTypes}
 use Rattle.typed_tree.specs.Sorts.{SortTree, individuals, named_sort, SymbolType, Declared, a_sort, a_symbol, same_declared, DeclarationTree}
-use Rattle.typed_tree.specs.TypedEntries.{TypedEntryTree, BodyTree, declaration_tree, formula_tree}
 use Rattle.typed_problem.proofs.TypeLemmas.{declared-same}
-use Rattle.typed_problem.specs.Declarations.{Entries, with_declaration, declarations_of, declared_as, is_sort_word, with_sort, sorts_from, declared_sorts, is_sort, with_first, firsts_from, symbol_declarations, sort_declaration, all_declarations, TypedProblemTree, TypedAnnotatedTree, typed_problem_of}
+use Rattle.typed_problem.specs.Declarations.{declared_as, is_sort_word, sorts_from, declared_sorts, is_sort, firsts_from, symbol_declarations, sort_declaration}
 use Rattle.typed_problem.specs.RightTyped.{are_different_words}
 use Rattle.typed_problem.specs.SortFaults.{repeated_cause}
 use Rattle.sort_checks.proofs.TableLemmas.{sort_made, sorts-made}

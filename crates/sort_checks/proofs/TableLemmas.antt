@@ -1,21 +1,19 @@
 -- The table of the words that a problem declares.
-use Rattle.std.proofs.Common.{◌≡◌, ℕ, zero, suc, ◌+◌, ◌<◌, ◌≤◌, Bool, true, false, not, ◌&&◌, ◌||◌, List, [], ◌∷◌, ◌++◌, length, map, take, drop, get_or, if◌then◌else◌, append_assoc, subst, refl, ap, ap₂, sym, ◌∙◌, arith}
-use Rattle.std.specs.Prelude.{Option, None, Some, bytes_eq, slice_get}
+use Rattle.std.proofs.Common.{◌≡◌, ℕ, zero, suc, ◌+◌, ◌<◌, ◌≤◌, Bool, true, false, not, ◌&&◌, ◌||◌, List, [], ◌∷◌, ◌++◌, length, map, take, drop, get_or, if◌then◌else◌, refl, ap, sym, ◌∙◌, arith}
+use Rattle.std.specs.Prelude.{None, Some, bytes_eq, slice_get}
 use Rattle.std.specs.HashMap.{get}
 use Rattle.std.specs.HashSet.{contains}
 use Rattle.std.specs.List.{list_any}
 use Rattle.std.specs.Map.{lookup}
-use Rattle.std.proofs.lemmas.Bool.{true≢false}
-use Rattle.std.proofs.lemmas.List.{take_more}
 use Rattle.std.proofs.lemmas.List.Folds.{list_any-append}
 use Rattle.list_lemmas.proofs.Bools.{and-true, and-false, or-false}
 use Rattle.list_lemmas.proofs.Lists.{bytes-same, bytes-turned}
 use Rattle.tptp_token.specs.Spelling.{is_one_of}
 use Rattle.tptp_reader.specs.declared.source.Name.{Name}
 use Rattle.tptp_reader.specs.Bound.{bytes_of, same_name}
-use Rattle.typed_tree.specs.Sorts.{Declared, DeclarationTree}
+use Rattle.typed_tree.specs.Sorts.{DeclarationTree}
 use Rattle.typed_tree.specs.TypedEntries.{BodyTree, declaration_tree, formula_tree}
-use Rattle.typed_problem.specs.Declarations.{is_sort_word, with_declaration, declared_as, with_sort, sorts_from, declared_sorts}
+use Rattle.typed_problem.specs.Declarations.{is_sort_word, with_declaration, declared_as, sorts_from, declared_sorts}
 use Rattle.sort_checks.specs.Lent.{declared_among}
 use Rattle.sort_checks.specs.Tables.{WordTable, WordSet, declares, first_from, makes_sort, is_made_sort, HasFirst, HasSorts}
 

@@ -4,8 +4,8 @@ use denote.Ref.{Bor}
 use Rattle.tptp_problem.specs.Languages.{PlacedTree}
 use Rattle.typed_tree.specs.declared.sort.Sort.{Sort}
 use Rattle.typed_tree.specs.declared.sort.Declaration.{Declaration}
-use Rattle.typed_tree.specs.Shape.{sort_of, result_sort, typed_of}
-use Rattle.typed_tree.specs.Sorts.{SortTree, individuals, SymbolType, Declared as TypeDeclared, a_sort, a_symbol, DeclarationTree}
+use Rattle.typed_tree.specs.Shape.{sort_of, typed_of}
+use Rattle.typed_tree.specs.Sorts.{SortTree, individuals, Declared as TypeDeclared, a_sort, a_symbol, DeclarationTree}
 use Rattle.typed_tree.specs.TypedEntries.{TypedEntryTree, BodyTree, declaration_tree, formula_tree}
 use Rattle.typed_problem.specs.Declarations.{Entries, with_declaration}
 use Rattle.typed_problem.specs.ProblemShape.{type_of}

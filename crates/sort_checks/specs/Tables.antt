@@ -1,5 +1,5 @@
 -- The table of the words that a problem declares.
-use Rattle.std.specs.Prelude.{◌≡◌, ℕ, suc, Bool, true, false, ◌&&◌, ◌||◌, List, [], ◌∷◌, ◌++◌, map, Option, None, Some, bytes_eq, slice_get, if◌then◌else◌}
+use Rattle.std.specs.Prelude.{◌≡◌, ℕ, suc, Bool, false, ◌&&◌, ◌||◌, List, [], ◌∷◌, ◌++◌, Option, None, Some, bytes_eq, if◌then◌else◌}
 use denote.Ref.{Bor}
 use Rattle.std.specs.Option.{is_some}
 use Rattle.std.specs.HashMap.{HashMap, get}

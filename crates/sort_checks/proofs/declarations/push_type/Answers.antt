@@ -1,6 +1,4 @@
-use Rattle.std.proofs.Common.{◌++◌, map, [], ap, ◌∙◌}
-use Rattle.typed_tree.specs.Shape.{sort_of, result_sort}
-use Rattle.typed_problem.specs.SortFaults.{sorts_causes, result_causes}
+use Rattle.typed_tree.specs.Shape.{result_sort}
 use Rattle.sort_checks.specs.Lent.{declared_among}
 use Rattle.sort_checks.proofs.CauseLemmas.{sort-step}
 use Rattle.sort_checks.proofs.declarations.push_type.Goals as goal

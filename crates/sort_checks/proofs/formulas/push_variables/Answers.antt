@@ -2,7 +2,7 @@ use Rattle.std.proofs.Common.{◌+◌, map, drop, ap, ◌∙◌}
 use Rattle.typed_tree.specs.Shape.{variable_of}
 use Rattle.typed_problem.specs.SortFaults.{inside}
 use Rattle.sort_checks.specs.Lent.{declared_among}
-use Rattle.sort_checks.proofs.CauseLemmas.{variable-step, variables-done}
+use Rattle.sort_checks.proofs.CauseLemmas.{variable-step}
 use Rattle.sort_checks.proofs.ScopeLemmas.{inside-more}
 use Rattle.sort_checks.proofs.formulas.push_variables.Goals as goal
 

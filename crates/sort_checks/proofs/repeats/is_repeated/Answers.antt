@@ -1,5 +1,4 @@
 use Rattle.std.proofs.Common.{take, ap, sym, ◌∙◌}
-use Rattle.typed_problem.specs.Declarations.{declared_as}
 use Rattle.sort_checks.specs.Lent.{body_lent, declared_among}
 use Rattle.sort_checks.specs.Tables.{repeats}
 use Rattle.sort_checks.proofs.LookupLemmas.{earlier-there}

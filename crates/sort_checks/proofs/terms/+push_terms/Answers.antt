@@ -1,4 +1,4 @@
-use Rattle.std.proofs.Common.{◌++◌, length, map, [], refl, ap, ◌∙◌, arith}
+use Rattle.std.proofs.Common.{◌++◌, length, [], refl, ap, ◌∙◌, arith}
 use Rattle.std.proofs.lemmas.Result.{on_ok_weaker}
 use Rattle.tptp_tree.proofs.AboutTrees.SizeLemmas.{term-item-is}
 use Rattle.tptp_tree.specs.Shape.{term_of}

@@ -1,8 +1,7 @@
-use Rattle.std.proofs.Common.{◌≡◌, ℕ, take, Some, None, option_map, ap, sym, ◌∙◌, arith}
+use Rattle.std.proofs.Common.{◌≡◌, take, option_map, ap, sym, ◌∙◌, arith}
 use Rattle.tptp_reader.specs.declared.source.Name.{Name}
 use Rattle.typed_problem.specs.Declarations.{declared_as}
-use Rattle.sort_checks.specs.Lent.{declaration_lent, body_lent, bodies_of, declared_among, declaration_of_body}
-use Rattle.sort_checks.specs.Tables.{first_from}
+use Rattle.sort_checks.specs.Lent.{declaration_lent, body_lent, declared_among, declaration_of_body}
 use Rattle.sort_checks.proofs.LookupLemmas.{first-within, earlier-told, later-untold, none-untold}
 use Rattle.sort_checks.proofs.table.Table.earlier.Goals as goal
 
