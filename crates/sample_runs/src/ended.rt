@@ -17,14 +17,14 @@ const BYTES_A_CALL: usize = 64;
 
 /// What a run has: words, files, and what fails.
 #[derive(Clone, Copy)]
-pub struct Run<'a> {
-    pub words: &'a [&'a str],
+pub struct Run<'l, 't> {
+    pub words: &'l [&'t str],
     /// The names and bytes of the files that there are.
-    pub files: &'a [(&'a str, &'a [u8])],
+    pub files: &'l [(&'t str, &'t [u8])],
     /// The numbers of the loads that fail, from 1.
-    pub failing_loads: &'a [u64],
+    pub failing_loads: &'l [u64],
     /// The numbers of the writes that fail, from 1.
-    pub failing_writes: &'a [u64],
+    pub failing_writes: &'l [u64],
     /// How many bytes the sink takes a call. None counts as one.
     pub bytes_a_call: usize,
 }
@@ -36,9 +36,9 @@ pub struct Ended {
     pub report: Text,
 }
 
-impl<'a> Run<'a> {
+impl<'l, 't> Run<'l, 't> {
     /// A run in which nothing fails.
-    pub fn new(words: &'a [&'a str], files: &'a [(&'a str, &'a [u8])]) -> Run<'a> {
+    pub fn new(words: &'l [&'t str], files: &'l [(&'t str, &'t [u8])]) -> Run<'l, 't> {
         Run {
             words,
             files,
