@@ -3,11 +3,11 @@
 use crate::problems::{CLAUSES, IMPLICATION, IN_THREE_STEPS, LAST_PART, REACHED, TWO_PARTS};
 use sample_runs::problems::{GROUP, GROUP_AXIOMS};
 
-/// Problems that are refuted, whose derivations must be accepted: the command that refutes them, the words that `check` has too, the files,
+/// Problems that are refuted, whose derivations must be accepted: the command that refutes `b.p`, the options that `check` has too, the files,
 /// and the word of the status.
 pub(crate) struct Refuted {
     pub command: &'static [&'static str],
-    pub words: &'static [&'static str],
+    pub options: &'static [&'static str],
     pub files: &'static [(&'static str, &'static [u8])],
     pub word: &'static str,
 }
@@ -15,50 +15,50 @@ pub(crate) struct Refuted {
 pub(crate) const REFUTED: &[Refuted] = &[
     Refuted {
         command: &["prove"],
-        words: &["b.p"],
+        options: &[],
         files: &[("b.p", IMPLICATION)],
         word: "Theorem",
     },
     Refuted {
         command: &["prove"],
-        words: &["b.p"],
+        options: &[],
         files: &[("b.p", CLAUSES)],
         word: "Unsatisfiable",
     },
     Refuted {
         command: &["prove"],
-        words: &["b.p"],
+        options: &[],
         files: &[("b.p", TWO_PARTS)],
         word: "Unsatisfiable",
     },
     // Of a part of the axioms: what is printed is a derivation from all.
     Refuted {
         command: &["prove", "--tolerance=100", "--depth=1"],
-        words: &["b.p"],
+        options: &[],
         files: &[("b.p", REACHED)],
         word: "Theorem",
     },
     Refuted {
         command: &["prove", "--tolerance=1000", "--depth=3"],
-        words: &["b.p"],
+        options: &[],
         files: &[("b.p", IN_THREE_STEPS)],
         word: "Theorem",
     },
     Refuted {
         command: &["prove", "--tolerance=1000", "--depth=50", "--split=off"],
-        words: &["b.p"],
+        options: &[],
         files: &[("b.p", LAST_PART)],
         word: "Unsatisfiable",
     },
     Refuted {
         command: &["prove"],
-        words: &["b.p", "--tptp=LIB"],
+        options: &["--tptp=LIB"],
         files: &[("b.p", GROUP), ("LIB/Axioms/grp.ax", GROUP_AXIOMS)],
         word: "Theorem",
     },
     Refuted {
         command: &["prove", "--workers=4"],
-        words: &["b.p", "--tptp=LIB"],
+        options: &["--tptp=LIB"],
         files: &[("b.p", GROUP), ("LIB/Axioms/grp.ax", GROUP_AXIOMS)],
         word: "Theorem",
     },

@@ -33,7 +33,8 @@ fn joined<'a>(alloc: Global, front: &[&'a str], words: &[&'a str]) -> Mem<Vec<&'
 impl Refuted {
     /// How the command that refutes it ends.
     fn ended<R: Threads + Wait + Sync>(&self, rt: &R, alloc: Global) -> Mem<Ended> {
-        let words = joined(alloc, self.command, self.words)?;
+        let mut words = joined(alloc, self.command, &["b.p"])?;
+        words.extend_from_slice(self.options)?;
         Run::new(words.as_slice(), self.files).ended(rt, alloc)
     }
 
@@ -44,7 +45,7 @@ impl Refuted {
         alloc: Global,
         printed: &[u8],
     ) -> Mem<Ended> {
-        let words = joined(alloc, &["check", "b.p", "d"], &self.words[1..])?;
+        let words = joined(alloc, &["check", "b.p", "d"], self.options)?;
         let mut files = Vec::new(alloc);
         files.extend_from_slice(self.files)?;
         files.push(("d", printed))?;
